@@ -23,7 +23,7 @@ use Rattle.cip_solve.proofs.Fits.{answer_fits}
 use Rattle.cip_solve.proofs.PassedOn.{still_few}
 use Rattle.cip_answering.specs.Answering.{Telling, AddsLog, AddsNone, IsLogged}
 use Rattle.cip_answering.specs.Work.{Searched, TellsWhatIsLeft, Works, kit_of, goes_alone, IsKitOf}
-use Rattle.cip_words.specs.Jobs.{Limits, usual_limits, usual_nodes}
+use Rattle.cip_tasks.specs.Jobs.{Limits, usual_limits, usual_nodes}
 use Rattle.cip_answering.specs.Saying.{Says}
 use Rattle.cip_answering.proofs.TrueFigures.{lacks, are_true, figures_same}
 use Rattle.cip_answering.proofs.Left.{left_of}

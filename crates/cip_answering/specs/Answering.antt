@@ -11,7 +11,7 @@ use Rattle.cip_answers.specs.SelfTexts.{Drawn, self_text}
 use Rattle.cip_search.specs.Headline.{AreTrue}
 use Rattle.cip_solve.specs.Logs.{entries_of}
 use Rattle.cip_solve.specs.declared.logs.Log.{Log}
-use Rattle.cip_words.specs.Jobs.{Limits}
+use Rattle.cip_tasks.specs.Jobs.{Limits}
 use Rattle.cip_answering.specs.RootBox.{IsBoxBound, BeginsAt}
 use Rattle.cip_answering.specs.Saying.{Says}
 

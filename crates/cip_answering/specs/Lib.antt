@@ -14,7 +14,7 @@ pub use Rattle.cip_solve.specs.declared.logs.Log
 pub use Rattle.cip_solve.specs.Logs
 pub use Rattle.cip_input.specs.declared.model_kinds.ModelKind
 pub use Rattle.cip_input.specs.Models
-pub use Rattle.cip_input.specs.PointKind
+pub use Rattle.cip_input.specs.declared.kinds.PointKind
 pub use Rattle.cip_input.specs.PointKindTexts
 pub use Rattle.cip_input.specs.TextFault
 pub use Rattle.cip_input.specs.TextPulls

@@ -23,7 +23,7 @@ use Rattle.cip_solve.specs.Kits.{Stock, less_off}
 use Rattle.cip_solve.specs.KitsServed.{is_alone, IsLeftAlone, IsKitAfter}
 use Rattle.cip_solve.specs.Solved.{IsShownBeside, IsSolvedBy}
 use Rattle.cip_solve.specs.declared.logs.Log.{Log}
-use Rattle.cip_words.specs.Jobs.{Limits}
+use Rattle.cip_tasks.specs.Jobs.{Limits}
 use Rattle.cip_answering.specs.Answering.{Telling, AddsLog, AddsNone, Answers}
 
 -- ---- the marks of a log

@@ -10,8 +10,8 @@ use Rattle.std.proofs.lemmas.Bool.{eqb-false, false≢true}
 use Rattle.std.specs.Str.{bytes_eq}
 use lib.Chars.{codes}
 use Rattle.cip_rational.specs.Rational.{ℚ}
-use Rattle.cip_number_text.specs.NumberText.{natural_text, fraction_text}
-use Rattle.cip_number_text.proofs.NumberText.{natural_text_injective, fraction_text_plain, fraction_text_injective, IsFractionByte}
+use Rattle.cip_rational.specs.NumberText.{natural_text, fraction_text}
+use Rattle.cip_rational.proofs.NumberText.{natural_text_injective, fraction_text_plain, fraction_text_injective, IsFractionByte}
 use Rattle.cip_leaves.specs.Leaf.{Leaf}
 use Rattle.cip_answers.specs.Figures.{Overflow, AtRow, AtCost, AtMoves, Status, Optimal, Infeasible, Unbounded, NodeLimit, Gap, Wide, NoMemory, Held, Figures, Names, FitNames, status_word, line, end_line, figure_text, point_lines, held_cost, held_lines, cost_lines, leaf_name, choice_text, choice_lines, leaf_lines, ray_name, ray_lines, overflow_text, shown_lines, unless_infeasible, figure_lines, answer_text, usage_text, read_fault_text, no_memory_text, refusal_text}
 
@@ -22,29 +22,29 @@ apart text other differ same e = false≢true (sym differ ∙ ap (λ t. bytes_eq
 -- ---- lines
 
 -- no byte is a line feed
-abbrev HasNoFeed : List ℕ → Type 0
+abbrev pub HasNoFeed : List ℕ → Type 0
 HasNoFeed text = AllByRecursion (λ byte. byte ≢ 10) text
 
-abbrev has_feed : List ℕ → Bool
+abbrev pub has_feed : List ℕ → Bool
 has_feed [] = false
 has_feed (byte ∷ bytes) = byte == 10 || has_feed bytes
 
-both_false : (a b : Bool) → (a || b) ≡ false → (a ≡ false) × (b ≡ false)
+pub both_false : (a b : Bool) → (a || b) ≡ false → (a ≡ false) × (b ≡ false)
 both_false false false e = (refl, refl)
 both_false false true e = absurd (cc)
 both_false true b e = absurd (cc)
 
-HasNoFeed-from_test : (text : List ℕ) → has_feed text ≡ false → HasNoFeed text
+pub HasNoFeed-from_test : (text : List ℕ) → has_feed text ≡ false → HasNoFeed text
 HasNoFeed-from_test [] test = tt
 HasNoFeed-from_test (byte ∷ bytes) test =
     let parts = both_false (byte == 10) (has_feed bytes) test in
     (eqb-false byte 10 parts.0, HasNoFeed-from_test bytes parts.1)
 
-fraction_bytes : (text : List ℕ) → AllByRecursion IsFractionByte text → HasNoFeed text
+pub fraction_bytes : (text : List ℕ) → AllByRecursion IsFractionByte text → HasNoFeed text
 fraction_bytes [] plain = tt
 fraction_bytes (byte ∷ bytes) plain = (λ e. grind (arith, plain.0), fraction_bytes bytes plain.1)
 
-fraction_text-no_feed : (x : ℚ) → HasNoFeed (fraction_text x)
+pub fraction_text-no_feed : (x : ℚ) → HasNoFeed (fraction_text x)
 fraction_text-no_feed x =
     fraction_bytes (fraction_text x) (recursion_from_All IsFractionByte (fraction_text x) (fraction_text_plain x))
 
@@ -60,12 +60,12 @@ parted (x ∷ xs) (y ∷ ys) us vs p q e =
     (ap (λ byte. byte ∷ xs) head ∙ ap (λ bytes. y ∷ bytes) rest.0, rest.1)
 
 -- the same, cancelled
-cancelled : (word xs ys : List ℕ) → word ++ xs ≡ word ++ ys → xs ≡ ys
+pub cancelled : (word xs ys : List ℕ) → word ++ xs ≡ word ++ ys → xs ≡ ys
 cancelled [] xs ys e = e
 cancelled (byte ∷ word) xs ys e = cancelled word xs ys (cc)
 
 -- a line, and then more
-line_then : (word figure rest : List ℕ) → line word figure ++ rest ≡ word ++ 32 ∷ (figure ++ 10 ∷ rest)
+pub line_then : (word figure rest : List ℕ) → line word figure ++ rest ≡ word ++ 32 ∷ (figure ++ 10 ∷ rest)
 line_then word figure rest = simp append_assoc
 
 -- two lines of one word, each with more after it
@@ -81,29 +81,29 @@ line_parted word figure other xs ys p q e =
 
 -- ---- figures
 
-none-no_feed : HasNoFeed (codes "none")
+pub none-no_feed : HasNoFeed (codes "none")
 none-no_feed = HasNoFeed-from_test (codes "none") refl
 
-figure_text-no_feed : (figure : Option ℚ) → HasNoFeed (figure_text figure)
+pub figure_text-no_feed : (figure : Option ℚ) → HasNoFeed (figure_text figure)
 figure_text-no_feed None = none-no_feed
 figure_text-no_feed (Some figure) = fraction_text-no_feed figure
 
 -- `none` is no fraction
-none_is_no_fraction : (text : List ℕ) → AllByRecursion IsFractionByte text → text ≢ codes "none"
+pub none_is_no_fraction : (text : List ℕ) → AllByRecursion IsFractionByte text → text ≢ codes "none"
 none_is_no_fraction [] plain e = cc
 none_is_no_fraction (byte ∷ bytes) plain e = let n : byte ≡ 110 = cc in grind (arith, plain.0, n)
 
-fraction_is_not_none : (x : ℚ) → fraction_text x ≢ codes "none"
+pub fraction_is_not_none : (x : ℚ) → fraction_text x ≢ codes "none"
 fraction_is_not_none x =
     none_is_no_fraction (fraction_text x) (recursion_from_All IsFractionByte (fraction_text x) (fraction_text_plain x))
 
-figure_text_injective : (figure other : Option ℚ) → figure_text figure ≡ figure_text other → figure ≡ other
+pub figure_text_injective : (figure other : Option ℚ) → figure_text figure ≡ figure_text other → figure ≡ other
 figure_text_injective None None e = refl
 figure_text_injective None (Some other) e = absurd (fraction_is_not_none other (sym e))
 figure_text_injective (Some figure) None e = absurd (fraction_is_not_none figure e)
 figure_text_injective (Some figure) (Some other) e = ap (λ x. Some x) (fraction_text_injective figure other e)
 
-status_word-no_feed : (status : Status) → HasNoFeed (status_word status)
+pub status_word-no_feed : (status : Status) → HasNoFeed (status_word status)
 status_word-no_feed Optimal = HasNoFeed-from_test (codes "optimal") refl
 status_word-no_feed Infeasible = HasNoFeed-from_test (codes "infeasible") refl
 status_word-no_feed (Unbounded ray) = HasNoFeed-from_test (codes "unbounded") refl
@@ -173,11 +173,11 @@ overflow_parted place other e =
     let same = sym (line_then (codes "overflow") (overflow_text place) end_line) ∙ e ∙ line_then (codes "overflow") (overflow_text other) end_line in
     overflow_told place other (cancelled (codes "overflow ") (overflow_text place ++ 10 ∷ end_line) (overflow_text other ++ 10 ∷ end_line) same)
 
-choice_text-no_feed : (on : Bool) → HasNoFeed (choice_text on)
+pub choice_text-no_feed : (on : Bool) → HasNoFeed (choice_text on)
 choice_text-no_feed true = HasNoFeed-from_test (codes "on") refl
 choice_text-no_feed false = HasNoFeed-from_test (codes "off") refl
 
-choice_text_injective : (on other : Bool) → choice_text on ≡ choice_text other → on ≡ other
+pub choice_text_injective : (on other : Bool) → choice_text on ≡ choice_text other → on ≡ other
 choice_text_injective true true e = refl
 choice_text_injective true false e = absurd (apart (codes "on") (codes "off") refl refl e)
 choice_text_injective false true e = absurd (apart (codes "off") (codes "on") refl refl e)
@@ -288,14 +288,14 @@ lines_parted names figures other shown others p q e =
     record { held = held.0; bound = figure_text_injective figures.bound other.bound bound.0; after = held.1 }
 
 -- the number of a status, from its word
-word_kind : List ℕ → ℕ
+pub word_kind : List ℕ → ℕ
 word_kind word =
     if bytes_eq word (codes "optimal") then 0
     else (if bytes_eq word (codes "infeasible") then 1
     else (if bytes_eq word (codes "nodelimit") then 2 else (if bytes_eq word (codes "wide") then 3
     else (if bytes_eq word (codes "unbounded") then 5 else (if bytes_eq word (codes "gap") then 6 else 4)))))
 
-kind : Status → ℕ
+unfoldable pub kind : Status → ℕ
 kind Optimal = 0
 kind Infeasible = 1
 kind (Unbounded ray) = 5
@@ -304,7 +304,7 @@ kind Gap = 6
 kind (Wide leaf place) = 3
 kind NoMemory = 4
 
-kind_of_word : (status : Status) → word_kind (status_word status) ≡ kind status
+pub kind_of_word : (status : Status) → word_kind (status_word status) ≡ kind status
 unfolding word_kind kind
 kind_of_word Optimal = refl
 kind_of_word Infeasible = refl
@@ -314,7 +314,7 @@ kind_of_word Gap = refl
 kind_of_word (Wide leaf place) = refl
 kind_of_word NoMemory = refl
 
-same_kind : (status other : Status) → status_word status ≡ status_word other → kind status ≡ kind other
+pub same_kind : (status other : Status) → status_word status ≡ status_word other → kind status ≡ kind other
 same_kind status other e = sym (kind_of_word status) ∙ ap word_kind e ∙ kind_of_word other
 
 -- figures with these statuses and the same lines are the same

@@ -1,52 +1,18 @@
 -- The front of an answer, up to its last line, tells the figures, whatever stands behind it.
 --     front_told      two fronts with more behind them that are the same are those of the same figures
-use Rattle.std.specs.Prelude.{◌≡◌, ◌≢◌, ◌==◌, ◌||◌, ℕ, Bool, true, false, List, [], ◌∷◌, ◌++◌, length, Option, None, Some, IfSome, pos}
-use Rattle.std.specs.List.{AllByRecursion}
+use Rattle.std.specs.Prelude.{◌≡◌, ◌≢◌, ℕ, Bool, List, [], ◌∷◌, ◌++◌, length, Option, None, Some, IfSome, pos}
 use Rattle.std.proofs.Common.{refl, sym, ap, ◌∙◌, subst, arith, append_assoc, if◌then◌else◌, map, get_or}
 use Rattle.std.proofs.lemmas.List.{length-map}
 use Rattle.std.proofs.lemmas.List.Elements.{recursion_from_All}
-use Rattle.std.proofs.lemmas.Bool.{eqb-false}
-use Rattle.std.specs.Str.{bytes_eq}
 use lib.Chars.{codes}
 use Rattle.cip_rational.specs.Rational.{ℚ, integer}
-use Rattle.cip_number_text.specs.NumberText.{natural_text, fraction_text}
-use Rattle.cip_number_text.proofs.NumberText.{natural_text_injective, fraction_text_plain, fraction_text_injective, IsFractionByte}
+use Rattle.cip_rational.specs.NumberText.{natural_text, fraction_text}
+use Rattle.cip_rational.proofs.NumberText.{natural_text_injective, fraction_text_injective}
 use Rattle.cip_answers.specs.Leaf.{Leaf}
 use Rattle.cip_answers.specs.Figures.{Overflow, AtRow, AtCost, AtMoves, Status, Optimal, Infeasible, Unbounded, NodeLimit, Gap, Wide, NoMemory, Held, Figures, Names, FitNames, status_word, line, figure_text, point_lines, held_cost, held_lines, cost_lines, leaf_name, choice_text, choice_lines, leaf_lines, ray_name, ray_lines, overflow_text, figure_lines}
-use Rattle.cip_answers.proofs.AnswerTexts.{apart}
+use Rattle.cip_answers.proofs.AnswerTexts.{HasNoFeed, HasNoFeed-from_test, fraction_text-no_feed, line_then, figure_text-no_feed, figure_text_injective, status_word-no_feed, choice_text-no_feed, choice_text_injective, kind, same_kind, cancelled}
 use Rattle.cip_answers.specs.TraceStatements.{HasPlainName, HasPlainEnd}
-use Rattle.cip_answers.proofs.TraceTexts.{whole_text, parted, cancelled}
-
--- no byte is a line feed
-abbrev pub HasNoFeed : List ℕ → Type 0
-HasNoFeed text = AllByRecursion (λ byte. byte ≢ 10) text
-
-abbrev has_feed : List ℕ → Bool
-has_feed [] = false
-has_feed (byte ∷ bytes) = byte == 10 || has_feed bytes
-
-both_false : (a b : Bool) → (a || b) ≡ false → (a ≡ false) × (b ≡ false)
-both_false false false e = (refl, refl)
-both_false false true e = absurd (cc)
-both_false true b e = absurd (cc)
-
-pub HasNoFeed-from_test : (text : List ℕ) → has_feed text ≡ false → HasNoFeed text
-HasNoFeed-from_test [] test = tt
-HasNoFeed-from_test (byte ∷ bytes) test =
-    let parts = both_false (byte == 10) (has_feed bytes) test in
-    (eqb-false byte 10 parts.0, HasNoFeed-from_test bytes parts.1)
-
-fraction_bytes : (text : List ℕ) → AllByRecursion IsFractionByte text → HasNoFeed text
-fraction_bytes [] plain = tt
-fraction_bytes (byte ∷ bytes) plain = (λ e. grind (arith, plain.0), fraction_bytes bytes plain.1)
-
-fraction_text-no_feed : (x : ℚ) → HasNoFeed (fraction_text x)
-fraction_text-no_feed x =
-    fraction_bytes (fraction_text x) (recursion_from_All IsFractionByte (fraction_text x) (fraction_text_plain x))
-
--- two lines of one word, each with more after it
-line_then : (word figure rest : List ℕ) → line word figure ++ rest ≡ word ++ 32 ∷ (figure ++ 10 ∷ rest)
-line_then word figure rest = simp append_assoc
+use Rattle.cip_answers.proofs.TraceTexts.{whole_text, parted}
 
 pub line_parted : (word figure other xs ys : List ℕ) → HasNoFeed figure → HasNoFeed other → line word figure ++ xs ≡ line word other ++ ys → (figure ≡ other) × (xs ≡ ys)
 line_parted word figure other xs ys p q e =
@@ -55,37 +21,6 @@ line_parted word figure other xs ys p q e =
     parted 10 figure other xs ys p q (cancelled (32 ∷ []) _ _ blank)
 
 -- ---- figures
-
-none-no_feed : HasNoFeed (codes "none")
-none-no_feed = HasNoFeed-from_test (codes "none") refl
-
-pub figure_text-no_feed : (figure : Option ℚ) → HasNoFeed (figure_text figure)
-figure_text-no_feed None = none-no_feed
-figure_text-no_feed (Some figure) = fraction_text-no_feed figure
-
--- `none` is no fraction
-none_is_no_fraction : (text : List ℕ) → AllByRecursion IsFractionByte text → text ≢ codes "none"
-none_is_no_fraction [] plain e = cc
-none_is_no_fraction (byte ∷ bytes) plain e = let n : byte ≡ 110 = cc in grind (arith, plain.0, n)
-
-fraction_is_not_none : (x : ℚ) → fraction_text x ≢ codes "none"
-fraction_is_not_none x =
-    none_is_no_fraction (fraction_text x) (recursion_from_All IsFractionByte (fraction_text x) (fraction_text_plain x))
-
-pub figure_text_injective : (figure other : Option ℚ) → figure_text figure ≡ figure_text other → figure ≡ other
-figure_text_injective None None e = refl
-figure_text_injective None (Some other) e = absurd (fraction_is_not_none other (sym e))
-figure_text_injective (Some figure) None e = absurd (fraction_is_not_none figure e)
-figure_text_injective (Some figure) (Some other) e = ap (λ x. Some x) (fraction_text_injective figure other e)
-
-pub status_word-no_feed : (status : Status) → HasNoFeed (status_word status)
-status_word-no_feed Optimal = HasNoFeed-from_test (codes "optimal") refl
-status_word-no_feed Infeasible = HasNoFeed-from_test (codes "infeasible") refl
-status_word-no_feed (Unbounded ray) = HasNoFeed-from_test (codes "unbounded") refl
-status_word-no_feed NodeLimit = HasNoFeed-from_test (codes "nodelimit") refl
-status_word-no_feed Gap = HasNoFeed-from_test (codes "gap") refl
-status_word-no_feed (Wide leaf place) = HasNoFeed-from_test (codes "wide") refl
-status_word-no_feed NoMemory = HasNoFeed-from_test (codes "nomemory") refl
 
 -- ---- points
 
@@ -152,16 +87,6 @@ overflow_text_injective AtCost (AtMoves number) e = let byte : 99 ≡ 109 = ap (
 overflow_text_injective (AtMoves number) (AtRow name) e = let byte : 109 ≡ 114 = ap (λ t. get_or t 0 0) e in absurd (omega (arith, byte))
 overflow_text_injective (AtMoves number) AtCost e = let byte : 109 ≡ 99 = ap (λ t. get_or t 0 0) e in absurd (omega (arith, byte))
 overflow_text_injective (AtMoves number) (AtMoves other) e = ap AtMoves (natural_text_injective number other (cancelled (codes "moves ") _ _ e))
-
-choice_text-no_feed : (on : Bool) → HasNoFeed (choice_text on)
-choice_text-no_feed true = HasNoFeed-from_test (codes "on") refl
-choice_text-no_feed false = HasNoFeed-from_test (codes "off") refl
-
-choice_text_injective : (on other : Bool) → choice_text on ≡ choice_text other → on ≡ other
-choice_text_injective true true e = refl
-choice_text_injective true false e = absurd (apart (codes "on") (codes "off") refl refl e)
-choice_text_injective false true e = absurd (apart (codes "off") (codes "on") refl refl e)
-choice_text_injective false false e = refl
 
 -- the lines of two lists of choices with one for each name, with more after them
 choice_lines_parted :
@@ -247,36 +172,6 @@ lines_parted names figures other shown others rest more p q e =
     let bound = line_parted (codes "bound") _ _ _ _ (figure_text-no_feed figures.bound) (figure_text-no_feed other.bound) cost.1 in
     let held = held_parted names figures.held other.held _ _ p q (figure_text_injective _ _ cost.0) bound.1 in
     record { held = held.0; bound = figure_text_injective figures.bound other.bound bound.0; after = held.1 }
-
--- the number of a status, from its word
-word_kind : List ℕ → ℕ
-word_kind word =
-    if bytes_eq word (codes "optimal") then 0
-    else (if bytes_eq word (codes "infeasible") then 1
-    else (if bytes_eq word (codes "nodelimit") then 2 else (if bytes_eq word (codes "wide") then 3
-    else (if bytes_eq word (codes "unbounded") then 5 else (if bytes_eq word (codes "gap") then 6 else 4)))))
-
-kind : Status → ℕ
-kind Optimal = 0
-kind Infeasible = 1
-kind (Unbounded ray) = 5
-kind NodeLimit = 2
-kind Gap = 6
-kind (Wide leaf place) = 3
-kind NoMemory = 4
-
-kind_of_word : (status : Status) → word_kind (status_word status) ≡ kind status
-unfolding word_kind kind
-kind_of_word Optimal = refl
-kind_of_word Infeasible = refl
-kind_of_word (Unbounded ray) = refl
-kind_of_word NodeLimit = refl
-kind_of_word Gap = refl
-kind_of_word (Wide leaf place) = refl
-kind_of_word NoMemory = refl
-
-same_kind : (status other : Status) → status_word status ≡ status_word other → kind status ≡ kind other
-same_kind status other e = sym (kind_of_word status) ∙ ap word_kind e ∙ kind_of_word other
 
 -- figures with these statuses, of which the lines with more behind them are the same, are the same
 module _ (names : Names) (held held' : Option Held) (bound bound' : Option ℚ) (rest more : List ℕ) where

@@ -6,11 +6,12 @@ use Rattle.std.proofs.Common.{refl, sym, ap, ◌∙◌, subst, arith, append_ass
 use Rattle.std.proofs.lemmas.List.Elements.{recursion_from_All}
 use Rattle.cip_rational.specs.Rational.{integer, denominator}
 use Rattle.cip_rational.proofs.Rational.Lowest.{numerator-integer, denominator-integer}
-use Rattle.cip_number_text.specs.NumberText.{natural_text, integer_text, denominator_text, fraction_text}
-use Rattle.cip_number_text.proofs.NumberText.{IsFractionByte, fraction_text_plain, natural_text_injective}
+use Rattle.cip_rational.specs.NumberText.{natural_text, integer_text, denominator_text, fraction_text}
+use Rattle.cip_rational.proofs.NumberText.{IsFractionByte, fraction_text_plain, natural_text_injective}
 use Rattle.cip_answers.specs.Figures.{status_word, line, figure_lines, end_line}
 use Rattle.cip_answers.specs.TraceTexts.{Traced, trace_line, trace_lines, traced_end}
 use Rattle.cip_answers.specs.TraceStatements.{IsPlainLine, TraceIsTold}
+use Rattle.cip_answers.proofs.AnswerTexts.{cancelled}
 
 -- ---- digits
 
@@ -43,11 +44,6 @@ parted mark (x ∷ xs) (y ∷ ys) us vs p q e =
     let tail : xs ++ mark ∷ us ≡ ys ++ mark ∷ vs = cc in
     let rest = parted mark xs ys us vs p.1 q.1 tail in
     (ap (λ byte. byte ∷ xs) head ∙ ap (λ bytes. y ∷ bytes) rest.0, rest.1)
-
--- the same, cancelled
-pub cancelled : (word xs ys : List ℕ) → word ++ xs ≡ word ++ ys → xs ≡ ys
-cancelled [] xs ys e = e
-cancelled (byte ∷ word) xs ys e = cancelled word xs ys (cc)
 
 -- a line, and then more
 line_then : (number : ℕ) (traced : Traced) (rest : List ℕ) → trace_line number traced ++ rest ≡ codes "trace " ++ (natural_text number ++ 32 ∷ (natural_text traced.id ++ 32 ∷ (traced.name ++ 32 ∷ (traced.word ++ 10 ∷ rest))))

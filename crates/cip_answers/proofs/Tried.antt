@@ -7,7 +7,7 @@ use Rattle.std.proofs.lemmas.List.Kept.{AllPairs-cons}
 use Rattle.cip_rational.specs.Gcd.{gcd}
 use Rattle.cip_rational.specs.Rational.{integer, ratio, numerator, denominator}
 use Rattle.cip_rational.proofs.Rational.Lowest.{numerator-integer, denominator-integer, numerator-ratio, denominator-ratio}
-use Rattle.cip_number_text.specs.NumberText.{integer_text, denominator_text, fraction_text}
+use Rattle.cip_rational.specs.NumberText.{integer_text, denominator_text, fraction_text}
 use Rattle.cip_answers.specs.Figures.{Optimal, Unbounded, NodeLimit, Wide, AtRow, AtCost, AtMoves, answer_text, usage_text, read_fault_text, no_memory_text}
 use Rattle.cip_answers.specs.Checks.{Above, Below, BreaksBound, BreaksRow, Feasible, WideCost, WideRow, check_text}
 use Rattle.cip_answers.specs.Statements.{same_names, whole_leaf}

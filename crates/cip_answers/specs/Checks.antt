@@ -2,7 +2,7 @@
 use lib.Chars.{codes}
 use Rattle.std.specs.Prelude.{ℕ, List, [], ◌∷◌, ◌++◌}
 use Rattle.cip_rational.specs.Rational.{ℚ}
-use Rattle.cip_number_text.specs.NumberText.{fraction_text}
+use Rattle.cip_rational.specs.NumberText.{fraction_text}
 use Rattle.cip_answers.specs.Figures.{line, end_line}
 
 -- the side that a value breaks: it is below the low one, or above the high one

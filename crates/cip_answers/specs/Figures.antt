@@ -2,7 +2,7 @@
 use lib.Chars.{codes}
 use Rattle.std.specs.Prelude.{◌≡◌, length, map, IfSome, ℕ, Bool, true, false, List, [], ◌∷◌, ◌++◌, Option, None, Some, ⊤}
 use Rattle.cip_rational.specs.Rational.{ℚ}
-use Rattle.cip_number_text.specs.NumberText.{natural_text, fraction_text}
+use Rattle.cip_rational.specs.NumberText.{natural_text, fraction_text}
 use Rattle.cip_leaves.specs.Program.{Program}
 use Rattle.cip_leaves.specs.Choices.{is_open}
 use Rattle.cip_leaves.specs.Leaf.{at_wholes, Leaf}

@@ -2,7 +2,7 @@
 -- `cost C`, `bound B`, `end`.
 use lib.Chars.{codes}
 use Rattle.std.specs.Prelude.{ℕ, List, ◌∷◌, ◌++◌}
-use Rattle.cip_number_text.specs.NumberText.{natural_text}
+use Rattle.cip_rational.specs.NumberText.{natural_text}
 use Rattle.cip_answers.specs.Figures.{Figures, status_word, line, cost_lines, end_line}
 
 -- what is told of a program that is drawn: its seed, how many columns and rows it has, and how many of the coefficients

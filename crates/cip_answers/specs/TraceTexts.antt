@@ -1,7 +1,7 @@
 -- The lines of a trace, and the text of an answer with them: `trace K ID NAME WORD` behind the figures, K from 1.
 use lib.Chars.{codes}
 use Rattle.std.specs.Prelude.{ℕ, suc, List, [], ◌∷◌, ◌++◌}
-use Rattle.cip_number_text.specs.NumberText.{natural_text}
+use Rattle.cip_rational.specs.NumberText.{natural_text}
 use Rattle.cip_answers.specs.Figures.{Figures, Names, status_word, line, figure_lines, end_line}
 
 -- what a line says: the number and the name of a plugin, and the word that was written of it, with what follows the

@@ -1,6 +1,7 @@
 //! The lines of a trace, the texts of answers with them, and those of `self`: definitions and laws. `specs/` holds
 //! the definitions.
 // Each function here does nothing. Its contract is one of the laws of the definitions, so that the check proves it.
+
 ghost use Rattle.cip_answers.specs.TraceStatements.{FiguresAreTold, SelfExamples, SelfIsTold, TraceExamples, TraceIsTold, UntracedIsPlain};
 
 /// Without lines of a trace the text is that of the answer.

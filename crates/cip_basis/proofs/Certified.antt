@@ -63,9 +63,9 @@ module _ (problem : Problem) (r : IsReady problem) where
       no_point columns combo found.0 room found.1
 
   -- a point whose cost is a bound is least
-  pub optimal : (columns : ℕ) (combo : Multiples) (point : List ℚ) (cost bound : ℚ) → length problem.bounds.now ≤ columns → IsPoint (program_of problem) point → dot_from zeroℚ problem.costs.now point ≡ Ok cost → lower_bound_of (without_cutoff problem.own.now problem.pool.now) problem.bounds.now columns problem.costs.now combo ≡ Ok bound → bound ≡ cost → IsOptimal (program_of problem) point cost
-  optimal columns combo point cost bound room p c e same = record {
+  pub optimal : (point : List ℚ) (cost bound : ℚ) → IsPoint (program_of problem) point → dot_from zeroℚ problem.costs.now point ≡ Ok cost → CostsAtLeast (program_of problem) bound → bound ≡ cost → IsOptimal (program_of problem) point cost
+  optimal point cost bound p c b same = record {
     is_point = p;
     cost_is = sym (subst (λ o. IfOk o (λ v. v ≡ zeroℚ +ℚ dot problem.costs.now point)) c (dot_from-value zeroℚ problem.costs.now point) ∙ zero-+ℚ (dot problem.costs.now point));
-    least = subst (CostsAtLeast (program_of problem)) same (least columns combo bound room e);
+    least = subst (CostsAtLeast (program_of problem)) same b;
   }

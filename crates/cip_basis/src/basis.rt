@@ -5,8 +5,8 @@ use crate::mended_points::mended_point;
 use crate::placement::Placement;
 use crate::rounded::rounded_combo;
 use crate::values::{put_basic, put_loose, put_right_sides};
+use crate::{Direction, Given, Guess, Length, Outcome, Standing, System};
 use cip_frac::Frac;
-use cip_guess::{Direction, Given, Guess, Length, Outcome, Standing, System};
 use cip_lin::Combo;
 use std::alloc::{AllocError, Global};
 

@@ -9,36 +9,6 @@ use cip_cert::{Rows, Scratch, empties, lower_bound};
 use cip_frac::Frac;
 use cip_lin::Combo;
 
-/// The cost of a point, where a combination bounds the costs by as much.
-pub(crate) fn least_cost(
-    problem: &Problem<'_>,
-    point: &[Frac],
-    combo: &Combo,
-    scratch: &mut Scratch,
-) -> Option<Frac>
-    requires ready { IsReady problem.now }
-    requires room { length problem.now.bounds.now ≤ length scratch.old.row.entries }
-    requires long { length point.now ≡ length problem.now.bounds.now }
-    requires point { IsPoint (program_of problem.now) point.now }
-    ensures optimal { IfSome result (IsOptimal (program_of problem.entry.now) point.now) }
-    ensures room { length scratch.new.row.entries ≡ length scratch.old.row.entries }
-{
-    let Ok(cost) = cost_at(problem.costs, point) else {
-        return None;
-    };
-    let cutoff = None;
-    let rows = Rows {
-        own: problem.own,
-        pool: problem.pool,
-        cutoff: &cutoff,
-        whole: problem.whole,
-    };
-    let Ok(bound) = lower_bound(&rows, problem.bounds, problem.costs, combo, scratch) else {
-        return None;
-    };
-    if bound == cost { Some(cost) } else { None }
-}
-
 /// What a combination bounds the costs by, where it does.
 pub(crate) fn safe_cost(problem: &Problem<'_>, combo: &Combo, scratch: &mut Scratch) -> Option<Frac>
     requires ready { IsReady problem.now }
@@ -57,6 +27,29 @@ pub(crate) fn safe_cost(problem: &Problem<'_>, combo: &Combo, scratch: &mut Scra
         Ok(bound) => Some(bound),
         Err(_) => None,
     }
+}
+
+/// The cost of a point, where a combination bounds the costs by as much.
+pub(crate) fn least_cost(
+    problem: &Problem<'_>,
+    point: &[Frac],
+    combo: &Combo,
+    scratch: &mut Scratch,
+) -> Option<Frac>
+    requires ready { IsReady problem.now }
+    requires room { length problem.now.bounds.now ≤ length scratch.old.row.entries }
+    requires long { length point.now ≡ length problem.now.bounds.now }
+    requires point { IsPoint (program_of problem.now) point.now }
+    ensures optimal { IfSome result (IsOptimal (program_of problem.entry.now) point.now) }
+    ensures room { length scratch.new.row.entries ≡ length scratch.old.row.entries }
+{
+    let Ok(cost) = cost_at(problem.costs, point) else {
+        return None;
+    };
+    let Some(bound) = safe_cost(problem, combo, scratch) else {
+        return None;
+    };
+    if bound == cost { Some(cost) } else { None }
 }
 
 /// Whether a combination empties a linear program.

@@ -1,8 +1,8 @@
 //! The multipliers of a basis, as a combination.
+use crate::Given;
 use crate::placement::{Placement, short};
 use crate::values::{number_at, scaled};
 use cip_frac::Frac;
-use cip_guess::Given;
 use cip_lin::{Combo, Row, RowId, RowMultiple};
 use std::alloc::{AllocError, Global};
 

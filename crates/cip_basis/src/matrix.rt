@@ -1,7 +1,7 @@
 //! The matrix of a basis: the loose rows on the basic columns, each times what makes it whole.
 use crate::placement::Placement;
+use crate::{Given, System, common_denominator, times_whole};
 use cip_frac::Frac;
-use cip_guess::{Given, System, common_denominator, times_whole};
 use cip_lin::Row;
 use std::alloc::{AllocError, Global};
 

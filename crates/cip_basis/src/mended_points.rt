@@ -1,8 +1,8 @@
 //! Values near the point of a basis that is guessed, changed until they keep the rows.
 use crate::placement::short;
 use crate::values::sum_at;
+use crate::{Given, Guess, Standing, rounded_outward};
 use cip_frac::Frac;
-use cip_guess::{Given, Guess, Standing, rounded_outward};
 use cip_lin::{Row, Sides, Term};
 use std::alloc::{AllocError, Global};
 

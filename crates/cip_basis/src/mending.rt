@@ -1,8 +1,8 @@
 //! Multipliers of rows, mended until each rest of a column may lie on a side of it.
 use crate::placement::short;
 use crate::values::number_at;
+use crate::{Given, rounded_outward};
 use cip_frac::Frac;
-use cip_guess::{Given, rounded_outward};
 use cip_lin::{Row, Sides};
 use std::alloc::{AllocError, Global};
 

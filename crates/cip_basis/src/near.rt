@@ -4,11 +4,11 @@ ghost use Rattle.cip_rational.specs.Sums.{dot};
 ghost use Rattle.cip_linear.specs.LinearProgram.{IsPoint};
 ghost use Rattle.cip_basis.specs.Shown.{IsReady, program_of};
 
+use crate::Length;
 use crate::basis::Basis;
 use crate::problem::Problem;
 use crate::tests::{cost_at, is_point};
 use cip_frac::Frac;
-use cip_guess::Length;
 use std::alloc::{AllocError, Global};
 
 /// What a point costs; none where a product or a sum is out of range.

@@ -1,5 +1,5 @@
 //! Which columns are basic, and which rows are loose.
-use cip_guess::{Given, Guess, Standing};
+use crate::{Given, Guess, Standing};
 use std::alloc::{AllocError, Global};
 
 /// No place among the basic columns.

@@ -1,7 +1,7 @@
 //! A linear program, lent with what names of rows mean.
+use crate::Given;
 use cip_cert::PoolRow;
 use cip_frac::Frac;
-use cip_guess::Given;
 use cip_lin::{Bounds, Row};
 
 /// A linear program, lent: rows that stay and, behind them, those of a pool that may be used in the box; the box; and

@@ -2,8 +2,8 @@
 use crate::combos::{empty_combo, put_multiple, row_of};
 use crate::mending::{Mending, has_side};
 use crate::placement::short;
+use crate::{Given, Guess, Outcome, RowMultiplier};
 use cip_frac::Frac;
-use cip_guess::{Given, Guess, Outcome, RowMultiplier};
 use cip_lin::Combo;
 use std::alloc::{AllocError, Global};
 

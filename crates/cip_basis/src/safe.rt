@@ -2,12 +2,13 @@
 ghost use Rattle.std.specs.Prelude.{◌≡◌, ◌≤◌, length, IfOk, IfSome};
 ghost use Rattle.cip_basis.specs.Shown.{IsReady, IsSafe, program_of};
 
+use crate::Outcome;
 use crate::basis::Basis;
 use crate::checks::{is_emptied, safe_cost};
 use crate::problem::Problem;
 use cip_cert::Scratch;
 use cip_frac::Frac;
-use cip_guess::Outcome;
+use cip_lin::Combo;
 use std::alloc::{AllocError, Global};
 
 /// What rounded multipliers show of a linear program.
@@ -17,6 +18,30 @@ pub enum Safe {
     Bound { cost: Frac },
     /// There is no point.
     Empty,
+}
+
+/// What a combination shows of a linear program whose guess has ended so, if anything.
+fn shown_by(
+    problem: &Problem<'_>,
+    outcome: Outcome,
+    combo: &Combo,
+    scratch: &mut Scratch,
+) -> Option<Safe>
+    requires ready { IsReady problem.now }
+    requires room { length problem.now.bounds.now ≤ length scratch.old.row.entries }
+    ensures safe { IfSome result (IsSafe (program_of problem.entry.now)) }
+    ensures room { length scratch.new.row.entries ≡ length scratch.old.row.entries }
+{
+    if outcome == Outcome::Optimal {
+        match safe_cost(problem, combo, scratch) {
+            Some(cost) => Some(Safe::Bound { cost }),
+            None => None,
+        }
+    } else if is_emptied(problem, combo, scratch) {
+        Some(Safe::Empty)
+    } else {
+        None
+    }
 }
 
 /// What the multipliers of the basis that was guessed last show of the same linear program, rounded to multiples of
@@ -37,14 +62,7 @@ pub fn safe_bound(
     let Some((outcome, combo)) = basis.rounded(alloc, &given)? else {
         return Ok(None);
     };
-    if outcome != Outcome::Optimal {
-        if is_emptied(problem, &combo, scratch) {
-            return Ok(Some(Safe::Empty));
-        }
-        return Ok(None);
-    }
-    match safe_cost(problem, &combo, scratch) {
-        Some(cost) => Ok(Some(Safe::Bound { cost })),
-        None => Ok(None),
-    }
+    let safe = shown_by(problem, outcome, &combo, scratch);
+    drop(combo);
+    Ok(safe)
 }

@@ -7,9 +7,9 @@ use crate::basis::Basis;
 use crate::checks::{is_emptied, least_cost};
 use crate::near::tested;
 use crate::problem::Problem;
+use crate::{Length, Outcome};
 use cip_cert::Scratch;
 use cip_frac::Frac;
-use cip_guess::{Length, Outcome};
 use cip_lin::Combo;
 use std::alloc::{AllocError, Global};
 

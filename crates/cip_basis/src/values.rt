@@ -1,7 +1,7 @@
 //! The point of a basis.
 use crate::placement::{Placement, short};
+use crate::{Given, Guess, Standing};
 use cip_frac::Frac;
-use cip_guess::{Given, Guess, Standing};
 use cip_lin::{Row, Sides};
 use std::alloc::AllocError;
 

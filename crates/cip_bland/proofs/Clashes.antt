@@ -9,12 +9,12 @@ use Rattle.cip_rational.proofs.Rational.Order.{≤ℚ_refl, ≤ℚ_of_lt, ≤ℚ
 use Rattle.cip_rational.proofs.Rational.Monotone.{+ℚ_mono, *ℚ_mono, *ℚ_pos, *ℚ_nonneg}
 use Rattle.cip_rational.proofs.Rational.Inverse.{*ℚ_antitone, *ℚ_eq-zero}
 use Rattle.cip_rational.proofs.Linear.{linear_le, linear_lt, linear_same}
-use Rattle.cip_dictionary.specs.Program.{Sides}
-use Rattle.cip_dictionary.specs.Box.{Between, sides_at}
-use Rattle.cip_dictionary.specs.Multipliers.{IsUsed}
-use Rattle.cip_dictionary.specs.Tables.{total, form}
-use Rattle.cip_dictionary.specs.Dictionary.{Dictionary, size, stand, is_basic, entry, cost_entry, value, standing_value, Solves, IsConsistent}
-use Rattle.cip_dictionary.specs.declared.moves.Stand.{Stand}
+use Rattle.cip_bland.specs.Program.{Sides}
+use Rattle.cip_bland.specs.Box.{Between, sides_at}
+use Rattle.cip_bland.specs.Multipliers.{IsUsed}
+use Rattle.cip_bland.specs.Tables.{total, form}
+use Rattle.cip_bland.specs.Dictionary.{Dictionary, size, stand, is_basic, entry, cost_entry, value, standing_value, Solves, IsConsistent}
+use Rattle.cip_bland.specs.declared.moves.Stand.{Stand}
 use Rattle.cip_bland.specs.Headings.{back_of, along, heading_for, stand_ahead, side_ahead, is_ahead, goal_ahead}
 use Rattle.cip_bland.specs.Rule.{is_crossed, is_outside, outside_heading, repairs, improves, falling_heading, goal_of, length_of, Way, way_of}
 use Rattle.cip_bland.specs.EndAnswers.{change_of}

@@ -8,12 +8,12 @@ use Rattle.cip_rational.proofs.Rational.Ring.{+ℚ-zero, zero-*ℚ, *ℚ-zero, n
 use Rattle.cip_rational.proofs.Rational.Order.{≤ℚ_refl, ≤ℚ_of_lt, not_le_of_lt, eq-or-lt, test_of_le, ne_of_lt}
 use Rattle.cip_rational.proofs.Rational.Monotone.{*ℚ_mono, *ℚ_pos, *ℚ_nonneg, le_of_*ℚ}
 use Rattle.cip_rational.proofs.Linear.{linear_le, linear_lt, linear_same}
-use Rattle.cip_dictionary.specs.Program.{Sides}
-use Rattle.cip_dictionary.specs.Box.{Between, sides_at, sides_equal}
-use Rattle.cip_dictionary.specs.Dictionary.{Dictionary, size, cost_entry, value, standing_value, CanStand, IsConsistent}
-use Rattle.cip_dictionary.specs.Exchange.{after}
-use Rattle.cip_dictionary.specs.declared.moves.Stand.{Stand}
-use Rattle.cip_dictionary.specs.declared.moves.Stand.TheVariants.{Low, High, Zero}
+use Rattle.cip_bland.specs.Program.{Sides}
+use Rattle.cip_bland.specs.Box.{Between, sides_at, sides_equal}
+use Rattle.cip_bland.specs.Dictionary.{Dictionary, size, cost_entry, value, standing_value, CanStand, IsConsistent}
+use Rattle.cip_bland.specs.Exchange.{after}
+use Rattle.cip_bland.specs.declared.moves.Stand.{Stand}
+use Rattle.cip_bland.specs.declared.moves.Stand.TheVariants.{Low, High, Zero}
 use Rattle.cip_bland.specs.Headings.{along, stand_ahead, side_ahead, is_ahead, goal_ahead}
 use Rattle.cip_bland.specs.Rule.{improves, falling_heading, goal_of, length_of, Way, way_with, way_of, move_by}
 use Rattle.cip_bland.specs.EndAnswers.{change_of}

@@ -6,18 +6,18 @@ use Rattle.cip_rational.specs.Sums.{dot}
 use Rattle.cip_rational.proofs.Rational.Ring.{+ℚ-zero, zero-+ℚ, zero-*ℚ, one-*ℚ, negate-*ℚ}
 use Rattle.cip_rational.proofs.Rational.Order.{not_le_of_lt}
 use Rattle.cip_rational.proofs.Linear.{linear_le, linear_lt, linear_same}
-use Rattle.cip_dictionary.specs.Program.{Sides}
-use Rattle.cip_dictionary.specs.Box.{sides_at, is_between}
-use Rattle.cip_dictionary.specs.BoxBound.{sum_if_both, least_costs}
-use Rattle.cip_dictionary.specs.LinearProgram.{LinearProgram, IsProper}
-use Rattle.cip_dictionary.specs.Aggregate.{Inequality, aggregate, differences, bound_of}
-use Rattle.cip_dictionary.specs.Multipliers.{paired, IsUsed}
-use Rattle.cip_dictionary.proofs.PassedOn.{length-table}
-use Rattle.cip_dictionary.proofs.PassedOn.{combination_bound, certified_empty}
-use Rattle.cip_dictionary.specs.Tables.{total, form}
-use Rattle.cip_dictionary.specs.Dictionary.{Dictionary, size, is_basic, entry, value, Solves, IsConsistent}
-use Rattle.cip_dictionary.specs.ProgramState.{first_of_program}
-use Rattle.cip_dictionary.proofs.Tables.{total_same, total-add, total-only, only, only_here, only_there}
+use Rattle.cip_bland.specs.Program.{Sides}
+use Rattle.cip_bland.specs.Box.{sides_at, is_between}
+use Rattle.cip_bland.specs.BoxBound.{sum_if_both, least_costs}
+use Rattle.cip_bland.specs.LinearProgram.{LinearProgram, IsProper}
+use Rattle.cip_bland.specs.Aggregate.{Inequality, aggregate, differences, bound_of}
+use Rattle.cip_bland.specs.Multipliers.{paired, IsUsed}
+use Rattle.cip_linear.proofs.Aggregates.{length-table}
+use Rattle.cip_linear.proofs.Certificates.{combination_bound, certified_empty}
+use Rattle.cip_bland.specs.Tables.{total, form}
+use Rattle.cip_bland.specs.Dictionary.{Dictionary, size, is_basic, entry, value, Solves, IsConsistent}
+use Rattle.cip_bland.specs.ProgramState.{first_of_program}
+use Rattle.cip_bland.proofs.Tables.{total_same, total-add, total-only, only, only_here, only_there}
 use Rattle.cip_bland.specs.Headings.{back_of, along, side_ahead}
 use Rattle.cip_bland.specs.Rule.{is_outside, outside_heading, repairs}
 use Rattle.cip_bland.specs.EndAnswers.{parts_of, certificate_of, row_multiplier, outside_certificate}

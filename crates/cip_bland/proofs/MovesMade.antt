@@ -3,12 +3,12 @@ use Rattle.std.proofs.Common.{◌≡◌, ◌≢◌, ℕ, ◌<◌, Bool, true, fa
 use Rattle.std.proofs.lemmas.Bool.{true≢false, and_parts, eq-eqb, ne_eqb, cases_eq}
 use Rattle.std.proofs.lemmas.Option.{none-some, same_Some}
 use Rattle.cip_rational.specs.Rational.{ℚ, zeroℚ, is_zero}
-use Rattle.cip_dictionary.specs.Box.{sides_at, is_between}
-use Rattle.cip_dictionary.specs.Dictionary.{Dictionary, size, stand, is_basic, entry, cost_entry, value, CanStand, IsConsistent}
-use Rattle.cip_dictionary.specs.Exchange.{CanExchange, CanFlip, CanMove}
-use Rattle.cip_dictionary.specs.declared.moves.Stand.{Stand}
-use Rattle.cip_dictionary.specs.declared.moves.Move.TheVariants.{Exchange, Flip}
-use Rattle.cip_dictionary.proofs.Zeros.{nonzero_of}
+use Rattle.cip_bland.specs.Box.{sides_at, is_between}
+use Rattle.cip_bland.specs.Dictionary.{Dictionary, size, stand, is_basic, entry, cost_entry, value, CanStand, IsConsistent}
+use Rattle.cip_bland.specs.Exchange.{CanExchange, CanFlip, CanMove}
+use Rattle.cip_bland.specs.declared.moves.Stand.{Stand}
+use Rattle.cip_bland.specs.declared.moves.Move.TheVariants.{Exchange, Flip}
+use Rattle.cip_bland.proofs.Zeros.{nonzero_of}
 use Rattle.cip_bland.specs.Headings.{back_of, heading_for, stand_ahead}
 use Rattle.cip_bland.specs.Rule.{is_outside, outside_heading, drives, repairs, improves, falling_heading, Way, goal_with, goal_of, length_of, way_with, way_of, move_by}
 use Rattle.cip_bland.specs.declared.steps.Heading.{Heading}

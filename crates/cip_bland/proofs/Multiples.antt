@@ -6,19 +6,19 @@ use Rattle.std.proofs.lemmas.Bool.{lt-ltb, le-ltb}
 use Rattle.cip_rational.specs.Rational.{ℚ, ◌+ℚ◌, ◌*ℚ◌, zeroℚ}
 use Rattle.cip_rational.specs.Sums.{dot}
 use Rattle.cip_rational.proofs.Rational.Ring.{+ℚ-zero, +ℚ_assoc}
-use Rattle.cip_dictionary.specs.Program.{Sides, Row, no_row}
-use Rattle.cip_dictionary.specs.Activity.{activity, value_at}
-use Rattle.cip_dictionary.specs.Box.{sides_at, no_sides}
-use Rattle.cip_dictionary.specs.LinearProgram.{LinearProgram, IsProper}
-use Rattle.cip_dictionary.specs.Multipliers.{OnVariables, paired, activities, extended, IsUsed, AllUsed, row_sides, UsesSides, SumsTo}
-use Rattle.cip_dictionary.specs.Tables.{table, total, form}
-use Rattle.cip_dictionary.specs.Dictionary.{size, cost_entry, Solves}
-use Rattle.cip_dictionary.specs.FirstState.{is_column, row_number}
-use Rattle.cip_dictionary.specs.FirstState.{extended as first_extended}
-use Rattle.cip_dictionary.specs.ProgramState.{system_of, first_of_program}
-use Rattle.cip_dictionary.proofs.Tables.{length-table, at_table, form_same, form_at_same}
-use Rattle.cip_dictionary.proofs.First.{first_states_tell}
-use Rattle.cip_dictionary.proofs.Programs.{programs_are_told}
+use Rattle.cip_bland.specs.Program.{Sides, Row, no_row}
+use Rattle.cip_bland.specs.Activity.{activity, value_at}
+use Rattle.cip_bland.specs.Box.{sides_at, no_sides}
+use Rattle.cip_bland.specs.LinearProgram.{LinearProgram, IsProper}
+use Rattle.cip_bland.specs.Multipliers.{OnVariables, paired, activities, extended, IsUsed, AllUsed, row_sides, UsesSides, SumsTo}
+use Rattle.cip_bland.specs.Tables.{table, total, form}
+use Rattle.cip_bland.specs.Dictionary.{size, cost_entry, Solves}
+use Rattle.cip_bland.specs.FirstState.{is_column, row_number}
+use Rattle.cip_bland.specs.FirstState.{extended as first_extended}
+use Rattle.cip_bland.specs.ProgramState.{system_of, first_of_program}
+use Rattle.cip_bland.proofs.Tables.{length-table, at_table, form_same, form_at_same}
+use Rattle.cip_bland.proofs.First.{first_states_tell}
+use Rattle.cip_bland.proofs.Programs.{programs_are_told}
 use Rattle.cip_bland.proofs.PointsOf.{form-dot, size_is, sides_of_column, sides_of_row}
 
 -- ---- sums

@@ -6,16 +6,16 @@ use Rattle.std.proofs.lemmas.List.{map-append, append-nil}
 use Rattle.std.proofs.lemmas.List.Elements.{All-from_recursion}
 use Rattle.cip_rational.specs.Rational.{ℚ, zeroℚ, ◌<ℚ◌, lt_test, is_zero}
 use Rattle.cip_rational.proofs.Rational.Order.{≤ℚ_of_eq, ≤ℚ_antisymm, lt_of_test, le_of_lt_test, not_le_of_lt}
-use Rattle.cip_dictionary.specs.Program.{Row, no_row}
-use Rattle.cip_dictionary.specs.Activity.{value_at}
-use Rattle.cip_dictionary.specs.Box.{sides_at}
-use Rattle.cip_dictionary.specs.LinearProgram.{LinearProgram}
-use Rattle.cip_dictionary.specs.Aggregate.{Part, used_side}
-use Rattle.cip_dictionary.specs.Multipliers.{IsUsed, row_sides, row_parts, column_part, low_parts, high_parts, combination}
-use Rattle.cip_dictionary.proofs.PassedOn.{used_low, used_high}
-use Rattle.cip_dictionary.specs.Tables.{table, each}
-use Rattle.cip_dictionary.proofs.Tables.{length-table, at_table}
-use Rattle.cip_dictionary.proofs.Zeros.{zero_of, nonzero_of}
+use Rattle.cip_bland.specs.Program.{Row, no_row}
+use Rattle.cip_bland.specs.Activity.{value_at}
+use Rattle.cip_bland.specs.Box.{sides_at}
+use Rattle.cip_bland.specs.LinearProgram.{LinearProgram}
+use Rattle.cip_bland.specs.Aggregate.{Part, used_side}
+use Rattle.cip_bland.specs.Multipliers.{IsUsed, row_sides, row_parts, column_part, low_parts, high_parts, combination}
+use Rattle.cip_linear.proofs.Parts.{used_low, used_high}
+use Rattle.cip_bland.specs.Tables.{table, each}
+use Rattle.cip_bland.proofs.Tables.{length-table, at_table}
+use Rattle.cip_bland.proofs.Zeros.{zero_of, nonzero_of}
 use Rattle.cip_bland.specs.EndAnswers.{Multiple, row_part, low_part, high_part, parts_of, any_multiple, low_multiple, high_multiple, certificate_of}
 use Rattle.cip_bland.proofs.Multiples.{on_variables, UsedAll, row_used, column_used}
 

@@ -1,13 +1,13 @@
 -- Where no variable is outside and none lets the cost fall, the point is optimal and the cost's entries certify it.
 use Rattle.std.proofs.Common.{◌≡◌, ℕ, ◌<◌, length, Some, sym, ap, ◌∙◌, subst}
 use Rattle.cip_rational.specs.Rational.{ℚ}
-use Rattle.cip_dictionary.specs.Box.{sides_at}
-use Rattle.cip_dictionary.specs.LinearProgram.{LinearProgram, IsProper, IsOptimal}
-use Rattle.cip_dictionary.specs.Aggregate.{aggregate, bound_of}
-use Rattle.cip_dictionary.specs.Multipliers.{ArePartsOf, paired, IsUsed, SumsTo}
-use Rattle.cip_dictionary.proofs.PassedOn.{combination_parts, combination_bound, certified_optimal}
-use Rattle.cip_dictionary.specs.Tables.{form}
-use Rattle.cip_dictionary.specs.Dictionary.{Dictionary, size, cost_entry, value}
+use Rattle.cip_bland.specs.Box.{sides_at}
+use Rattle.cip_bland.specs.LinearProgram.{LinearProgram, IsProper, IsOptimal}
+use Rattle.cip_bland.specs.Aggregate.{aggregate, bound_of}
+use Rattle.cip_bland.specs.Multipliers.{ArePartsOf, paired, IsUsed, SumsTo}
+use Rattle.cip_linear.proofs.Certificates.{combination_parts, combination_bound, certified_optimal}
+use Rattle.cip_bland.specs.Tables.{form}
+use Rattle.cip_bland.specs.Dictionary.{Dictionary, size, cost_entry, value}
 use Rattle.cip_bland.specs.Rule.{is_crossed, is_outside, improves}
 use Rattle.cip_bland.specs.EndAnswers.{point_of, optimal_certificate, certificate_of}
 use Rattle.cip_bland.specs.Statements.{IsStateOf, IsCertificate, ShowsOptimum}

@@ -1,2 +1,2 @@
 -- Lemmas of crates below, for those above.
-pub use Rattle.cip_dictionary.proofs.First.{first-size, first-stand}
+pub use Rattle.cip_bland.proofs.First.{first-size, first-stand}

@@ -7,19 +7,19 @@ use Rattle.std.proofs.lemmas.Bool.{le-ltb}
 use Rattle.cip_rational.specs.Rational.{ℚ, ◌+ℚ◌, ◌*ℚ◌, zeroℚ, ◌<ℚ◌}
 use Rattle.cip_rational.specs.Sums.{dot}
 use Rattle.cip_rational.proofs.Rational.Ring.{+ℚ-zero, zero-+ℚ, +ℚ_assoc}
-use Rattle.cip_dictionary.specs.Program.{Sides, Row, no_row}
-use Rattle.cip_dictionary.specs.Activity.{activity, value_at}
-use Rattle.cip_dictionary.specs.Box.{Between, sides_at, no_sides}
-use Rattle.cip_dictionary.specs.Points.{IsSatisfied}
-use Rattle.cip_dictionary.specs.LinearProgram.{LinearProgram, IsProper, IsPoint, IsRay, StaysBetween}
-use Rattle.cip_dictionary.specs.Multipliers.{row_sides}
-use Rattle.cip_dictionary.specs.Tables.{table, total, form}
-use Rattle.cip_dictionary.specs.Dictionary.{size, cost_entry, Solves}
-use Rattle.cip_dictionary.specs.FirstState.{first, is_column, row_number, extended}
-use Rattle.cip_dictionary.specs.ProgramState.{system_of, first_of_program, TellsProgram}
-use Rattle.cip_dictionary.proofs.Tables.{length-table, at_table, form_at_same}
-use Rattle.cip_dictionary.proofs.First.{first_states_tell, first-size}
-use Rattle.cip_dictionary.proofs.Programs.{programs_are_told}
+use Rattle.cip_bland.specs.Program.{Sides, Row, no_row}
+use Rattle.cip_bland.specs.Activity.{activity, value_at}
+use Rattle.cip_bland.specs.Box.{Between, sides_at, no_sides}
+use Rattle.cip_bland.specs.Points.{IsSatisfied}
+use Rattle.cip_bland.specs.LinearProgram.{LinearProgram, IsProper, IsPoint, IsRay, StaysBetween}
+use Rattle.cip_bland.specs.Multipliers.{row_sides}
+use Rattle.cip_bland.specs.Tables.{table, total, form}
+use Rattle.cip_bland.specs.Dictionary.{size, cost_entry, Solves}
+use Rattle.cip_bland.specs.FirstState.{first, is_column, row_number, extended}
+use Rattle.cip_bland.specs.ProgramState.{system_of, first_of_program, TellsProgram}
+use Rattle.cip_bland.proofs.Tables.{length-table, at_table, form_at_same}
+use Rattle.cip_bland.proofs.First.{first_states_tell, first-size}
+use Rattle.cip_bland.proofs.Programs.{programs_are_told}
 
 -- ---- lists by their places
 

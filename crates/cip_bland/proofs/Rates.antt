@@ -8,16 +8,16 @@ use Rattle.cip_rational.proofs.Rational.Ring.{+ℚ-zero, zero-*ℚ, *ℚ_assoc, 
 use Rattle.cip_rational.proofs.Rational.Inverse.{*ℚ-inverse}
 use Rattle.cip_rational.proofs.Rational.Order.{eq-or-lt}
 use Rattle.cip_rational.proofs.Linear.{linear_le, linear_lt, linear_same}
-use Rattle.cip_dictionary.specs.Program.{Sides}
-use Rattle.cip_dictionary.specs.Box.{sides_at}
-use Rattle.cip_dictionary.specs.Dictionary.{Dictionary, size, stand, is_basic, entry, cost_entry, value, standing_value, CanStand, IsConsistent}
-use Rattle.cip_dictionary.specs.Exchange.{moved, moved_cost, step, other_stand, way, after}
-use Rattle.cip_dictionary.specs.declared.moves.Stand.{Stand}
-use Rattle.cip_dictionary.specs.declared.moves.Stand.TheVariants.{Low, High, Zero}
-use Rattle.cip_dictionary.specs.declared.moves.Move.TheVariants.{Exchange, Flip}
-use Rattle.cip_dictionary.proofs.Zeros.{zero_of, nonzero_of}
-use Rattle.cip_dictionary.proofs.Values.{moved_here, moved_basic, moved_other}
-use Rattle.cip_dictionary.proofs.States.{exchanged-value, exchanged-cost, flipped-value, flipped-cost}
+use Rattle.cip_bland.specs.Program.{Sides}
+use Rattle.cip_bland.specs.Box.{sides_at}
+use Rattle.cip_bland.specs.Dictionary.{Dictionary, size, stand, is_basic, entry, cost_entry, value, standing_value, CanStand, IsConsistent}
+use Rattle.cip_bland.specs.Exchange.{moved, moved_cost, step, other_stand, way, after}
+use Rattle.cip_bland.specs.declared.moves.Stand.{Stand}
+use Rattle.cip_bland.specs.declared.moves.Stand.TheVariants.{Low, High, Zero}
+use Rattle.cip_bland.specs.declared.moves.Move.TheVariants.{Exchange, Flip}
+use Rattle.cip_bland.proofs.Zeros.{zero_of, nonzero_of}
+use Rattle.cip_bland.proofs.Values.{moved_here, moved_basic, moved_other}
+use Rattle.cip_bland.proofs.States.{exchanged-value, exchanged-cost, flipped-value, flipped-cost}
 use Rattle.cip_bland.specs.Headings.{along, heading_for, stand_ahead, side_ahead, is_ahead, goal_ahead}
 use Rattle.cip_bland.specs.Rule.{improves, falling_heading, goal_with, goal_of, length_of, Way, way_of, move_by}
 use Rattle.cip_bland.specs.EndAnswers.{change_of}

@@ -6,15 +6,15 @@ use Rattle.cip_rational.specs.Rational.{ℚ, ◌*ℚ◌, zeroℚ, oneℚ, ◌≤
 use Rattle.cip_rational.proofs.Rational.Ring.{zero-*ℚ, *ℚ-zero, *ℚ_comm}
 use Rattle.cip_rational.proofs.Rational.Order.{≤ℚ_of_eq, ≤ℚ_of_lt, lt_of_test, le_of_lt_test, eq-or-lt}
 use Rattle.cip_rational.proofs.Linear.{linear_le, linear_lt}
-use Rattle.cip_dictionary.specs.Program.{Sides}
-use Rattle.cip_dictionary.specs.Box.{sides_at}
-use Rattle.cip_dictionary.specs.LinearProgram.{LinearProgram, IsProper, StaysBetween, IsRay}
-use Rattle.cip_dictionary.specs.Tables.{form}
-use Rattle.cip_dictionary.specs.Dictionary.{Dictionary, size, is_basic, entry, cost_entry, Solves, IsConsistent}
-use Rattle.cip_dictionary.specs.ProgramState.{first_of_program}
-use Rattle.cip_dictionary.specs.declared.moves.Stand.{Stand}
-use Rattle.cip_dictionary.proofs.Tables.{total_same, total-only, only, only_here, only_there}
-use Rattle.cip_dictionary.proofs.Zeros.{zero_of, nonzero_of}
+use Rattle.cip_bland.specs.Program.{Sides}
+use Rattle.cip_bland.specs.Box.{sides_at}
+use Rattle.cip_bland.specs.LinearProgram.{LinearProgram, IsProper, StaysBetween, IsRay}
+use Rattle.cip_bland.specs.Tables.{form}
+use Rattle.cip_bland.specs.Dictionary.{Dictionary, size, is_basic, entry, cost_entry, Solves, IsConsistent}
+use Rattle.cip_bland.specs.ProgramState.{first_of_program}
+use Rattle.cip_bland.specs.declared.moves.Stand.{Stand}
+use Rattle.cip_bland.proofs.Tables.{total_same, total-only, only, only_here, only_there}
+use Rattle.cip_bland.proofs.Zeros.{zero_of, nonzero_of}
 use Rattle.cip_bland.specs.Headings.{back_of, along, heading_for, side_ahead, goal_ahead}
 use Rattle.cip_bland.specs.Rule.{improves, falling_heading, goal_with, goal_of, way_with, way_of}
 use Rattle.cip_bland.specs.EndAnswers.{change_of, ray_of}

@@ -2,12 +2,12 @@
 use Rattle.std.proofs.Common.{◌≡◌, ℕ, zero, suc, List, [], ◌∷◌, ◌++◌, length, slice_get, cond, Bool, true, false, Option, None, Some, refl, sym, ap, ◌∙◌, subst, arith}
 use Rattle.std.proofs.lemmas.Option.{none-some, same_Some}
 use Rattle.std.proofs.lemmas.List.{append_assoc}
-use Rattle.cip_dictionary.specs.LinearProgram.{LinearProgram, IsProper}
-use Rattle.cip_dictionary.specs.Dictionary.{Dictionary}
-use Rattle.cip_dictionary.specs.Exchange.{after}
-use Rattle.cip_dictionary.specs.FirstState.{first_operations}
-use Rattle.cip_dictionary.specs.ProgramState.{system_of, first_of_program}
-use Rattle.cip_dictionary.specs.declared.moves.Move.{Move}
+use Rattle.cip_bland.specs.LinearProgram.{LinearProgram, IsProper}
+use Rattle.cip_bland.specs.Dictionary.{Dictionary}
+use Rattle.cip_bland.specs.Exchange.{after}
+use Rattle.cip_bland.specs.FirstState.{first_operations}
+use Rattle.cip_bland.specs.ProgramState.{system_of, first_of_program}
+use Rattle.cip_bland.specs.declared.moves.Move.{Move}
 use Rattle.cip_bland.specs.Rule.{next}
 use Rattle.cip_bland.specs.MoveList.{is_out_of_range, wide_move, Ending, Ends, Overflows, Stops, Run, run_here, run_after, ending_at, run_by, run_from, run, state_by, state_after}
 use Rattle.cip_bland.specs.EndAnswers.{Answer, OutOfRange, answer_after, answer_of, answer}

@@ -5,14 +5,14 @@ use Rattle.std.proofs.lemmas.Option.{none-some, same_Some}
 use Rattle.cip_rational.specs.Rational.{ℚ, negate, zeroℚ, ◌≤ℚ◌, ◌<ℚ◌, lt_test, is_zero}
 use Rattle.cip_rational.proofs.Rational.Order.{≤ℚ_refl, ≤ℚ_antisymm, ≤ℚ_of_lt, lt_of_test, le_of_test, lt_of_le_test, le_of_lt_test, not_le_of_lt, ne_of_lt}
 use Rattle.cip_rational.proofs.Linear.{linear_lt, linear_le, linear_same}
-use Rattle.cip_dictionary.specs.Program.{Sides}
-use Rattle.cip_dictionary.specs.Box.{Between, sides_equal, at_least, at_most, is_between}
-use Rattle.cip_dictionary.specs.LinearProgram.{StaysBetween}
-use Rattle.cip_dictionary.specs.Multipliers.{IsUsed}
-use Rattle.cip_dictionary.specs.Dictionary.{standing_value, CanStand}
-use Rattle.cip_dictionary.specs.declared.moves.Stand.{Stand}
-use Rattle.cip_dictionary.specs.declared.moves.Stand.TheVariants.{Low, High, Zero}
-use Rattle.cip_dictionary.proofs.Zeros.{zero_of}
+use Rattle.cip_bland.specs.Program.{Sides}
+use Rattle.cip_bland.specs.Box.{Between, sides_equal, at_least, at_most, is_between}
+use Rattle.cip_bland.specs.LinearProgram.{StaysBetween}
+use Rattle.cip_bland.specs.Multipliers.{IsUsed}
+use Rattle.cip_bland.specs.Dictionary.{standing_value, CanStand}
+use Rattle.cip_bland.specs.declared.moves.Stand.{Stand}
+use Rattle.cip_bland.specs.declared.moves.Stand.TheVariants.{Low, High, Zero}
+use Rattle.cip_bland.proofs.Zeros.{zero_of}
 use Rattle.cip_bland.specs.Headings.{back_of, along, heading_for, stand_ahead, side_ahead, is_ahead, goal_ahead}
 use Rattle.cip_bland.specs.Rule.{sides_cross, outside_with, may_go_from}
 use Rattle.cip_bland.specs.declared.steps.Heading.{Heading}

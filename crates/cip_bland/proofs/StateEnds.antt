@@ -1,7 +1,7 @@
 -- Ends are sound whichever moves led there, and those that the rule names are among them.
 use Rattle.std.proofs.Common.{◌≡◌, refl, subst}
-use Rattle.cip_dictionary.specs.Dictionary.{Dictionary}
-use Rattle.cip_dictionary.specs.declared.moves.Move.{Move}
+use Rattle.cip_bland.specs.Dictionary.{Dictionary}
+use Rattle.cip_bland.specs.declared.moves.Move.{Move}
 use Rattle.cip_bland.specs.Rule.{move_by, next}
 use Rattle.cip_bland.specs.StateEnds.{IsEndAt, EndsAreSound, NamedEndsAreEnds}
 use Rattle.cip_bland.specs.declared.steps.Step.{Step}

@@ -2,14 +2,14 @@
 use Rattle.std.proofs.Common.{◌≡◌, ℕ, ◌<◌, Bool, true, false, not, ◌&&◌, is_some, length, Option, None, Some, refl, sym, ap, ◌∙◌, subst}
 use Rattle.std.proofs.lemmas.Bool.{true≢false}
 use Rattle.cip_rational.specs.Rational.{ℚ, zeroℚ}
-use Rattle.cip_dictionary.specs.Box.{Between, sides_at, is_between}
-use Rattle.cip_dictionary.proofs.PassedOn.{between_of_test}
-use Rattle.cip_dictionary.specs.LinearProgram.{LinearProgram, IsProper, IsPoint}
-use Rattle.cip_dictionary.specs.Multipliers.{IsUsed}
-use Rattle.cip_dictionary.specs.Tables.{table, form}
-use Rattle.cip_dictionary.specs.Dictionary.{Dictionary, size, stand, is_basic, cost_entry, value, standing_value, CanStand, Solves, IsConsistent}
-use Rattle.cip_dictionary.specs.ProgramState.{first_of_program}
-use Rattle.cip_dictionary.specs.declared.moves.Stand.{Stand}
+use Rattle.cip_bland.specs.Box.{Between, sides_at, is_between}
+use Rattle.cip_linear.proofs.PassedOn.{between_of_test}
+use Rattle.cip_bland.specs.LinearProgram.{LinearProgram, IsProper, IsPoint}
+use Rattle.cip_bland.specs.Multipliers.{IsUsed}
+use Rattle.cip_bland.specs.Tables.{table, form}
+use Rattle.cip_bland.specs.Dictionary.{Dictionary, size, stand, is_basic, cost_entry, value, standing_value, CanStand, Solves, IsConsistent}
+use Rattle.cip_bland.specs.ProgramState.{first_of_program}
+use Rattle.cip_bland.specs.declared.moves.Stand.{Stand}
 use Rattle.cip_bland.specs.Headings.{back_of, along}
 use Rattle.cip_bland.specs.Rule.{is_crossed, is_outside, drives}
 use Rattle.cip_bland.specs.Statements.{IsStateOf}

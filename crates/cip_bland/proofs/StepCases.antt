@@ -1,16 +1,16 @@
 -- Each outcome of the rule with its reasons, and that it is sound.
 use Rattle.std.proofs.Common.{◌≡◌, ℕ, ◌<◌, Option, None, Some, refl, ◌∙◌, subst}
 use Rattle.std.specs.Bool.{⊤}
-use Rattle.cip_dictionary.specs.LinearProgram.{LinearProgram, IsProper}
-use Rattle.cip_dictionary.specs.Tables.{least}
-use Rattle.cip_dictionary.specs.Dictionary.{Dictionary, size, IsConsistent}
-use Rattle.cip_dictionary.specs.Exchange.{CanMove}
-use Rattle.cip_dictionary.specs.Statements.{KeepsSolutions}
-use Rattle.cip_dictionary.specs.ProgramState.{system_of, first_of_program}
-use Rattle.cip_dictionary.specs.declared.moves.Move.{Move}
-use Rattle.cip_dictionary.specs.declared.moves.Move.TheVariants.{Exchange, Flip}
-use Rattle.cip_dictionary.proofs.Kept.{exchanges_keep, flips_keep}
-use Rattle.cip_dictionary.proofs.First.{first_states_tell}
+use Rattle.cip_bland.specs.LinearProgram.{LinearProgram, IsProper}
+use Rattle.cip_bland.specs.Tables.{least}
+use Rattle.cip_bland.specs.Dictionary.{Dictionary, size, IsConsistent}
+use Rattle.cip_bland.specs.Exchange.{CanMove}
+use Rattle.cip_bland.specs.DictionaryStatements.{KeepsSolutions}
+use Rattle.cip_bland.specs.ProgramState.{system_of, first_of_program}
+use Rattle.cip_bland.specs.declared.moves.Move.{Move}
+use Rattle.cip_bland.specs.declared.moves.Move.TheVariants.{Exchange, Flip}
+use Rattle.cip_bland.proofs.Kept.{exchanges_keep, flips_keep}
+use Rattle.cip_bland.proofs.First.{first_states_tell}
 use Rattle.cip_bland.specs.Headings.{stand_ahead}
 use Rattle.cip_bland.specs.Rule.{is_crossed, is_outside, outside_heading, repairs, improves, Way, way_of, shortest, move_by, going, improving, repairing, least_outside, step_inside, step_of, next}
 use Rattle.cip_bland.specs.Statements.{IsStateOf, Leads, IsSound, MovesCanBeMade, StepsAreSound, FirstIsState}

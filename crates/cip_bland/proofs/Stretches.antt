@@ -3,7 +3,7 @@
 use Rattle.std.proofs.Common.{◌≡◌, ℕ, zero, suc, ◌+◌, ◌-◌, ◌<◌, ◌≤◌, Option, None, Some, refl, sym, ap, ◌∙◌, subst, inl, inr, arith, ◌⊎◌}
 use Rattle.std.proofs.lemmas.Bool.{cases_eq, cases_lt}
 use Rattle.std.proofs.lemmas.Option.{none-some, same_Some}
-use Rattle.cip_dictionary.specs.declared.moves.Stand.{Stand}
+use Rattle.cip_bland.specs.declared.moves.Stand.{Stand}
 
 -- variable i, which was basic, leaves to there, j enters, and the others stay
 pub record IsSwap (count : ℕ) (before after : ℕ → Option Stand) (i j : ℕ) (to : Stand) : Type 0 where

@@ -4,14 +4,14 @@ use Rattle.cip_rational.specs.Gcd.{gcd}
 use Rattle.cip_rational.specs.Range.{fits_range, sum_overflows, difference_overflows, product_overflows}
 use Rattle.cip_rational.specs.Rational.{ℚ, ◌+ℚ◌, ◌-ℚ◌, ◌*ℚ◌, zeroℚ, oneℚ, negate, integer, ratio, whole, inverse, numerator, denominator, le_test, lt_test, is_zero}
 use Rattle.cip_rational.proofs.Rational.Order.{≤ℚ_antisymm, le_of_test}
-use Rattle.cip_dictionary.specs.Tables.{table}
-use Rattle.cip_dictionary.specs.Dictionary.{Dictionary, value, cost_entry}
-use Rattle.cip_dictionary.specs.Exchange.{exchanged, flipped}
-use Rattle.cip_dictionary.specs.FirstState.{first}
-use Rattle.cip_dictionary.specs.ProgramState.{first_of_program}
-use Rattle.cip_dictionary.specs.Examples.{small, turned}
-use Rattle.cip_dictionary.specs.declared.moves.Stand.TheVariants.{Low, High}
-use Rattle.cip_dictionary.specs.declared.moves.Move.TheVariants.{Exchange, Flip}
+use Rattle.cip_bland.specs.Tables.{table}
+use Rattle.cip_bland.specs.Dictionary.{Dictionary, value, cost_entry}
+use Rattle.cip_bland.specs.Exchange.{exchanged, flipped}
+use Rattle.cip_bland.specs.FirstState.{first}
+use Rattle.cip_bland.specs.ProgramState.{first_of_program}
+use Rattle.cip_bland.specs.DictionaryExamples.{small, turned}
+use Rattle.cip_bland.specs.declared.moves.Stand.TheVariants.{Low, High}
+use Rattle.cip_bland.specs.declared.moves.Move.TheVariants.{Exchange, Flip}
 use Rattle.cip_bland.specs.Rule.{next}
 use Rattle.cip_bland.specs.MoveList.{Ends, run, state_after}
 use Rattle.cip_bland.specs.EndAnswers.{Optimal, Unbounded, OutOfRange, LimitReached, row_multiplier, answer}

@@ -5,18 +5,18 @@ use Rattle.std.proofs.lemmas.Option.{none-some}
 use Rattle.cip_rational.specs.Rational.{◌*ℚ◌, zeroℚ, ◌≤ℚ◌, ◌<ℚ◌}
 use Rattle.cip_rational.proofs.Rational.Ring.{zero-*ℚ}
 use Rattle.cip_rational.proofs.Rational.Order.{≤ℚ_refl, ≤ℚ_trans, ≤ℚ_antisymm, <ℚ_irrefl}
-use Rattle.cip_dictionary.specs.Box.{Between, sides_at}
-use Rattle.cip_dictionary.proofs.PassedOn.{test_of_between}
-use Rattle.cip_dictionary.specs.LinearProgram.{LinearProgram, IsProper}
-use Rattle.cip_dictionary.specs.Dictionary.{Dictionary, size, stand, is_basic, entry, cost_entry, value}
-use Rattle.cip_dictionary.specs.Exchange.{exchanged, after, CanExchange}
-use Rattle.cip_dictionary.specs.ProgramState.{first_of_program}
-use Rattle.cip_dictionary.specs.declared.moves.Stand.{Stand}
-use Rattle.cip_dictionary.specs.declared.moves.Stand.TheVariants.{Zero}
-use Rattle.cip_dictionary.specs.declared.moves.Move.{Move}
-use Rattle.cip_dictionary.specs.declared.moves.Move.TheVariants.{Exchange, Flip}
-use Rattle.cip_dictionary.proofs.Tables.{total_same, form_at_same}
-use Rattle.cip_dictionary.proofs.States.{left_stand, entered_stand, stayed_stand}
+use Rattle.cip_bland.specs.Box.{Between, sides_at}
+use Rattle.cip_linear.proofs.PassedOn.{test_of_between}
+use Rattle.cip_bland.specs.LinearProgram.{LinearProgram, IsProper}
+use Rattle.cip_bland.specs.Dictionary.{Dictionary, size, stand, is_basic, entry, cost_entry, value}
+use Rattle.cip_bland.specs.Exchange.{exchanged, after, CanExchange}
+use Rattle.cip_bland.specs.ProgramState.{first_of_program}
+use Rattle.cip_bland.specs.declared.moves.Stand.{Stand}
+use Rattle.cip_bland.specs.declared.moves.Stand.TheVariants.{Zero}
+use Rattle.cip_bland.specs.declared.moves.Move.{Move}
+use Rattle.cip_bland.specs.declared.moves.Move.TheVariants.{Exchange, Flip}
+use Rattle.cip_bland.proofs.Tables.{total_same, form_at_same}
+use Rattle.cip_bland.proofs.States.{left_stand, entered_stand, stayed_stand}
 use Rattle.cip_bland.specs.Headings.{stand_ahead}
 use Rattle.cip_bland.specs.Rule.{is_outside, outside_heading, repairs, improves, Way, way_of, move_by, next}
 use Rattle.cip_bland.specs.MoveList.{state_by, state_after}

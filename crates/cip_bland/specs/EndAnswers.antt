@@ -2,16 +2,16 @@
 -- ray and the cost.
 use Rattle.std.specs.Prelude.{ℕ, ◌+◌, ◌-◌, ◌==◌, nat_lt, List, [], ◌∷◌, ◌++◌, length, map, unwrap_or, slice_index_or, if◌then◌else◌}
 use Rattle.cip_rational.specs.Rational.{ℚ, negate, zeroℚ, oneℚ, lt_test, is_zero}
-use Rattle.cip_dictionary.specs.Program.{Row, no_row}
-use Rattle.cip_dictionary.specs.Box.{sides_at}
-use Rattle.cip_dictionary.specs.LinearProgram.{LinearProgram}
-use Rattle.cip_dictionary.specs.Aggregate.{Part, used_side}
-use Rattle.cip_dictionary.specs.Multipliers.{column_part}
-use Rattle.cip_dictionary.specs.Tables.{table, each}
-use Rattle.cip_dictionary.specs.Dictionary.{Dictionary, is_basic, entry, cost_entry, value}
-use Rattle.cip_dictionary.specs.FirstState.{first_operations}
-use Rattle.cip_dictionary.specs.ProgramState.{system_of, first_of_program}
-use Rattle.cip_dictionary.specs.declared.moves.Move.{Move}
+use Rattle.cip_bland.specs.Program.{Row, no_row}
+use Rattle.cip_bland.specs.Box.{sides_at}
+use Rattle.cip_bland.specs.LinearProgram.{LinearProgram}
+use Rattle.cip_bland.specs.Aggregate.{Part, used_side}
+use Rattle.cip_bland.specs.Multipliers.{column_part}
+use Rattle.cip_bland.specs.Tables.{table, each}
+use Rattle.cip_bland.specs.Dictionary.{Dictionary, is_basic, entry, cost_entry, value}
+use Rattle.cip_bland.specs.FirstState.{first_operations}
+use Rattle.cip_bland.specs.ProgramState.{system_of, first_of_program}
+use Rattle.cip_bland.specs.declared.moves.Move.{Move}
 use Rattle.cip_bland.specs.Headings.{back_of, along}
 use Rattle.cip_bland.specs.Rule.{outside_heading, falling_heading}
 use Rattle.cip_bland.specs.MoveList.{is_out_of_range, Ending, Ends, Overflows, Stops, Run, run}

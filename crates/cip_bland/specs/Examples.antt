@@ -1,13 +1,13 @@
 -- The definitions tried on programs that were worked out by hand.
 use Rattle.std.specs.Prelude.{◌≡◌, ℕ, ◌^◌, pos, negsuc, List, [], ◌∷◌, length, None, Some}
 use Rattle.cip_rational.specs.Rational.{ℚ, integer, ratio, zeroℚ, oneℚ, negate}
-use Rattle.cip_dictionary.specs.Program.{Term, Sides, Row}
-use Rattle.cip_dictionary.specs.LinearProgram.{LinearProgram}
-use Rattle.cip_dictionary.specs.Examples.{from, small, turned}
-use Rattle.cip_dictionary.specs.FirstState.{first}
-use Rattle.cip_dictionary.specs.ProgramState.{first_of_program}
-use Rattle.cip_dictionary.specs.declared.moves.Stand.TheVariants.{Low, High}
-use Rattle.cip_dictionary.specs.declared.moves.Move.TheVariants.{Exchange, Flip}
+use Rattle.cip_bland.specs.Program.{Term, Sides, Row}
+use Rattle.cip_bland.specs.LinearProgram.{LinearProgram}
+use Rattle.cip_bland.specs.DictionaryExamples.{from, small, turned}
+use Rattle.cip_bland.specs.FirstState.{first}
+use Rattle.cip_bland.specs.ProgramState.{first_of_program}
+use Rattle.cip_bland.specs.declared.moves.Stand.TheVariants.{Low, High}
+use Rattle.cip_bland.specs.declared.moves.Move.TheVariants.{Exchange, Flip}
 use Rattle.cip_bland.specs.Rule.{next}
 use Rattle.cip_bland.specs.MoveList.{Ends, run, state_after}
 use Rattle.cip_bland.specs.EndAnswers.{Multiple, Answer, Optimal, NoPoint, Unbounded, OutOfRange, LimitReached, answer}

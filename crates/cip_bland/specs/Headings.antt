@@ -1,9 +1,9 @@
 -- Which way a value goes, up or down, and the side that lies that way.
 use Rattle.std.specs.Prelude.{Bool, true, false, Option, None, Some, is_some, if◌then◌else◌}
 use Rattle.cip_rational.specs.Rational.{ℚ, negate, zeroℚ, lt_test}
-use Rattle.cip_dictionary.specs.Program.{Sides}
-use Rattle.cip_dictionary.specs.declared.moves.Stand.{Stand}
-use Rattle.cip_dictionary.specs.declared.moves.Stand.TheVariants.{Low, High, Zero}
+use Rattle.cip_bland.specs.Program.{Sides}
+use Rattle.cip_bland.specs.declared.moves.Stand.{Stand}
+use Rattle.cip_bland.specs.declared.moves.Stand.TheVariants.{Low, High, Zero}
 use Rattle.cip_bland.specs.declared.steps.Heading.{Heading}
 use Rattle.cip_bland.specs.declared.steps.Heading.TheVariants.{Up, Down}
 

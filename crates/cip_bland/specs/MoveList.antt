@@ -3,14 +3,14 @@
 -- the ways are formed first, by rising number; the first whose length is out of range ends the list, with its move.
 -- Where no move may be made any more no way is formed, nor at a state that is an end.
 use Rattle.std.specs.Prelude.{ℕ, zero, suc, ◌==◌, Bool, List, [], ◌∷◌, Option, None, Some, is_some, if◌then◌else◌}
-use Rattle.cip_dictionary.specs.Box.{sides_at}
-use Rattle.cip_dictionary.specs.Tables.{least, first_of}
-use Rattle.cip_dictionary.specs.Dictionary.{Dictionary, size, stand, is_basic, value, standing_value}
-use Rattle.cip_dictionary.specs.Exchange.{other_stand, after}
-use Rattle.cip_dictionary.specs.Operations.{Placed, Difference, placed, value_place, first_overflow}
-use Rattle.cip_dictionary.specs.MoveOperations.{first_line, step_operations, move_operations}
-use Rattle.cip_dictionary.specs.declared.moves.Move.{Move}
-use Rattle.cip_dictionary.specs.declared.moves.Move.TheVariants.{Exchange, Flip}
+use Rattle.cip_bland.specs.Box.{sides_at}
+use Rattle.cip_bland.specs.Tables.{least, first_of}
+use Rattle.cip_bland.specs.Dictionary.{Dictionary, size, stand, is_basic, value, standing_value}
+use Rattle.cip_bland.specs.Exchange.{other_stand, after}
+use Rattle.cip_bland.specs.Operations.{Placed, Difference, placed, value_place, first_overflow}
+use Rattle.cip_bland.specs.MoveOperations.{first_line, step_operations, move_operations}
+use Rattle.cip_bland.specs.declared.moves.Move.{Move}
+use Rattle.cip_bland.specs.declared.moves.Move.TheVariants.{Exchange, Flip}
 use Rattle.cip_bland.specs.Rule.{Way, way_of, move_by, least_outside, next}
 use Rattle.cip_bland.specs.declared.steps.Step.{Step}
 use Rattle.cip_bland.specs.declared.steps.Step.TheVariants.{Crossed, Infeasible, Optimum, Ray, Makes}

@@ -1,9 +1,9 @@
 -- No state comes twice in the list of moves from a state of a program: so it ends, whatever the limit.
 use Rattle.std.specs.Prelude.{◌≡◌, ◌≢◌, ℕ, suc, ◌+◌, ◌^◌, ◌<◌, ◌≤◌, None, length}
-use Rattle.cip_dictionary.specs.LinearProgram.{LinearProgram, IsProper}
-use Rattle.cip_dictionary.specs.Dictionary.{Dictionary, size, stand}
-use Rattle.cip_dictionary.specs.Exchange.{after}
-use Rattle.cip_dictionary.specs.declared.moves.Move.{Move}
+use Rattle.cip_bland.specs.LinearProgram.{LinearProgram, IsProper}
+use Rattle.cip_bland.specs.Dictionary.{Dictionary, size, stand}
+use Rattle.cip_bland.specs.Exchange.{after}
+use Rattle.cip_bland.specs.declared.moves.Move.{Move}
 use Rattle.cip_bland.specs.Rule.{next}
 use Rattle.cip_bland.specs.MoveList.{wide_move, Stops, Run, run, state_after}
 use Rattle.cip_bland.specs.EndAnswers.{Answer, LimitReached, answer}

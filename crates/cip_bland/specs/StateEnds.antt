@@ -1,8 +1,8 @@
 -- The ends that a state may be, whichever moves led to it, and whichever of several variables a rule looks at.
 use Rattle.std.specs.Prelude.{◌≡◌, ◌≢◌, ℕ, ◌<◌, Bool, true, false, None}
-use Rattle.cip_dictionary.specs.LinearProgram.{LinearProgram, IsProper}
-use Rattle.cip_dictionary.specs.Dictionary.{Dictionary, size}
-use Rattle.cip_dictionary.specs.declared.moves.Move.{Move}
+use Rattle.cip_bland.specs.LinearProgram.{LinearProgram, IsProper}
+use Rattle.cip_bland.specs.Dictionary.{Dictionary, size}
+use Rattle.cip_bland.specs.declared.moves.Move.{Move}
 use Rattle.cip_bland.specs.Rule.{is_crossed, is_outside, repairs, improves, way_of, next}
 use Rattle.cip_bland.specs.EndAnswers.{answer_at}
 use Rattle.cip_bland.specs.Statements.{IsStateOf, IsRight}

@@ -1,14 +1,14 @@
 -- The main laws, each as one statement: the functions of `src/lib.rt` have them as contracts.
 use Rattle.std.specs.Prelude.{◌≡◌, ◌≢◌, ℕ, ◌≤◌, ◌<◌, List, length, None, Some, slice_get, All, ⊤}
 use Rattle.cip_rational.specs.Rational.{ℚ, zeroℚ, ◌<ℚ◌}
-use Rattle.cip_dictionary.specs.LinearProgram.{LinearProgram, IsProper, IsPoint, HasNoPoint, IsOptimal, IsRay}
-use Rattle.cip_dictionary.specs.Aggregate.{Inequality, aggregate, bound_of, Empties}
-use Rattle.cip_dictionary.specs.Multipliers.{ArePartsOf}
-use Rattle.cip_dictionary.specs.Dictionary.{Dictionary, IsConsistent}
-use Rattle.cip_dictionary.specs.Exchange.{after, CanMove}
-use Rattle.cip_dictionary.specs.Statements.{KeepsSolutions}
-use Rattle.cip_dictionary.specs.ProgramState.{first_of_program}
-use Rattle.cip_dictionary.specs.declared.moves.Move.{Move}
+use Rattle.cip_bland.specs.LinearProgram.{LinearProgram, IsProper, IsPoint, HasNoPoint, IsOptimal, IsRay}
+use Rattle.cip_bland.specs.Aggregate.{Inequality, aggregate, bound_of, Empties}
+use Rattle.cip_bland.specs.Multipliers.{ArePartsOf}
+use Rattle.cip_bland.specs.Dictionary.{Dictionary, IsConsistent}
+use Rattle.cip_bland.specs.Exchange.{after, CanMove}
+use Rattle.cip_bland.specs.DictionaryStatements.{KeepsSolutions}
+use Rattle.cip_bland.specs.ProgramState.{first_of_program}
+use Rattle.cip_bland.specs.declared.moves.Move.{Move}
 use Rattle.cip_bland.specs.Rule.{next}
 use Rattle.cip_bland.specs.MoveList.{wide_move, Ending, Ends, Overflows, Stops, Run, run, state_after}
 use Rattle.cip_bland.specs.EndAnswers.{Certificate, parts_of, Answer, Optimal, NoPoint, Unbounded, OutOfRange, LimitReached, answer_at, answer_of, answer}

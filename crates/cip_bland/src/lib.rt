@@ -1,7 +1,11 @@
-//! Bland's rule for the simplex method: the next step at a state, the list of moves, and what its ends answer.
+//! Dictionaries of the simplex method, their exchanges and flips, and Bland's rule: the next step at a state, the list of
+//! moves, and what its ends answer.
 // Each function here does nothing. Its contract is one of the laws of the definitions, so that the check proves it.
 #![tactic(auto)]
 
+pub mod dictionaries;
+mod moves;
+mod places;
 mod steps;
 
 ghost use Rattle.cip_bland.specs.Examples.{Examples};
@@ -9,7 +13,8 @@ ghost use Rattle.cip_bland.specs.NoRepeat.{ListsEnd, AnswersEnd};
 ghost use Rattle.cip_bland.specs.StateEnds.{EndsAreSound, NamedEndsAreEnds};
 ghost use Rattle.cip_bland.specs.Statements.{FirstIsState, MovesCanBeMade, StepsAreSound, RunsAreRight, AnswersAreRight};
 
-pub use cip_dictionary::{Move, Stand};
+pub use moves::{Move, Stand};
+pub use places::{EntryPlace, Line};
 pub use steps::{Heading, Step};
 
 /// The first state of a linear program is one of its states: it is consistent, and has its solutions and its cost.

@@ -1,5 +1,5 @@
 //! Which way values go, and what Bland's rule says at a state of the simplex method.
-use cip_dictionary::Move;
+use crate::Move;
 
 /// Which way a value goes.
 #[derive(Clone, Copy, PartialEq, Eq)]

@@ -26,11 +26,11 @@ use Rattle.cip_block_rules.proofs.BlockNumbers.{within, within_below, below_with
 
 -- ---- tests
 
-not_false : (b : Bool) → not b ≡ false → b ≡ true
+pub not_false : (b : Bool) → not b ≡ false → b ≡ true
 not_false true e = refl
 not_false false e = absurd (cc)
 
-not_true : (b : Bool) → not b ≡ true → b ≡ false
+pub not_true : (b : Bool) → not b ≡ true → b ≡ false
 not_true false e = refl
 not_true true e = absurd (cc)
 
@@ -38,11 +38,11 @@ false_not : (b : Bool) → b ≡ false → not b ≡ true
 false_not false e = refl
 false_not true e = absurd (cc)
 
-block_is : (b : ℕ) (o : Option ℕ) → is_block b o ≡ true → o ≡ Some b
+pub block_is : (b : ℕ) (o : Option ℕ) → is_block b o ≡ true → o ≡ Some b
 block_is b None e = absurd (cc)
 block_is b (Some c) e = ap Some (eqb-true c b e)
 
-is_this : (b : ℕ) (o : Option ℕ) → o ≡ Some b → is_block b o ≡ true
+pub is_this : (b : ℕ) (o : Option ℕ) → o ≡ Some b → is_block b o ≡ true
 is_this b None e = absurd (cc)
 is_this b (Some c) e = let q : c ≡ b = cc in eq-eqb c b q
 
@@ -297,7 +297,7 @@ abbrev facts_at : WordPlace → Option ℕ → List ℕ → List NamedRow → Bl
 facts_at place count begun named = record { place = place; count = count; begun = begun; named = named }
 
 -- no rule of a word is broken
-abbrev NoneBroken : Program → BlockFacts → WordSaying → Type 0
+abbrev pub NoneBroken : Program → BlockFacts → WordSaying → Type 0
 NoneBroken program facts now = AllByRecursion (λ r. r.broken ≡ false) (block_rules program facts now)
 
 opens_fits : (program : Program) (place : WordPlace) (count : Option ℕ) (begun : List ℕ) (named : List NamedRow) (keyword : Keyword) → NoneBroken program (facts_at place count begun named) (Opens keyword) → Fits program (facts_at place count begun named) → Fits program (blocks_with_saying (facts_at place count begun named) (Opens keyword))

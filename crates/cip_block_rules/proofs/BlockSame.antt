@@ -1,7 +1,7 @@
 -- The places of rows and the marks of blocks stand for what the words have said.
 use Rattle.std.proofs.Common.{◌≡◌, ℕ, zero, suc, ◌+◌, ◌<◌, ◌==◌, Bool, true, false, cond, not, ◌||◌, List, [], ◌∷◌, ◌++◌, length, map, Option, None, Some, refl, sym, ap, subst, ◌∙◌, set, arith}
 use Rattle.std.specs.Prelude.{is_none, unwrap_or, replicate, nat_lt, if◌then◌else◌}
-use Rattle.std.specs.List.{AllByRecursion, list_any}
+use Rattle.std.specs.List.{list_any}
 use Rattle.std.specs.Str.{bytes_eq}
 use Rattle.std.proofs.lemmas.List.Folds.{list_any-append}
 use Rattle.std.proofs.lemmas.Bool.{ltb-true, lt-ltb, eq-eqb, eqb-true, false_from_ne_true}
@@ -11,8 +11,8 @@ use Rattle.cip_mps_rules.specs.MpsWords.{next, number_in, is_in, meaning_in}
 use Rattle.cip_mps_rules.specs.MpsRules.{least}
 use Rattle.cip_mps_rules.proofs.Quiet.{kept, left_false}
 use Rattle.cip_mps_rules.proofs.MpsNames.{bytes_same, bytes_self, bytes_flip}
-use Rattle.cip_mps_steps.specs.MpsSteps.{changed}
-use Rattle.cip_mps_steps.proofs.LookUps.{AreApart, changed_map, is_in-cons}
+use Rattle.cip_mps_rules.specs.MpsSteps.{changed}
+use Rattle.cip_mps_rules.proofs.LookUps.{AreApart, changed_map, is_in-cons}
 use Rattle.cip_line_texts.proofs.LineSame.{StandsFor}
 use Rattle.cip_block_rules.specs.BlockWords.{Keyword, WordPlace, KeywordDue, ZeroDue, CountDue, BlockDue, NamesOf, WordSaying, Opens, OutOfPlace, Zero, Count, Number, RowName, keywords, meaning_said, word_said, from_zero}
 use Rattle.cip_problem.specs.BlockParts.{numbers_from, has_number, is_linking, is_open, blocks_of}
@@ -20,7 +20,7 @@ use Rattle.cip_problem.specs.NamesOnce.{StandOnce}
 use Rattle.cip_block_rules.specs.NamedRows.{NamedRow, is_named, block_named, row_blocks}
 use Rattle.cip_block_rules.specs.BlockRules.{BlockFacts, block_rules, block_fault, block_facts_with, is_no_block, is_bad_word, begun_in, begun_with, count_with, named_with, block_count, block_end_rules, lacks_zero, lacks_count, lacks_number, lacks_block, block_reading}
 use Rattle.cip_block_rules.proofs.BlockNumbers.{within, within_below, below_within, part_of}
-use Rattle.cip_block_rules.proofs.BlockLaws.{PlaceFits, Fits, fits_first, fits_next}
+use Rattle.cip_block_rules.proofs.BlockLaws.{PlaceFits, Fits, fits_first, fits_next, not_false, NoneBroken}
 use Rattle.cip_block_rules.specs.BlockSteps.{RowPlace, Unnamed, place_of, block_at, is_placed, BlockState, is_taken, row_place, block_tests, begin_block, begun_after, put_row, rows_after, state_with, count_of, blocks_at, block_end_tests, block_steps}
 
 -- ---- what is kept
@@ -186,10 +186,6 @@ mark_at begun a (suc n) (suc k) h =
     add_suc : (m j : ℕ) → (m + 1) + j ≡ m + suc j
     add_suc m j = omega arith
 
-not_false : (b : Bool) → not b ≡ false → b ≡ true
-not_false true e = refl
-not_false false e = absurd (cc)
-
 free_below : (n : ℕ) (begun : List ℕ) (k : ℕ) → is_no_block n begun (Some k) ≡ false → k < n
 free_below n begun k e = ltb-true k n (not_false (nat_lt k n) (left_false (not (nat_lt k n)) (has_number begun k) e))
 
@@ -225,10 +221,6 @@ count_new None ZeroDue count word number f e = absurd (go _ e)
 count_new None CountDue count word number f e = f
 count_new None BlockDue count word number f e = absurd (cc)
 count_new None (NamesOf block) count word number f e = absurd (cc)
-
--- no rule of a word is broken
-abbrev NoneBroken : Program → BlockFacts → WordSaying → Type 0
-NoneBroken program facts now = AllByRecursion (λ r. r.broken ≡ false) (block_rules program facts now)
 
 -- the parts of a state that aren't those of the facts
 record Follows (program : Program) (facts : BlockFacts) (state : BlockState) (now : WordSaying) : Type 0 where

@@ -12,6 +12,7 @@ use Rattle.cip_mps_rules.proofs.Quiet.{left_false, right_false, or_false}
 use Rattle.cip_problem.specs.BlockParts.{numbers_from, has_number, is_block, stands_on, has_entry, is_column_of, blocks_with, is_linking}
 use Rattle.cip_block_rules.proofs.BlockNumbers.{within, within_below, below_within, passes_below, passes_item, chosen, none_of, not_empty, one_number, or_second, both_left, both_right, both, EntryAt, entry_found}
 use Rattle.cip_block_rules.specs.BlockOwners.{Owners, no_owners, owner_at, owned_at, entry_owned, row_owned, owners_from, owners_of, OwnersTell}
+use Rattle.cip_block_rules.proofs.BlockLaws.{not_false, not_true, block_is, is_this}
 
 -- ---- what the owners are, by the entries that were met
 
@@ -60,14 +61,6 @@ tells_same n met other owners same t = record {
 or_left : (a b : Bool) → a ≡ true → (a || b) ≡ true
 or_left true b e = refl
 or_left false b e = absurd (cc)
-
-not_false : (b : Bool) → not b ≡ false → b ≡ true
-not_false true e = refl
-not_false false e = absurd (cc)
-
-not_true : (b : Bool) → not b ≡ true → b ≡ false
-not_true false e = refl
-not_true true e = absurd (cc)
 
 and_false : (a b : Bool) → b ≡ false → (a && b) ≡ false
 and_false true b e = e
@@ -255,14 +248,6 @@ program_tells : (program : Program) (bs : List (Option ℕ)) → All (λ row. St
 program_tells program bs s = rows_tell (columns program) bs program.rows (λ b j. false) (no_owners (columns program)) s (first_tells (columns program))
 
 -- ---- blocks of a column
-
-block_is : (b : ℕ) (o : Option ℕ) → is_block b o ≡ true → o ≡ Some b
-block_is b None e = absurd (cc)
-block_is b (Some c) e = ap Some (eqb-true c b e)
-
-is_this : (b : ℕ) (o : Option ℕ) → o ≡ Some b → is_block b o ≡ true
-is_this b None e = absurd (cc)
-is_this b (Some c) e = let q : c ≡ b = cc in eq-eqb c b q
 
 -- a block with an entry is among so many
 block_within : (program : Program) (count : ℕ) (bs : List (Option ℕ)) → All (λ o. IfSome o (λ b. b < count)) bs → (b j : ℕ) → is_column_of program bs b j ≡ true → within count b ≡ true

@@ -1,5 +1,5 @@
 -- What a state keeps behind words without fault.
-use Rattle.std.proofs.Common.{◌≡◌, ℕ, zero, suc, ◌<◌, Bool, true, false, cond, not, List, [], ◌∷◌, length, Option, None, Some, refl, subst, ◌∙◌, arith, lit≤}
+use Rattle.std.proofs.Common.{◌≡◌, ℕ, zero, suc, ◌<◌, Bool, true, false, cond, List, [], ◌∷◌, length, Option, None, Some, refl, subst, ◌∙◌, arith, lit≤}
 use Rattle.std.specs.Prelude.{is_some, unwrap_or, nat_lt, nat_le, All, IfSome, slice_index_or}
 use Rattle.std.specs.List.{AllByRecursion}
 use Rattle.std.specs.Str.{bytes_eq}
@@ -16,6 +16,7 @@ use Rattle.cip_problem.specs.BlockParts.{most_blocks}
 use Rattle.cip_block_rules.proofs.BlockNumbers.{both_right}
 use Rattle.cip_block_rules.specs.BlockSteps.{RowPlace, Unnamed, place_of, block_at, BlockState, no_state, is_taken, block_tests, begin_block, put_row, state_with}
 use Rattle.cip_block_rules.specs.BlockStepStatements.{IsSoundBlockState}
+use Rattle.cip_block_rules.proofs.BlockLaws.{not_false}
 
 -- the block of a row is among so many
 abbrev IsBelow : ℕ → RowPlace → Type 0
@@ -39,10 +40,6 @@ state_at place count begun rows = record { place = place; count = count; begun =
 -- no test of a word is failed
 abbrev NoneFails : Program → BlockState → WordSaying → Type 0
 NoneFails program state now = AllByRecursion (λ r. r.broken ≡ false) (block_tests program state now)
-
-not_false : (b : Bool) → not b ≡ false → b ≡ true
-not_false true e = refl
-not_false false e = absurd (cc)
 
 opens_sound : (program : Program) (place : WordPlace) (count : Option ℕ) (begun : List Bool) (rows : List RowPlace) (keyword : Keyword) → NoneFails program (state_at place count begun rows) (Opens keyword) → IsSoundBlockState program (state_at place count begun rows) → IsSoundBlockState program (state_with program (state_at place count begun rows) (Opens keyword))
 opens_sound program place count begun rows Presolved t s = record { rows = s.rows; begun = s.begun; few = s.few; place = tt; below = s.below }

@@ -5,7 +5,7 @@ use lib.Chars.{codes}
 use Rattle.std.specs.Prelude.{ℕ, zero, suc, if◌then◌else◌, List, [], ◌∷◌, Option, None, Some}
 use Rattle.std.specs.Str.{bytes_eq}
 use Rattle.cip_line_texts.specs.Lines.{Record, record_of}
-use Rattle.cip_number_text.specs.Numeral.{are_digits, digits_value}
+use Rattle.cip_rational.specs.Numeral.{are_digits, digits_value}
 use Rattle.cip_mps_rules.specs.MpsWords.{Word, meaning_in}
 use Rattle.cip_line_texts.specs.LineTexts.{words_in}
 

@@ -6,4 +6,4 @@ pub mod block_examples;
 pub mod block_steps;
 pub mod blocks;
 
-pub use cip_mps_steps::numbers_are_of_names;
+pub use cip_mps_rules::step_laws::numbers_are_of_names;

@@ -4,7 +4,7 @@ use Rattle.std.specs.Prelude.{fold, replicate, slice_index_or, nat_lt, is_none}
 use Rattle.std.specs.List.{list_all}
 use Rattle.std.proofs.lemmas.Bool.{ltb-true}
 use Rattle.cip_problem.specs.Program.{Program}
-use Rattle.cip_number_text.specs.Numeral.{digits_value}
+use Rattle.cip_rational.specs.Numeral.{digits_value}
 use Rattle.cip_text.proofs.DigitLists.{after_more}
 use Rattle.cip_mps_rules.specs.MpsWords.{number_in}
 use Rattle.cip_mps_rules.specs.MpsRules.{least}

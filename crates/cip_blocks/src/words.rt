@@ -2,7 +2,7 @@
 ghost use Rattle.std.specs.Prelude.{◌≡◌, ◌+◌, ◌*◌, ◌-◌, ◌≤◌, min, option_map};
 ghost use Rattle.std.specs.Char.{is_ascii_digit};
 ghost use Rattle.std.specs.List.{list_all};
-ghost use Rattle.cip_number_text.specs.Numeral.{are_digits, digits_value};
+ghost use Rattle.cip_rational.specs.Numeral.{are_digits, digits_value};
 ghost use Rattle.cip_mps_rules.specs.MpsWords.{meaning_in};
 ghost use Rattle.cip_block_rules.specs.BlockWords.{keywords, number_word};
 ghost use Rattle.cip_blocks.specs.SmallNumbers.{small};

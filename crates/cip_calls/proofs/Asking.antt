@@ -4,10 +4,10 @@ use Rattle.std.proofs.lemmas.List.Folds.{sum_by-replicate}
 use Rattle.std.proofs.lemmas.List.Sums.{sum_by-append}
 use Rattle.cip_plugin.specs.Asking.{first_part}
 use Rattle.cip_plugin.specs.Calls.{Ask, Separate, Propagate, Price, Search, Branch, Enforce, OnEvent, Answer, Cuts, Reductions, Prices, Guesses, Splits, Says, Wishes, NoAnswer, Call, Init, InitSolve, Asked, ExitSolve, Exit}
-use Rattle.cip_seats.specs.Steps.{calls_of}
-use Rattle.cip_seats.specs.Calling.{is_answer, noted, turn_of, all_turns, given_of}
-use Rattle.cip_seats.proofs.Hearing.{noted_quiet}
-use Rattle.cip_seats.proofs.Running.{calls_of-append}
+use Rattle.cip_plugin.specs.Steps.{calls_of}
+use Rattle.cip_plugin.specs.Calling.{is_answer, noted, turn_of, all_turns, given_of}
+use Rattle.cip_plugin.proofs.Hearing.{noted_quiet}
+use Rattle.cip_plugin.proofs.Running.{calls_of-append}
 use Rattle.cip_calls.specs.Served.{count_for, handed_out}
 use Rattle.cip_calls.specs.Asked.{proposers, count_of}
 

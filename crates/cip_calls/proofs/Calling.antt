@@ -7,14 +7,14 @@ use Rattle.cip_plugin.specs.Calls.{Ask, Separate, Propagate, Search, Branch, Enf
 use Rattle.cip_plugin.specs.declared.asking.Given.{Given}
 use Rattle.cip_plugin.specs.declared.kinds.Kind.{Kind}
 use Rattle.cip_plugin.specs.declared.kinds.Kind.TheVariants as kinds
-use Rattle.cip_seats.specs.Seats.{Seat, State, is_on, is_settled}
-use Rattle.cip_seats.specs.Steps.{Step, Runs, calls_of, asks_in}
-use Rattle.cip_seats.specs.Calling.{same_kind, is_ready, is_answer, turn_of, all_turns, given_of}
+use Rattle.cip_plugin.specs.Seats.{Seat, State, is_on, is_settled}
+use Rattle.cip_plugin.specs.Steps.{Step, Runs, calls_of, asks_in}
+use Rattle.cip_plugin.specs.Calling.{same_kind, is_ready, is_answer, turn_of, all_turns, given_of}
 use Rattle.cip_events.specs.declared.events.Event.{Event}
-use Rattle.cip_seats.specs.Delivering.{Delivered}
-use Rattle.cip_seats.specs.Wishing.{raised_in}
-use Rattle.cip_seats.proofs.Hearing.{asks_in-append, asked_once}
-use Rattle.cip_seats.proofs.Running.{calls_of-append, Runs-append}
+use Rattle.cip_plugin.specs.Delivering.{Delivered}
+use Rattle.cip_plugin.specs.Wishing.{raised_in}
+use Rattle.cip_plugin.proofs.Hearing.{asks_in-append, asked_once}
+use Rattle.cip_plugin.proofs.Running.{calls_of-append, Runs-append}
 use Rattle.cip_roster.specs.Nexts.{CalledNext}
 use Rattle.cip_roster.specs.KeptRankings.{Room}
 use Rattle.cip_roster.specs.Turns.{IsSound, CalledKind, CalledBoth, HandsOn, HadTurn, handed}

@@ -1,10 +1,16 @@
 pub mod Asking
 pub mod Calling
+pub mod ComingBack
+pub mod Going
+pub mod LentRows
 pub mod Noting
 pub mod PassedOn
 pub mod Pools
+pub mod RowsTold
 pub mod Said
 pub mod Serving
+pub mod SidesJudged
 pub mod SoFar
-pub mod TurnsPassedOn
+pub mod SplitCutsTold
+pub mod SplitParts
 pub mod Waiting

@@ -8,21 +8,21 @@ use Rattle.cip_plugin.specs.Calls.{Ask, Answer}
 use Rattle.cip_plugin.specs.declared.asking.Given.{Given}
 use Rattle.cip_problem.specs.Program.{Program}
 use Rattle.cip_problem.specs.WellFormed.{columns}
-use Rattle.cip_seats.specs.Seats.{Seat, State}
-use Rattle.cip_seats.specs.Steps.{Notes, Runs, calls_of}
-use Rattle.cip_seats.proofs.Lists.{set_self}
-use Rattle.cip_seats.proofs.Running.{calls_of-append, Runs-append}
+use Rattle.cip_plugin.specs.Seats.{Seat, State}
+use Rattle.cip_plugin.specs.Steps.{Notes, Runs, calls_of}
+use Rattle.cip_plugin.proofs.Lists.{set_self}
+use Rattle.cip_plugin.proofs.Running.{calls_of-append, Runs-append}
 use Rattle.cip_roster.specs.KeptRankings.{Room}
 use Rattle.cip_roster.specs.Turns.{IsSound}
 use Rattle.cip_roster.specs.Wished.{Ran}
 use Rattle.cip_roster.proofs.Turning.{seat_stays}
 use Rattle.cip_tree.specs.Nodes.{TakenNode}
-use Rattle.cip_judge.specs.CoreStates.{CoreState, reduced_of}
-use Rattle.cip_judge.specs.Later.{IsLaterAt}
-use Rattle.cip_judge.proofs.PassedOn.{later_at_itself, later_at_further}
-use Rattle.cip_judge.specs.ProposalsJudged.{HaveRoom}
-use Rattle.cip_judge.specs.declared.judged.Judged.{Judged}
-use Rattle.cip_judge.specs.declared.scratches.Scratches.{Scratches}
+use Rattle.cip_calls.specs.CoreStates.{CoreState, reduced_of}
+use Rattle.cip_calls.specs.Later.{IsLaterAt}
+use Rattle.cip_core.proofs.Relations.{later_at_itself, later_at_further}
+use Rattle.cip_calls.specs.ProposalsJudged.{HaveRoom}
+use Rattle.cip_calls.specs.declared.judged.Judged.{Judged}
+use Rattle.cip_calls.specs.declared.scratches.Scratches.{Scratches}
 use Rattle.cip_calls.specs.Served.{count_for}
 use Rattle.cip_calls.specs.Asked.{told, proposers}
 use Rattle.cip_calls.proofs.Asking.{proposers-append}

@@ -4,19 +4,19 @@ use Rattle.std.specs.Prelude.{MatchResult}
 use Rattle.cip_rational.specs.Rational.{ℚ}
 use Rattle.cip_lin.specs.declared.combos.Combo.{Combo}
 use Rattle.cip_lin.specs.declared.sides.Side.{Side}
-use Rattle.cip_judge.specs.PoolRow.{PoolRow}
-use Rattle.cip_judge.specs.SplitCut.{SplitCut}
-use Rattle.cip_judge.specs.RowPools.{Pool}
+use Rattle.cip_calls.specs.PoolRow.{PoolRow}
+use Rattle.cip_calls.specs.SplitCut.{SplitCut}
+use Rattle.cip_calls.specs.RowPools.{Pool}
 use Rattle.cip_plugin.specs.declared.proposals.Cut.{Cut}
 use Rattle.cip_tree.specs.Nodes.{TakenNode, region_of}
-use Rattle.cip_judge.specs.CoreStates.{CoreState}
-use Rattle.cip_judge.specs.ProposalsJudged.{IsCutBy, IsJudgedCut}
-use Rattle.cip_judge.specs.ReductionsJudged.{IsAfterReduction}
-use Rattle.cip_judge.specs.RowsJudged.{IsRowJudged}
-use Rattle.cip_judge.specs.SplitCutsJudged.{IsCutJudged}
-use Rattle.cip_judge.specs.declared.judged.JudgeFault.TheVariants as fault
-use Rattle.cip_judge.specs.declared.judged.Judged.{Judged}
-use Rattle.cip_judge.specs.declared.judged.Judged.TheVariants as judged
+use Rattle.cip_calls.specs.CoreStates.{CoreState}
+use Rattle.cip_calls.specs.ProposalsJudged.{IsCutBy, IsJudgedCut}
+use Rattle.cip_calls.specs.ReductionsJudged.{IsAfterReduction}
+use Rattle.cip_calls.specs.RowsJudged.{IsRowJudged}
+use Rattle.cip_calls.specs.SplitCutsJudged.{IsCutJudged}
+use Rattle.cip_calls.specs.declared.judged.JudgeFault.TheVariants as fault
+use Rattle.cip_calls.specs.declared.judged.Judged.{Judged}
+use Rattle.cip_calls.specs.declared.judged.Judged.TheVariants as judged
 use Rattle.cip_calls.specs.Noted.{HasMoreRows, IsSameNode}
 use Rattle.cip_calls.specs.declared.asks.Round.TheVariants as rounds
 use Rattle.cip_calls.specs.declared.judging.Came.{Came}

@@ -1,5 +1,5 @@
 -- Plugins that are on throughout are served, by one part of the work on a node and by one after the other.
-use Rattle.std.proofs.Common.{◌≡◌, ℕ, ◌+◌, List, [], ◌∷◌, ◌++◌, map, Some, Bool, true, false, eqb, cond, sym, ◌∙◌, ap, subst, refl, arith, zero-add, add-zero, append-nil, All}
+use Rattle.std.proofs.Common.{◌≡◌, ◌≢◌, ℕ, ◌+◌, List, [], ◌∷◌, ◌++◌, map, Some, Bool, true, false, eqb, cond, sym, ◌∙◌, ap, subst, refl, arith, zero-add, add-zero, append-nil, All}
 use Rattle.std.specs.Prelude.{slice_get, slice_index_or, Result, Ok, Err, IfOk, OnOk}
 use Rattle.std.proofs.lemmas.List.{map-append}
 use Rattle.std.proofs.lemmas.List.Sums.{sum_by-cons}
@@ -10,23 +10,24 @@ use Rattle.cip_events.specs.declared.events.Event.{Event}
 use Rattle.cip_plugin.specs.Asking.{asks}
 use Rattle.cip_plugin.specs.Calls.{Ask, Separate, Propagate, Price, Search, Branch, Enforce, OnEvent, Answer, Call, Init, InitSolve, Asked, ExitSolve, Exit}
 use Rattle.cip_plugin.specs.declared.kinds.Kind.{Kind}
-use Rattle.cip_seats.specs.Seats.{Seat, State, is_settled}
-use Rattle.cip_seats.specs.Steps.{Step, Runs, calls_of, asks_in}
-use Rattle.cip_seats.specs.Wishing.{IsOnThroughout, hears, to_each}
-use Rattle.cip_seats.proofs.Hearing.{asks_in-append}
-use Rattle.cip_seats.proofs.Onward.{Later}
-use Rattle.cip_seats.proofs.Running.{calls_of-append, Runs-append, run_follows}
-use Rattle.cip_seats.proofs.Telling.{all_parts}
+use Rattle.cip_plugin.specs.Seats.{Seat, State, is_settled}
+use Rattle.cip_plugin.specs.Steps.{Step, Runs, calls_of, asks_in}
+use Rattle.cip_plugin.specs.Wishing.{IsOnThroughout, hears, to_each}
+use Rattle.cip_plugin.proofs.Hearing.{asks_in-append}
+use Rattle.cip_plugin.proofs.Onward.{Later}
+use Rattle.cip_plugin.proofs.Running.{calls_of-append, Runs-append, run_follows}
+use Rattle.cip_plugin.proofs.Telling.{all_parts}
 use Rattle.cip_roster.specs.Wished.{Ran}
 use Rattle.cip_roster.proofs.Keeping.{at_place}
 use Rattle.cip_roster.proofs.Throughout.{on_between, on_lives, hears_later}
-use Rattle.cip_judge.specs.declared.judged.Judged.{Judged}
+use Rattle.cip_calls.specs.declared.judged.Judged.{Judged}
 use Rattle.cip_calls.specs.Served.{handed_out, judged_of, is_wanted, IsServed, Used}
 use Rattle.cip_calls.specs.Asked.{ask_in, proposers, count_of, HasAsked, HasTold}
 use Rattle.cip_calls.specs.declared.asks.Round.{Round}
 use Rattle.cip_calls.specs.declared.asks.Round.TheVariants as round
+use Rattle.cip_calls.specs.declared.judging.Came.{Came}
 use Rattle.cip_calls.specs.declared.judging.Came.TheVariants as ends
-use Rattle.cip_calls.specs.Noted.{HasNoted, makers}
+use Rattle.cip_calls.specs.Noted.{HasNoted, HasJudged, makers}
 use Rattle.cip_calls.proofs.Asking.{count_more, handed-append}
 
 -- ---- one part after the other
@@ -267,6 +268,20 @@ focus_used false events waits event a b h m none some used = told_last events wa
 pub if_ok : {A E : Type 0} (r : Result A E) (P Q : A → Type 0) → ((x : A) → P x → Q x) → IfOk r P → IfOk r Q
 if_ok (Ok x) P Q so h = so x h
 if_ok (Err e) P Q so h = tt
+
+pub all_ok : {A E : Type 0} (r : Result A E) (P : A → Type 0) → ((x : A) → P x) → IfOk r P
+all_ok (Ok x) P h = h x
+all_ok (Err e) P h = tt
+
+-- where none showed that the node is empty
+pub never_empty : {E : Type 0} (r : Result Came E) (P : Type 0) → IfOk r (λ came. came ≢ ends.Emptied) → IfOk r (λ came. came ≡ ends.Emptied → P)
+never_empty (Ok came) P h = λ e. absurd (h e)
+never_empty (Err e) P h = tt
+
+-- all that a plugin gave was judged
+pub judged_open : {E : Type 0} (r : Result Came E) (id m n : ℕ) (had has : List (ℕ × Judged)) → m ≡ n → OnOk r (HasJudged id m had has) → IfOk r (λ came. came ≢ ends.Emptied → HasJudged id n had has)
+judged_open (Ok came) id m n had has e h = λ other. subst (λ k. HasJudged id k had has) e h
+judged_open (Err error) id m n had has e h = tt
 
 -- the same, by what is known first
 pub then_ok : {A E : Type 0} (r : Result A E) (P Q : A → Type 0) → IfOk r P → ((x : A) → P x → Q x) → IfOk r Q

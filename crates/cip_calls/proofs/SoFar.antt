@@ -6,13 +6,13 @@ use Rattle.cip_plugin.specs.Asking.{asks}
 use Rattle.cip_plugin.specs.Calls.{Ask, Call}
 use Rattle.cip_plugin.specs.declared.asking.Given.{Given}
 use Rattle.cip_search.proofs.Members.{none_in}
-use Rattle.cip_seats.specs.declared.keys.Key.{Key}
-use Rattle.cip_seats.specs.Seats.{Seat, State, is_on}
-use Rattle.cip_seats.specs.Steps.{Step, Runs, calls_of, asks_in}
+use Rattle.cip_plugin.specs.declared.keys.Key.{Key}
+use Rattle.cip_plugin.specs.Seats.{Seat, State, is_on}
+use Rattle.cip_plugin.specs.Steps.{Step, Runs, calls_of, asks_in}
 use Rattle.cip_calls.specs.Wished.{Ran}
-use Rattle.cip_seats.proofs.Hearing.{asks_in-append}
-use Rattle.cip_seats.proofs.Running.{calls_of-append, Runs-append}
-use Rattle.cip_calls.specs.Judged.{Judged}
+use Rattle.cip_plugin.proofs.Hearing.{asks_in-append}
+use Rattle.cip_plugin.proofs.Running.{calls_of-append, Runs-append}
+use Rattle.cip_calls.specs.declared.judged.Judged.{Judged}
 use Rattle.cip_calls.specs.Asked.{count_of, proposers, told_next}
 use Rattle.cip_calls.specs.Noted.{HasNoted, HasJudged, makers}
 use Rattle.cip_calls.specs.Served.{handed_out, judged_of, is_wanted, Used}

@@ -20,11 +20,11 @@ use Rattle.cip_plugin.specs.Calls.{Ask, Answer, Call, Asked}
 use Rattle.cip_plugin.specs.declared.asking.Given.{Given}
 use Rattle.cip_plugin.specs.declared.kinds.Kind.{Kind}
 use Rattle.cip_search.proofs.Members.{here, later, is_kept, kept_passes, kept_was_there}
-use Rattle.cip_seats.specs.declared.keys.Key.{Key}
-use Rattle.cip_seats.specs.Calling.{is_ready, keys_from, same_kind, noted, turn_of, all_turns}
-use Rattle.cip_seats.specs.Ranks.{decided_by, rank_order}
-use Rattle.cip_seats.specs.Seats.{Seat, State, is_on, is_playing}
-use Rattle.cip_seats.specs.Steps.{Step, calls_of, asks_in}
+use Rattle.cip_plugin.specs.declared.keys.Key.{Key}
+use Rattle.cip_plugin.specs.Calling.{is_ready, keys_from, same_kind, noted, turn_of, all_turns}
+use Rattle.cip_plugin.specs.Ranks.{decided_by, rank_order}
+use Rattle.cip_plugin.specs.Seats.{Seat, State, is_on, is_playing}
+use Rattle.cip_plugin.specs.Steps.{Step, calls_of, asks_in}
 use Rattle.cip_roster.specs.Nexts.{IsNext, AskedNext, CalledNext, is_behind, key_at, key_of}
 use Rattle.cip_roster.specs.Turns.{HadTurn}
 use Rattle.cip_roster.proofs.Calm.{Face, face, run_calm, turn_calm}

@@ -4,9 +4,9 @@ use Rattle.cip_events.specs.declared.events.Event.{Event}
 use Rattle.cip_plugin.specs.Asking.{asks, answer_of}
 use Rattle.cip_plugin.specs.Calls.{Ask, Separate, Propagate, Search, Branch, Enforce, Answer}
 use Rattle.cip_plugin.specs.declared.asking.Given.{Given}
-use Rattle.cip_seats.specs.Seats.{Seat, State}
-use Rattle.cip_seats.specs.Steps.{Step, Runs, calls_of, asks_in}
-use Rattle.cip_seats.specs.Wishing.{IsOnThroughout, to_each}
+use Rattle.cip_plugin.specs.Seats.{Seat, State}
+use Rattle.cip_plugin.specs.Steps.{Step, Runs, calls_of, asks_in}
+use Rattle.cip_plugin.specs.Wishing.{IsOnThroughout, to_each}
 use Rattle.cip_calls.specs.Served.{count_for, handed_out}
 use Rattle.cip_calls.specs.declared.asks.Round.{Round}
 use Rattle.cip_calls.specs.declared.asks.Round.TheVariants as round

@@ -1,8 +1,8 @@
 -- How the uses of plugins in the parts of the work on a node are one.
 use Rattle.std.specs.Prelude.{◌≡◌, ℕ, List, [], ◌++◌, All, true}
 use Rattle.cip_plugin.specs.Calls.{Ask}
-use Rattle.cip_seats.specs.Seats.{State, is_settled}
-use Rattle.cip_judge.specs.declared.judged.Judged.{Judged}
+use Rattle.cip_plugin.specs.Seats.{State, is_settled}
+use Rattle.cip_calls.specs.declared.judged.Judged.{Judged}
 use Rattle.cip_calls.specs.Served.{Used}
 
 -- one part after the other asks what both ask; what asks more asks each of its parts; and no step asks nothing

@@ -1,19 +1,19 @@
 -- What a round of proposals keeps, and what it writes.
 use Rattle.std.specs.Prelude.{◌≡◌, ℕ, List, [], ◌++◌, map, replicate}
 use Rattle.cip_problem.specs.WellFormed.{columns}
-use Rattle.cip_judge.specs.PoolRow.{PoolRow}
-use Rattle.cip_judge.specs.RowPools.{Pool}
-use Rattle.cip_seats.specs.Seats.{State}
-use Rattle.cip_seats.specs.Steps.{Step, Runs, calls_of}
+use Rattle.cip_calls.specs.PoolRow.{PoolRow}
+use Rattle.cip_calls.specs.RowPools.{Pool}
+use Rattle.cip_plugin.specs.Seats.{State}
+use Rattle.cip_plugin.specs.Steps.{Step, Runs, calls_of}
 use Rattle.cip_roster.specs.KeptRankings.{Room}
 use Rattle.cip_roster.specs.Turns.{IsSound}
 use Rattle.cip_roster.specs.Wished.{Ran}
 use Rattle.cip_tree.specs.Nodes.{TakenNode, region_of}
-use Rattle.cip_judge.specs.CoreStates.{CoreState, reduced_of, IsAtWork}
-use Rattle.cip_judge.specs.Later.{IsLaterAt}
-use Rattle.cip_judge.specs.ProposalsJudged.{HaveRoom}
-use Rattle.cip_judge.specs.declared.judged.Judged.{Judged}
-use Rattle.cip_judge.specs.declared.scratches.Scratches.{Scratches}
+use Rattle.cip_calls.specs.CoreStates.{CoreState, reduced_of, IsAtWork}
+use Rattle.cip_calls.specs.Later.{IsLaterAt}
+use Rattle.cip_calls.specs.ProposalsJudged.{HaveRoom}
+use Rattle.cip_calls.specs.declared.judged.Judged.{Judged}
+use Rattle.cip_calls.specs.declared.scratches.Scratches.{Scratches}
 
 -- a node is in work, and there is room for checks
 pub record IsReady (core : CoreState) (node : TakenNode) (scratches : Scratches) : Type 0 where

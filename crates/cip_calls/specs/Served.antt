@@ -4,10 +4,10 @@ use Rattle.std.specs.Prelude.{◌≡◌, ℕ, ◌+◌, ◌==◌, List, [], ◌�
 use Rattle.std.specs.List.{Contains}
 use Rattle.cip_plugin.specs.Asking.{asks, first_part}
 use Rattle.cip_plugin.specs.Calls.{Ask, Separate, Propagate, Price, Search, Branch, Enforce, OnEvent, Answer, Cuts, Reductions, Guesses, Splits, Says, Call, Asked}
-use Rattle.cip_seats.specs.Seats.{Seat, State}
-use Rattle.cip_seats.specs.Steps.{Step, Runs, calls_of, asks_in}
-use Rattle.cip_seats.specs.Wishing.{IsOnThroughout, hears}
-use Rattle.cip_judge.specs.declared.judged.Judged.{Judged}
+use Rattle.cip_plugin.specs.Seats.{Seat, State}
+use Rattle.cip_plugin.specs.Steps.{Step, Runs, calls_of, asks_in}
+use Rattle.cip_plugin.specs.Wishing.{IsOnThroughout, hears}
+use Rattle.cip_calls.specs.declared.judged.Judged.{Judged}
 
 -- ---- proposals
 

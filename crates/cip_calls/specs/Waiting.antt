@@ -4,10 +4,10 @@ use Rattle.std.specs.List.{Contains, filter}
 use Rattle.cip_plugin.specs.Asking.{asks}
 use Rattle.cip_plugin.specs.Calls.{Ask}
 use Rattle.cip_plugin.specs.declared.asking.Given.{Given}
-use Rattle.cip_seats.specs.declared.keys.Key.{Key}
-use Rattle.cip_seats.specs.Calling.{keys_from}
-use Rattle.cip_seats.specs.Seats.{Seat, State, is_on}
-use Rattle.cip_seats.specs.Steps.{Step, calls_of, asks_in}
+use Rattle.cip_plugin.specs.declared.keys.Key.{Key}
+use Rattle.cip_plugin.specs.Calling.{keys_from}
+use Rattle.cip_plugin.specs.Seats.{Seat, State, is_on}
+use Rattle.cip_plugin.specs.Steps.{Step, calls_of, asks_in}
 use Rattle.cip_roster.specs.Nexts.{key_at, is_behind}
 use Rattle.cip_calls.specs.Asked.{HasAskedSome, told_next}
 

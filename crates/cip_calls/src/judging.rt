@@ -3,9 +3,9 @@ ghost use Rattle.std.specs.Prelude.{◌≡◌, ◌≢◌, ◌++◌, false, lengt
 ghost use Rattle.cip_plugin.specs.Asking.{answer_of};
 ghost use Rattle.cip_plugin.specs.Calls.{Separate, Propagate, Search};
 ghost use Rattle.cip_roster.specs.Turns.{IsSound};
-ghost use Rattle.cip_judge.specs.ProposalsJudged.{IsShownEmpty};
+ghost use Rattle.cip_calls.specs.ProposalsJudged.{IsShownEmpty};
 ghost use Rattle.cip_tree.specs.Nodes.{region_of};
-ghost use Rattle.cip_judge.specs.declared.judged.Judged.TheVariants.{Accepted as WasAccepted, Emptied as ShownEmpty};
+ghost use Rattle.cip_calls.specs.declared.judged.Judged.TheVariants.{Accepted as WasAccepted, Emptied as ShownEmpty};
 ghost use Rattle.cip_calls.specs.Asked.{ask_in, told as told_of, proposers, AreSeated};
 ghost use Rattle.cip_calls.specs.Noted.{IsReady, IsSameNode, HasGone, HasJudged, makers};
 ghost use Rattle.cip_calls.specs.Served.{count_for};
@@ -14,8 +14,8 @@ ghost use Rattle.cip_calls.specs.declared.judging.Came.TheVariants.{Quiet, Accep
 
 use crate::asks::{Asks, Round};
 use crate::plugins::{Plugins, keep_guess};
+use crate::{Core, Judged, Side, judge_cut, judge_guess, judge_reduction};
 use cip_events::{Event, EventKind};
-use cip_judge::{Core, Judged, Side, judge_cut, judge_guess, judge_reduction};
 use cip_lin::Sides;
 use cip_plugin::{Cut, Given, Guess, Reduction};
 use cip_tree::Node;
@@ -222,14 +222,14 @@ impl<R: Asks> Plugins<R> {
         Ok(came)
     }
 
-    /// Judges the cuts of a plugin, in their order; whether one was accepted.
+    /// Judges the cuts of a plugin, in their order; what came of them.
     fn take_cuts(
         &mut self,
         core: &mut Core<'_>,
         node: &Node,
         id: u32,
         cuts: &[Cut],
-    ) -> Result<bool, AllocError>
+    ) -> Result<Came, AllocError>
         requires ready { IsReady core.old node.now self.old.scratches }
         requires sound { IsSound (R.state self.old.roster) (R.room self.old.roster) }
         requires seat { IsSome (slice_get (R.state self.old.roster).seats id) }
@@ -237,24 +237,25 @@ impl<R: Asks> Plugins<R> {
             (R.state self.new.roster) (R.room self.new.roster) }
         ensures judged { OnOk result (HasJudged id (length cuts.now) self.old.judged.items self.new.judged.items) }
         ensures region { region_of core.new.tree node.now ≡ region_of core.old.tree node.now }
-        ensures rows { IfOk result (λ any. any ≡ false → core.new.pool ≡ core.old.pool) }
+        ensures open_ { IfOk result (λ came. came ≢ Emptied) }
+        ensures rows { IfOk result (λ came. came ≡ Quiet → core.new.pool ≡ core.old.pool) }
     {
         let mut any = false;
         for cut in cuts {
             let came = self.take_cut(core, node, id, cut)?;
             any = is_any(any, &came);
         }
-        Ok(any)
+        Ok(came_of(any))
     }
 
-    /// Judges the points of a plugin, in their order; whether one was accepted.
+    /// Judges the points of a plugin, in their order; what came of them.
     fn take_points(
         &mut self,
         core: &mut Core<'_>,
         node: &Node,
         id: u32,
         points: &[Guess],
-    ) -> Result<bool, AllocError>
+    ) -> Result<Came, AllocError>
         requires ready { IsReady core.old node.now self.old.scratches }
         requires sound { IsSound (R.state self.old.roster) (R.room self.old.roster) }
         requires seat { IsSome (slice_get (R.state self.old.roster).seats id) }
@@ -262,6 +263,7 @@ impl<R: Asks> Plugins<R> {
             (R.state self.new.roster) (R.room self.new.roster) }
         ensures judged { OnOk result (HasJudged id (length points.now) self.old.judged.items self.new.judged.items) }
         ensures region { region_of core.new.tree node.now ≡ region_of core.old.tree node.now }
+        ensures open_ { IfOk result (λ came. came ≢ Emptied) }
         ensures pool { core.new.pool ≡ core.old.pool }
     {
         let mut any = false;
@@ -269,7 +271,7 @@ impl<R: Asks> Plugins<R> {
             let came = self.take_point(core, node, id, guess)?;
             any = is_any(any, &came);
         }
-        Ok(any)
+        Ok(came_of(any))
     }
 
     /// Judges the sides of a plugin, in their order, until one shows that the node is empty.
@@ -325,14 +327,8 @@ impl<R: Asks> Plugins<R> {
     {
         match round {
             Round::Sides => self.take_sides(core, node, id, sides_of(given)),
-            Round::Cuts => {
-                let any = self.take_cuts(core, node, id, cuts_of(given))?;
-                Ok(came_of(any))
-            }
-            Round::Points => {
-                let any = self.take_points(core, node, id, points_of(given))?;
-                Ok(came_of(any))
-            }
+            Round::Cuts => self.take_cuts(core, node, id, cuts_of(given)),
+            Round::Points => self.take_points(core, node, id, points_of(given)),
         }
     }
 

@@ -1,14 +1,14 @@
 //! The plugins of a search, beside its core.
 ghost use Rattle.std.specs.Prelude.{◌≡◌, ◌<◌, ◌++◌, ◌∷◌, [], false, Some, OnOk, IsSome, slice_get, vec_len, vec_capacity};
 ghost use Rattle.cip_roster.specs.Turns.{IsSound};
-ghost use Rattle.cip_judge.specs.CoreStates.{reduced_of, held_of};
-ghost use Rattle.cip_judge.specs.CutoffRow.{cutoff_of};
+ghost use Rattle.cip_calls.specs.CoreStates.{reduced_of, held_of};
+ghost use Rattle.cip_calls.specs.CutoffRow.{cutoff_of};
 ghost use Rattle.cip_calls.specs.Noted.{HasNoted, HasJudged};
 
 use crate::asks::Asks;
+use crate::{Core, Judged, Scratches};
 use cip_events::{Event, EventKind, EventQueue};
 use cip_frac::Frac;
-use cip_judge::{Core, Judged, Scratches};
 use cip_lin::Combo;
 use cip_plugin::{Guess, View};
 use std::alloc::{AllocError, Global};

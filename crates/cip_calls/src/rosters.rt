@@ -1,7 +1,7 @@
 //! The roster is asked and told.
 ghost use Rattle.std.specs.Prelude.{◌≡◌, ◌∷◌, [], IfOk, OnOk, OnErr, IsSome, slice_get};
 ghost use Rattle.cip_events.specs.declared.words.Word.TheVariants as say;
-ghost use Rattle.cip_seats.specs.Steps.{Runs, Notes};
+ghost use Rattle.cip_plugin.specs.Steps.{Runs, Notes};
 ghost use Rattle.cip_roster.specs.Turns.{IsSound};
 ghost use Rattle.cip_roster.specs.Wished.{Ran};
 ghost use Rattle.cip_calls.specs.Asked.{ask_in, ask_at, told as told_of, HasAsked, AreSeated, IsSeatedNext, HasTold};

@@ -5,18 +5,18 @@ ghost use Rattle.cip_events.specs.declared.events.EventKind.TheVariants.{NodeFoc
 ghost use Rattle.cip_plugin.specs.Calls.{OnEvent, Propagate};
 ghost use Rattle.cip_roster.specs.Turns.{IsSound};
 ghost use Rattle.cip_roster.specs.Wished.{Ran};
-ghost use Rattle.cip_judge.specs.ProposalsJudged.{IsShownEmpty};
+ghost use Rattle.cip_calls.specs.ProposalsJudged.{IsShownEmpty};
 ghost use Rattle.cip_calls.specs.Asked.{ask_in};
 ghost use Rattle.cip_calls.specs.Noted.{IsReady, IsSameNode, HasCome};
 ghost use Rattle.cip_calls.specs.Served.{Used};
 ghost use Rattle.cip_calls.specs.declared.asks.Round.TheVariants.{Cuts as OfCuts, Sides as OfSides};
 ghost use Rattle.cip_calls.specs.declared.judging.Came.TheVariants.{Quiet, Emptied};
 
+use crate::Core;
 use crate::asks::{Asks, Round};
 use crate::judging::Came;
 use crate::plugins::{Last, Plugins, put, view_of};
 use cip_events::{Event, EventKind};
-use cip_judge::Core;
 use cip_tree::Node;
 use std::alloc::{AllocError, Global};
 
@@ -70,7 +70,9 @@ impl<R: Asks> Plugins<R> {
         let gave = self
             .roster
             .ask_all(alloc, round, &view_of(core, node.id(), last, &self.guess))?;
-        self.take_all(core, node, round, gave.as_slice())
+        let came = self.take_all(core, node, round, gave.as_slice());
+        drop(gave);
+        came
     }
 
     /// Asks for sides, while a node is in work, in rounds: after one in which none was accepted, or after 20, none

@@ -10,7 +10,7 @@ ghost use Rattle.cip_calls.specs.Noted.{HasNoted, HasJudged};
 ghost use Rattle.cip_calls.specs.Served.{count_for, Used};
 ghost use Rattle.cip_calls.specs.Enforcing.{made, asked_of_rules};
 
-use crate::{Asks, Core, Judged, Last, Plugins, Turn, split_refusal, view_of};
+use crate::{Asks, Core, JudgeFault, Judged, Last, Plugins, Turn, split_refusal, view_of};
 use cip_plugin::{Given, Split};
 use cip_tree::Node;
 use std::alloc::{AllocError, Global};
@@ -24,12 +24,30 @@ fn split_in(given: Given) -> Option<Split>
             None => None,
             Some(split) => Some(split),
         },
-        Given::Cuts(_) => None,
-        Given::Reductions(_) => None,
-        Given::Priced(_) => None,
-        Given::Guesses(_) => None,
-        Given::Enforced(_) => None,
-        Given::Wishes(_) => None,
+        Given::Cuts(cuts) => {
+            drop(cuts);
+            None
+        }
+        Given::Reductions(sides) => {
+            drop(sides);
+            None
+        }
+        Given::Priced(priced) => {
+            drop(priced);
+            None
+        }
+        Given::Guesses(points) => {
+            drop(points);
+            None
+        }
+        Given::Enforced(said) => {
+            drop(said);
+            None
+        }
+        Given::Wishes(wishes) => {
+            drop(wishes);
+            None
+        }
     }
 }
 
@@ -40,6 +58,14 @@ fn split_of(given: Option<Given>) -> Option<Split>
     match given {
         None => None,
         Some(given) => split_in(given),
+    }
+}
+
+/// What a split comes to that is refused for a fault, or accepted where there is none.
+fn came_of_split(refusal: Option<JudgeFault>) -> Judged {
+    match refusal {
+        None => Judged::Accepted,
+        Some(fault) => Judged::Refused(fault),
     }
 }
 
@@ -62,16 +88,9 @@ pub(crate) fn take_split<R: Asks>(
     ensures place { IfOk result (λ is_place. is_place ≡ true → IsPlace core.now split.col split.at) }
 {
     plugins.judged.reserve(1)?;
-    match split_refusal(core, node, split) {
-        None => {
-            plugins.finish(id, &Judged::Accepted, None)?;
-            Ok(true)
-        }
-        Some(fault) => {
-            plugins.finish(id, &Judged::Refused(fault), None)?;
-            Ok(false)
-        }
-    }
+    let refusal = split_refusal(core, node, split);
+    plugins.finish(id, &came_of_split(refusal), None)?;
+    Ok(refusal.is_none())
 }
 
 /// Judges the split that a rule gave, if it gave one: which, where it is accepted. `Err` comes where memory was

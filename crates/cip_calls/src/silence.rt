@@ -1,7 +1,7 @@
 //! No plugins at all.
 ghost use Rattle.std.specs.Prelude.{◌≡◌, ◌∷◌, [], OnOk, OnErr};
 ghost use Rattle.cip_events.specs.declared.words.Word.TheVariants as say;
-ghost use Rattle.cip_seats.specs.Steps.{Runs, Notes};
+ghost use Rattle.cip_plugin.specs.Steps.{Runs, Notes};
 ghost use Rattle.cip_roster.specs.Turns.{IsSound};
 
 use crate::asks::{Asks, Round, Turn};

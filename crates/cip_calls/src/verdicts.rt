@@ -21,12 +21,27 @@ fn said_in(given: Given) -> Option<Enforced>
 {
     match given {
         Given::Enforced(said) => Some(said),
-        Given::Cuts(_) => None,
-        Given::Reductions(_) => None,
-        Given::Priced(_) => None,
-        Given::Guesses(_) => None,
+        Given::Cuts(cuts) => {
+            drop(cuts);
+            None
+        }
+        Given::Reductions(sides) => {
+            drop(sides);
+            None
+        }
+        Given::Priced(priced) => {
+            drop(priced);
+            None
+        }
+        Given::Guesses(points) => {
+            drop(points);
+            None
+        }
         Given::Split(_) => None,
-        Given::Wishes(_) => None,
+        Given::Wishes(wishes) => {
+            drop(wishes);
+            None
+        }
     }
 }
 

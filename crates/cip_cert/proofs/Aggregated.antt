@@ -1,27 +1,17 @@
 -- The aggregated row of a combination, step by step.
-use Rattle.std.proofs.Common.{◌≡◌, ℕ, ◌+◌, ◌-◌, ◌<◌, ◌≤◌, Bool, true, false, cond, List, length, replicate, Result, Ok, Err, sym, ap, ap₂, ◌∙◌, subst, arith, inl, inr}
+use Rattle.std.proofs.Common.{◌≡◌, ℕ, ◌+◌, ◌≤◌, Bool, true, false, cond, List, length, replicate, Result, Ok, Err, sym, ap, ap₂, ◌∙◌, subst}
 use Rattle.std.specs.Prelude.{MatchResult, nat_lt}
-use Rattle.std.proofs.lemmas.Bool.{ltb-false, lt-ltb, le-ltb, cases_lt}
+use Rattle.std.proofs.lemmas.Bool.{ltb-false}
 use Rattle.cip_rational.specs.Rational.{ℚ, zeroℚ}
 use Rattle.cip_problem.specs.Program.{Sides}
 use Rattle.cip_linear.specs.Aggregate.{Inequality}
 use Rattle.cip_lin.specs.declared.combos.RowMultiple.{RowMultiple}
 use Rattle.cip_lin.specs.declared.combos.ColumnMultiple.{ColumnMultiple}
 use Rattle.cip_cert.specs.Lent.{Lent, Multiples, count_of}
-use Rattle.cip_cert.specs.Checks.{chain, add_rows, add_lows, add_highs, add_all, nothing, most_multiples, aggregate_of}
+use Rattle.cip_cert.specs.Checks.{chain, add_rows, add_lows, add_highs, add_all, nothing, aggregate_of}
+use Rattle.cip_row_rules.specs.RowRules.{most_multiples}
 use Rattle.cip_cert.specs.declared.faults.CutFault.{CutFault}
 use Rattle.cip_cert.specs.declared.faults.CutFault.TheVariants.{TooLong}
-
--- whether there are too many, told part by part
-pub long_test : (a b c : ℕ) → a ≤ 4096 → b ≤ 4096 - a → nat_lt (4096 - a - b) c ≡ nat_lt 4096 (a + b + c)
-long_test a b c h k = elim (cases_lt (4096 - a - b) c) [
-  | inl l ↦
-      lt-ltb (4096 - a - b) c l
-      ∙ sym (lt-ltb 4096 (a + b + c) (let m : 4096 < a + b + c = omega (arith, h, k, l) in m))
-  | inr l ↦
-      le-ltb (4096 - a - b) c l
-      ∙ sym (le-ltb 4096 (a + b + c) (let m : a + b + c ≤ 4096 = omega (arith, h, k, l) in m))
-]
 
 module _ (lent : Lent) (box : List Sides) (columns : ℕ) (combo : Multiples) (long : Bool) (is : long
     ≡ nat_lt most_multiples (count_of combo)) where

@@ -25,7 +25,8 @@ use Rattle.cip_linear.proofs.Aggregates.{aggregate_holds}
 use Rattle.cip_linear.proofs.Bounds.{dot_differences, dot-only, divide_negative}
 use Rattle.cip_cert.specs.declared.faults.CutFault.{CutFault}
 use Rattle.cip_cert.specs.Lent.{Lent, Fits, Multiples}
-use Rattle.cip_cert.specs.Checks.{chain, aggregate_of, stops_rounding, first_stop, round_unless, round_if, derived, bound_from, rests_from, lower_bound_of, rests_of, positive, emptied, quotient_at, round_up_if, round_down_if, implied_low, implied_high, low_allowed, high_allowed, low_reduced, high_reduced}
+use Rattle.cip_cert.specs.Checks.{chain, aggregate_of, first_stop, round_unless, round_if, derived, bound_from, rests_from, lower_bound_of, rests_of, positive, emptied, quotient_at, round_up_if, round_down_if, implied_low, implied_high, low_allowed, high_allowed, low_reduced, high_reduced}
+use Rattle.cip_row_rules.specs.RowRules.{stops_rounding}
 use Rattle.cip_cert.specs.Follows.{FollowsAt, RowFollows, BoundFollows, EmptinessFollows, LowFollows, HighFollows, IsSum}
 use Rattle.cip_cert.proofs.Sums.{ok_chain, ok_weaker, ok_cond, aggregate_sum}
 use Rattle.cip_cert.proofs.Values.{bound_value, zero_value, one_value}
@@ -66,7 +67,7 @@ whole_parts false d v false whole e f h k = absurd (cc)
 whole_product : (w : Bool) (d v : ℚ) → stops_rounding w d ≡ false → (w ≡ true → IsWhole v) → IsWhole (d *ℚ v)
 whole_product w d v h k = whole_parts w d v (same_rational d zeroℚ) (is_whole d) refl refl h k
 
-first_none : (column : ℕ) (t : Bool) (rest : Option ℕ) → cond t (Some column) rest ≡ None → (t ≡ false) × (rest ≡ None)
+pub first_none : (column : ℕ) (t : Bool) (rest : Option ℕ) → cond t (Some column) rest ≡ None → (t ≡ false) × (rest ≡ None)
 first_none column true rest e = absurd (none-some column (sym e))
 first_none column false rest e = (refl, e)
 

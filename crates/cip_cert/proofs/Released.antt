@@ -19,7 +19,8 @@ use Rattle.cip_cert.specs.declared.rows.PoolRow.{PoolRow}
 use Rattle.cip_cert.specs.declared.faults.CutFault.{CutFault}
 use Rattle.cip_cert.specs.Pool.{pool_row}
 use Rattle.cip_cert.specs.Lent.{Lent, KeptFits, Fits, Multiples, count_of}
-use Rattle.cip_cert.specs.Checks.{chain, named_row, in_scope, row_part, add_part, add_row, add_rows, add_lows, add_highs, nothing, most_multiples, aggregate_of, round_if, derived}
+use Rattle.cip_cert.specs.Checks.{chain, named_row, in_scope, row_part, add_part, add_row, add_rows, add_lows, add_highs, nothing, aggregate_of, round_if, derived}
+use Rattle.cip_row_rules.specs.RowRules.{most_multiples}
 use Rattle.cip_cert.specs.Follows.{RowsHold, RowFollows}
 use Rattle.cip_cert.specs.Resting.{is_resting, names_resting, rests_on_cutoff, released, lent_released, valid_below, ArePoolRowsValid, IsLentOf}
 use Rattle.cip_cert.proofs.Sums.{ok_weaker}

@@ -1,7 +1,6 @@
 -- Rows are rounded exactly where each coefficient lets them, and single bounds are the implied sides, rounded inward.
 use Rattle.std.proofs.Common.{◌≡◌, ℕ, suc, ◌<◌, ◌≤◌, Bool, true, false, not, cond, ◌&&◌, ◌||◌, List, [], ◌∷◌, length, Option, None, Some, Ok, IfOk, refl, sym, ap, ◌∙◌, subst, arith}
 use Rattle.std.specs.Prelude.{◌↔◌}
-use Rattle.std.proofs.lemmas.Option.{none-some}
 use Rattle.cip_rational.specs.Rational.{ℚ, ◌*ℚ◌, inverse, integer, zeroℚ, lt_test, is_whole, IsWhole, floor, ceil}
 use Rattle.cip_rational.specs.Range.{quotient_overflows}
 use Rattle.cip_rational.proofs.Rational.Whole.{IsWhole-zero, IsWhole_of_test, test_of_IsWhole}
@@ -10,10 +9,12 @@ use Rattle.cip_problem.specs.Program.{Sides}
 use Rattle.cip_problem.specs.Activity.{value_at}
 use Rattle.cip_linear.specs.Aggregate.{Inequality, bound_of, only, quotient_of, single_bound, implied_sides}
 use Rattle.cip_linear.specs.Cuts.{CanRoundAt, CanRound}
-use Rattle.cip_cert.specs.Checks.{chain, stops_rounding, first_stop, rests_from, quotient_at, round_up_if, round_down_if, implied_low, implied_high}
+use Rattle.cip_cert.specs.Checks.{chain, first_stop, rests_from, quotient_at, round_up_if, round_down_if, implied_low, implied_high}
+use Rattle.cip_row_rules.specs.RowRules.{stops_rounding}
 use Rattle.cip_cert.specs.Statements.{inward_low, inward_high}
 use Rattle.cip_cert.proofs.Sums.{ok_chain, ok_cond}
 use Rattle.cip_cert.proofs.Values.{one_value}
+use Rattle.cip_cert.proofs.Meaning.{first_none}
 
 -- ---- rounding
 
@@ -33,10 +34,6 @@ lets_round w d true whole e f h = refl
 lets_round true d false true e f h = refl
 lets_round true d false false e f h = absurd (false_is_not (sym f ∙ test_of_IsWhole d h.coefficient_whole))
 lets_round false d false whole e f h = absurd (false_is_not (h.column_whole (λ z. false_is_not (sym e ∙ same_from_equal d zeroℚ z))))
-
-first_none : (column : ℕ) (t : Bool) (rest : Option ℕ) → cond t (Some column) rest ≡ None → (t ≡ false) × (rest ≡ None)
-first_none column true rest e = absurd (none-some column (sym e))
-first_none column false rest e = (refl, e)
 
 none_first : (column : ℕ) (t : Bool) (rest : Option ℕ) → t ≡ false → rest ≡ None → cond t (Some column) rest ≡ None
 none_first column true rest e f = absurd (cc)

@@ -31,7 +31,8 @@ use Rattle.cip_cert.specs.declared.faults.FaultPlace.TheVariants.{Entry}
 use Rattle.cip_cert.specs.declared.faults.CutFault.{CutFault}
 use Rattle.cip_cert.specs.Pool.{pool_row}
 use Rattle.cip_cert.specs.Lent.{Lent, KeptFits, Fits, Multiples, count_of}
-use Rattle.cip_cert.specs.Checks.{chain, placed, named_row, known, in_scope, side_part, row_part, column_terms, low_part, high_part, add_terms, add_side, add_part, add_row, add_low, add_high, add_rows, add_lows, add_highs, nothing, most_multiples, aggregate_of}
+use Rattle.cip_cert.specs.Checks.{chain, placed, named_row, known, in_scope, side_part, row_part, column_terms, low_part, high_part, add_terms, add_side, add_part, add_row, add_low, add_high, add_rows, add_lows, add_highs, nothing, aggregate_of}
+use Rattle.cip_row_rules.specs.RowRules.{most_multiples}
 use Rattle.cip_cert.specs.Follows.{FollowsAt, IsSum}
 
 -- ---- outcomes

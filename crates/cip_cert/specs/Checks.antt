@@ -11,6 +11,7 @@ use Rattle.cip_linear.specs.Cuts.{rounded}
 use Rattle.cip_frac.specs.Order.{same_rational}
 use Rattle.cip_frac.specs.declared.operations.Wide.{Wide as Overflow}
 use Rattle.cip_frac.specs.Outcomes.{product_added}
+use Rattle.cip_row_rules.specs.RowRules.{most_multiples, stops_rounding}
 use Rattle.cip_lin.specs.declared.combos.RowId.{RowId}
 use Rattle.cip_lin.specs.declared.combos.RowId.TheVariants.{Own, Pool, Cutoff}
 use Rattle.cip_lin.specs.declared.combos.RowMultiple.{RowMultiple}
@@ -128,10 +129,6 @@ abbrev pub add_highs : List Sides → ℕ → List ColumnMultiple → Inequality
 add_highs box entry [] row = Ok row
 add_highs box entry (m ∷ ms) row = chain (add_high box entry m row) (add_highs box (suc entry) ms)
 
--- the most entries of a combination
-abbrev pub most_multiples : ℕ
-most_multiples = 4096
-
 -- no coefficient and no right side
 abbrev pub nothing : ℕ → Inequality
 nothing columns = record { coefficients = replicate columns zeroℚ; least = zeroℚ }
@@ -148,10 +145,6 @@ aggregate_of lent box columns combo =
     if nat_lt most_multiples (count_of combo) then Err TooLong else add_all lent box combo (nothing columns)
 
 -- ---- rounding
-
--- a coefficient that isn't 0 doesn't let a row be rounded: it isn't whole, or its column isn't
-abbrev pub stops_rounding : Bool → ℚ → Bool
-stops_rounding whole d = not (same_rational d zeroℚ) && (not whole || not (is_whole d))
 
 -- the first column whose coefficient doesn't, the first of them with this number
 abbrev pub first_stop : ℕ → List Bool → List ℚ → Option ℕ

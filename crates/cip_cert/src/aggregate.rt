@@ -1,29 +1,22 @@
 //! The aggregated row of a combination.
 ghost use Rattle.std.specs.Prelude.{◌≡◌, ◌≤◌, nat_lt, length, Ok, Err, MatchResult};
 ghost use Rattle.cip_cert.specs.Lent.{lent_of, Fits, multiples_of, count_of};
-ghost use Rattle.cip_cert.specs.Checks.{most_multiples, aggregate_of};
+ghost use Rattle.cip_cert.specs.Checks.{aggregate_of};
+ghost use Rattle.cip_row_rules.specs.RowRules.{most_multiples};
 
 use crate::entries::{add_highs, add_lows, add_rows};
 use crate::faults::CutFault;
-use crate::limits::MOST_MULTIPLES;
 use crate::rows::Rows;
 use crate::sparse::SparseRow;
 use cip_frac::Frac;
 use cip_lin::{Bounds, Combo};
+use cip_row_rules::are_too_many;
 
 /// Whether a combination has more entries than are allowed.
 fn is_too_long(combo: &Combo) -> bool
     ensures { result ≡ nat_lt most_multiples (count_of (multiples_of combo.now)) }
 {
-    let rows = combo.rows.len();
-    if rows > MOST_MULTIPLES {
-        return true;
-    }
-    let lows = combo.lows.len();
-    if lows > MOST_MULTIPLES - rows {
-        return true;
-    }
-    combo.highs.len() > MOST_MULTIPLES - rows - lows
+    are_too_many(combo.rows.len(), combo.lows.len(), combo.highs.len())
 }
 
 /// Leaves the coefficients of the aggregated row in the row, and answers the right side.

@@ -11,7 +11,6 @@ mod checks;
 mod entries;
 mod faults;
 mod laws;
-mod limits;
 mod lookup;
 mod parts;
 mod pricing;
@@ -28,12 +27,12 @@ pub use calls::{
 };
 pub use cip_frac::Frac;
 pub use cip_lin::{Bounds, Row, RowFault, Sides, Term};
+pub use cip_row_rules::MOST_MULTIPLES;
 pub use faults::{CutFault, FaultPlace};
 pub use laws::{
     aggregates_are_sums, bounds_are_those, rows_are_rounded_where_they_can, sides_are_those,
     what_does_not_rest_is_valid,
 };
-pub use limits::{MOST_MULTIPLES, limit_agrees};
 pub use pricing::{BlockPoint, BoundTree, Priced};
 pub use resting::rests_on_cutoff;
 pub use rows::{PoolRow, Rows};

@@ -4,19 +4,13 @@ ghost use Rattle.std.specs.Bool.{MatchBool};
 ghost use Rattle.std.specs.Ordering.{nat_cmp};
 ghost use Rattle.std.specs.List.Sorted.{IsSorted};
 ghost use Rattle.cip_cert.specs.Touched.{Tells};
-ghost use Rattle.cip_cert.specs.Checks.{chain, stops_rounding, first_stop, rest_of, rest_added, own_rest_added, bound_from, rests_from};
+ghost use Rattle.cip_cert.specs.Checks.{chain, first_stop, rest_of, rest_added, own_rest_added, bound_from, rests_from};
 
 use crate::faults::{CutFault, FaultPlace};
 use crate::parts::sum_of;
 use cip_frac::Frac;
 use cip_lin::Sides;
-
-/// Whether a coefficient on a column doesn't let a row be rounded.
-fn stops(whole: bool, coefficient: Frac) -> bool
-    ensures { result ≡ stops_rounding whole coefficient }
-{
-    coefficient != Frac::zero() && (!whole || !coefficient.is_whole())
-}
+use cip_row_rules::stops;
 
 /// The first column whose coefficient doesn't let a row be rounded.
 pub(crate) fn first_stop(whole: &[bool], entries: &[Frac], touched: &[u32]) -> Option<usize>

@@ -1,14 +1,14 @@
 //! What a pricer is told of: points that are dropped, and nothing at all where sides cross.
 ghost use Rattle.std.specs.Prelude.{◌≡◌, length, IfSome};
 ghost use Rattle.cip_problem.specs.WellFormed.{columns};
-ghost use Rattle.cip_decomposition.specs.Decompositions.{IsDecompositionOf};
+ghost use Rattle.cip_lagrange.specs.Decompositions.{IsDecompositionOf};
 
 use crate::block_texts::{BLOCKS, PLAIN};
 use crate::pricing::{Told, priced, priced_in};
 use cip_blocks::read_blocks;
 use cip_cert::{BlockPoint, Priced};
-use cip_decomposition::Decomposed;
 use cip_frac::Frac;
+use cip_lagrange::Decomposed;
 use cip_lin::{Bounds, Sides};
 use cip_lp::read_lp;
 use cip_model::Program;

@@ -1,12 +1,12 @@
 //! More programs of two blocks, with the points that are held: x1 and x2 are 0 or 1, and 2 x1 + 2 x2 is at most 3; y1
 //! and y2 likewise; R3 is the master row, and z, where it is there, of no block.
-ghost use Rattle.cip_decomposition.specs.Decompositions.{IsDecompositionOf};
+ghost use Rattle.cip_lagrange.specs.Decompositions.{IsDecompositionOf};
 ghost use Rattle.cip_master.specs.KeptMasters.{ArePoolPoints};
 
 use cip_cert::BlockPoint;
 use cip_columns::ColumnPool;
-use cip_decomposition::Decomposed;
 use cip_frac::Frac;
+use cip_lagrange::Decomposed;
 use cip_master::{Taken, take_point};
 use cip_model::Program;
 use std::alloc::Global;

@@ -1,5 +1,5 @@
 //! What the master program answers.
-ghost use Rattle.cip_decomposition.specs.Decompositions.{IsDecompositionOf};
+ghost use Rattle.cip_lagrange.specs.Decompositions.{IsDecompositionOf};
 ghost use Rattle.cip_master.specs.MasterTasks.{IsTask, task_of};
 ghost use Rattle.cip_master.specs.MasterSolving.{IsKept};
 
@@ -7,8 +7,8 @@ use crate::block_texts::{BLOCKS, MORE, PLAIN};
 use crate::held_points::{FAR, LOOSE, OPEN, TIGHT, fill};
 use cip_blocks::read_blocks;
 use cip_columns::ColumnPool;
-use cip_decomposition::Decomposed;
 use cip_frac::Frac;
+use cip_lagrange::Decomposed;
 use cip_lin::{Bounds, Sides};
 use cip_lp::read_lp;
 use cip_master::{Master, MasterAnswer, MasterCause, MasterTask};

@@ -1,6 +1,6 @@
 //! Calls of a dictionary that are made where they can be.
 ghost use Rattle.std.specs.Prelude.{◌≡◌, true};
-ghost use Rattle.cip_dictionary.specs.Dictionary.{CanStand};
+ghost use Rattle.cip_bland.specs.Dictionary.{CanStand};
 
 use cip_dict::{Dict, MoveFault, OutOfRange, Stand};
 use cip_frac::Frac;

@@ -1,15 +1,14 @@
 //! The Lagrangian bound of programs of two blocks: x1 and x2 are 0 or 1, and 2 x1 + 2 x2 is at most 3; y1 and y2
 //! likewise; x1 + x2 + y1 + y2 is at most 3 in the master row.
-ghost use Rattle.cip_decomposition.specs.Decompositions.{IsDecompositionOf};
+ghost use Rattle.cip_lagrange.specs.Decompositions.{IsDecompositionOf};
 ghost use Rattle.cip_lagrange.specs.Scratches.{FitsScratch};
 
 use crate::bounding_trees::{Shape, tree_of};
 use crate::regions::{bound, empty, halves};
 use cip_blocks::read_blocks;
 use cip_cert::{BoundTree, CutFault};
-use cip_decomposition::Decomposed;
 use cip_frac::Frac;
-use cip_lagrange::{LagrangeFault, LagrangeScratch, TreeBound, TreeFault, lagrange};
+use cip_lagrange::{Decomposed, LagrangeFault, LagrangeScratch, TreeBound, TreeFault, lagrange};
 use cip_lin::{Bounds, Sides};
 use cip_lp::read_lp;
 use cip_model::Program;

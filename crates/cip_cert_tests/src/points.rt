@@ -1,13 +1,13 @@
 //! What becomes of points that are offered for a block.
-ghost use Rattle.cip_decomposition.specs.Decompositions.{IsDecompositionOf};
+ghost use Rattle.cip_lagrange.specs.Decompositions.{IsDecompositionOf};
 ghost use Rattle.cip_master.specs.KeptMasters.{ArePoolPoints};
 
 use crate::block_texts::{BLOCKS, PLAIN};
 use crate::held_points::{fill, offered, point};
 use cip_blocks::read_blocks;
 use cip_columns::{Added, ColumnPool};
-use cip_decomposition::Decomposed;
 use cip_frac::Frac;
+use cip_lagrange::Decomposed;
 use cip_lp::read_lp;
 use cip_master::{PointVerdict, Taken};
 use cip_model::Program;

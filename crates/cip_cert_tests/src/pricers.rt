@@ -1,8 +1,8 @@
 //! Pricers: one that never answers, one that answers from a list, and one that goes through all points of a block.
 use crate::walks::{Walk, grow};
 use cip_cert::{BlockPoint, Priced};
-use cip_decomposition::Decomposed;
 use cip_frac::Frac;
+use cip_lagrange::Decomposed;
 use cip_lin::Bounds;
 use cip_price::{AskPricer, PointVerdict};
 use std::alloc::{AllocError, Global};

@@ -1,7 +1,7 @@
 //! What pricing answers.
 ghost use Rattle.std.specs.Prelude.{◌≡◌, length};
 ghost use Rattle.cip_problem.specs.WellFormed.{columns};
-ghost use Rattle.cip_decomposition.specs.Decompositions.{IsDecompositionOf};
+ghost use Rattle.cip_lagrange.specs.Decompositions.{IsDecompositionOf};
 
 use crate::block_texts::{
     BLOCKS, FIRST, FIRST_BLOCKS, MORE, NONE, PLAIN, SECOND, SECOND_BLOCKS, THIRD, THIRD_BLOCKS,
@@ -10,8 +10,8 @@ use crate::pricers::{Branching, Listed, Silent};
 use cip_blocks::read_blocks;
 use cip_cert::{BlockPoint, Priced};
 use cip_columns::ColumnPool;
-use cip_decomposition::Decomposed;
 use cip_frac::Frac;
+use cip_lagrange::Decomposed;
 use cip_lin::Bounds;
 use cip_lp::read_lp;
 use cip_model::Program;

@@ -5,7 +5,7 @@ ghost use Rattle.cip_simplex.specs.LpShape.{variables};
 use crate::programs::Posed;
 use crate::simplex_draws::Random;
 use crate::slow_check::{Program, is_right};
-use cip_dictionary::Stand;
+use cip_bland::Stand;
 use cip_frac::Frac;
 use cip_lin::{Row, RowFault, Term};
 use cip_simplex::{Lp, LpAnswer, Solver, Start, solve, solve_from, solve_greedily};

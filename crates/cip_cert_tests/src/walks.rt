@@ -1,7 +1,7 @@
 //! A walk through the points of 0 and 1 of a block, which grows the tree that proves what the cheapest costs.
 use cip_cert::BoundTree;
-use cip_decomposition::Subproblem;
 use cip_frac::Frac;
+use cip_lagrange::Subproblem;
 use cip_lin::{Combo, Row, RowId, RowMultiple};
 use std::alloc::{AllocError, Global};
 

@@ -21,7 +21,7 @@ use Rattle.cip_search.proofs.Kept as searching
 use Rattle.cip_search.proofs.AsGiven as giving
 use Rattle.cip_search.proofs.GivenBoxes as boxing
 use Rattle.cip_search.proofs.Members.{only_one}
-use Rattle.cip_compaction.specs.StepsBack.{StepsTaken, point_back, way_back}
+use Rattle.cip_postsolve.specs.StepsBack.{StepsTaken, point_back, way_back}
 use Rattle.cip_tree.specs.Nodes.{Nodes}
 use Rattle.cip_tree.specs.Moves.{IsNew}
 use Rattle.cip_node_rules.specs.RootBounds.{least_value, rounded_if}

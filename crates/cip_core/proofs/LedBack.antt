@@ -5,12 +5,12 @@ use Rattle.cip_problem.specs.Program.{Program}
 use Rattle.cip_problem.specs.WellFormed.{IsWellFormed, columns}
 use Rattle.cip_leaves.specs.Leaf.{at_wholes}
 use Rattle.cip_search.specs.SearchState.{IsWayBack}
-use Rattle.cip_compaction.specs.Pairs.{IsPair}
-use Rattle.cip_compaction.specs.WholeParts.{with_wholes}
-use Rattle.cip_compaction.proofs.PassedOn.{pair_way_back}
-use Rattle.cip_compaction.specs.StepsBack.{StepsTaken, point_back, old_number, whole_of_left, way_back}
-use Rattle.cip_compaction.specs.declared.presolved.Presolved.{Presolved}
-use Rattle.cip_compaction.specs.PresolvedPrograms.{IsPresolved}
+use Rattle.cip_postsolve.specs.Pairs.{IsPair}
+use Rattle.cip_postsolve.specs.WholeParts.{with_wholes}
+use Rattle.cip_postsolve.proofs.PassedOn.{pair_way_back}
+use Rattle.cip_postsolve.specs.StepsBack.{StepsTaken, point_back, old_number, whole_of_left, way_back}
+use Rattle.cip_postsolve.specs.declared.presolved.Presolved.{Presolved}
+use Rattle.cip_postsolve.specs.PresolvedPrograms.{IsPresolved}
 use Rattle.cip_core.specs.CoreStates.{IsReducedBy}
 
 -- what presolve made of a program is reduced by its steps

@@ -11,9 +11,9 @@ use Rattle.cip_rows.specs.RowPools.{Pool}
 use Rattle.cip_search.specs.SearchState.{HasGivenBoxes}
 use Rattle.cip_tree.specs.Nodes.{Nodes}
 use Rattle.cip_tree.specs.Moves.{IsNew}
-use Rattle.cip_compaction.specs.StepsBack.{way_back}
-use Rattle.cip_compaction.specs.declared.presolved.Presolved.{Presolved}
-use Rattle.cip_compaction.specs.PresolvedPrograms.{IsPresolved}
+use Rattle.cip_postsolve.specs.StepsBack.{way_back}
+use Rattle.cip_postsolve.specs.declared.presolved.Presolved.{Presolved}
+use Rattle.cip_postsolve.specs.PresolvedPrograms.{IsPresolved}
 use Rattle.cip_core.specs.Beginning.{IsRootBound, HasNotBegun}
 use Rattle.cip_core.specs.Entering.{own_region}
 use Rattle.cip_core.specs.KeptNodes.{cost_held, state_of, IsKept}

@@ -1,2 +1,2 @@
 -- Lemmas of crates below, for those above.
-pub use Rattle.cip_node_bounds.proofs.Told.{told}
+pub use Rattle.cip_core.proofs.Told.{told}

@@ -11,7 +11,7 @@ use Rattle.cip_node_rules.specs.OpenColumns.{is_whole_at}
 use Rattle.cip_node_rules.specs.RootBounds.{least_value}
 use Rattle.cip_node_rules.specs.SplitRules.{AreNear}
 use Rattle.cip_tree.specs.Moves.{IsNew}
-use Rattle.cip_compaction.specs.StepsBack.{StepsTaken}
+use Rattle.cip_postsolve.specs.StepsBack.{StepsTaken}
 use Rattle.cip_core.specs.Entering.{own_region}
 use Rattle.cip_core.specs.CoreStates.{CoreState, IsKeptIn}
 

@@ -15,9 +15,9 @@ use Rattle.cip_incumbent.specs.declared.offers.Offered.{Offered}
 use Rattle.cip_rows.specs.RowPools.{Pool, kept_pool_rows}
 use Rattle.cip_tree.specs.Moves.{is_cheaper}
 use Rattle.cip_tree.specs.Nodes.{TakenNode, Nodes, base_at, shown}
-use Rattle.cip_compaction.specs.StepsBack.{point_back, FitsBack}
-use Rattle.cip_compaction.specs.PostsolveFaults.{IsPostsolveFault}
-use Rattle.cip_compaction.specs.PostsolveFault.{PostsolveFault}
+use Rattle.cip_postsolve.specs.StepsBack.{point_back, FitsBack}
+use Rattle.cip_postsolve.specs.PostsolveFaults.{IsPostsolveFault}
+use Rattle.cip_postsolve.specs.declared.faults.PostsolveFault.{PostsolveFault}
 use Rattle.cip_core.specs.CoreStates.{CoreState, reduced_of, held_of, IsKeptIn}
 use Rattle.cip_core.specs.Later.{IsLater}
 

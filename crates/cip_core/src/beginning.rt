@@ -5,22 +5,22 @@ ghost use Rattle.cip_linear.specs.Cuts.{HasWholeCosts};
 ghost use Rattle.cip_linear.specs.Improving.{IsBoundIn};
 ghost use Rattle.cip_tree.specs.Moves.{IsNew};
 ghost use Rattle.cip_search.specs.SearchState.{HasGivenBoxes};
-ghost use Rattle.cip_compaction.specs.StepsBack.{way_back};
-ghost use Rattle.cip_compaction.specs.PresolvedPrograms.{IsPresolved};
+ghost use Rattle.cip_postsolve.specs.StepsBack.{way_back};
+ghost use Rattle.cip_postsolve.specs.PresolvedPrograms.{IsPresolved};
 ghost use Rattle.cip_core.specs.Beginning.{IsRootBound, AreNearColumns, HasNotBegun};
 ghost use Rattle.cip_core.specs.Entering.{own_region};
 ghost use Rattle.cip_core.specs.KeptNodes.{IsKept, state_of};
 
+use crate::are_costs_whole;
 use crate::cores::Core;
 use crate::costs::open_cutoff;
 use cip_cert::Scratch;
-use cip_compaction::Presolved;
 use cip_domain::Region;
 use cip_frac::Frac;
 use cip_incumbent::Incumbent;
 use cip_model::Program;
-use cip_node_bounds::are_costs_whole;
 use cip_node_rules::rounded_least;
+use cip_postsolve::Presolved;
 use cip_rows::RowPool;
 use cip_tree::Tree;
 use std::alloc::{AllocError, Global};
@@ -92,10 +92,20 @@ impl<'a> Core<'a> {
         let columns = reduced.columns();
         let incumbent = Incumbent::new(alloc, program)?;
         let Ok(cutoff) = open_cutoff(alloc, reduced.costs()) else {
+            drop(incumbent);
             return Err(AllocError);
         };
-        let scratch = Scratch::new(alloc, columns)?;
-        let tree = rooted_tree(alloc, program, presolved)?;
+        let Ok(scratch) = Scratch::new(alloc, columns) else {
+            drop(incumbent);
+            drop(cutoff);
+            return Err(AllocError);
+        };
+        let Ok(tree) = rooted_tree(alloc, program, presolved) else {
+            drop(incumbent);
+            drop(cutoff);
+            drop(scratch);
+            return Err(AllocError);
+        };
         Ok(Core {
             program,
             reduced,

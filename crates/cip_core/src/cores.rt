@@ -10,11 +10,11 @@ ghost use Rattle.cip_cert.specs.Lent.{lent_of};
 ghost use Rattle.cip_core.specs.CoreStates.{IsSound, reduced_of, held_of, all_lent};
 
 use cip_cert::{Rows, Scratch};
-use cip_compaction::Steps;
 use cip_frac::Frac;
 use cip_incumbent::Incumbent;
 use cip_lin::{Bounds, Choices, Row};
 use cip_model::Program;
+use cip_postsolve::Steps;
 use cip_rows::RowPool;
 use cip_tree::{Logged, Tree};
 use std::marker::Model;
@@ -163,7 +163,18 @@ impl<'a> Core<'a> {
         ensures entries { entries_of result.items ≡ self.entry.tree.log }
         ensures searched { IsSearched self.entry.tree.integral self.entry.tree.root self.entry.tree.log }
     {
-        let Core { tree, .. } = self;
+        let Core {
+            tree,
+            pool,
+            cutoff,
+            scratch,
+            incumbent,
+            ..
+        } = self;
+        drop(pool);
+        drop(cutoff);
+        drop(scratch);
+        drop(incumbent);
         tree.take_log()
     }
 }

@@ -1,11 +1,11 @@
 //! The linear program of the region in work.
 ghost use Rattle.std.specs.Prelude.{◌≡◌, IfOk};
 ghost use Rattle.cip_problem.specs.WellFormed.{columns};
-ghost use Rattle.cip_node_bounds.specs.Relaxing.{IsRelaxed};
+ghost use Rattle.cip_core.specs.Relaxing.{IsRelaxed};
 ghost use Rattle.cip_core.specs.CoreStates.{reduced_of, rows_lent, IsAtWork};
 
 use crate::cores::Core;
-use cip_node_bounds::{NodeSolver, Relaxed, Start, relax_from};
+use crate::{NodeSolver, Relaxed, Start, relax_from};
 use cip_tree::Node;
 use std::alloc::{AllocError, Global};
 

@@ -9,9 +9,9 @@ use Rattle.cip_rational.specs.Rational.{ℚ, ◌+ℚ◌, ◌*ℚ◌, ratio, nume
 use Rattle.cip_rational.specs.Range.{magnitude, sum_overflows, product_overflows}
 use Rattle.cip_rational.proofs.Rational.Ratio.{ratio-add, ratio-mul}
 use Rattle.cip_rational.proofs.Rational.Lowest.{denominator-pos}
-use Rattle.cip_dictionary.specs.Operations.{Product, Sum, placed, first_overflow, sum_at}
-use Rattle.cip_dictionary.specs.declared.places.Line.TheVariants.{Cost}
-use Rattle.cip_dictionary.specs.declared.places.EntryPlace.{EntryPlace}
+use Rattle.cip_bland.specs.Operations.{Product, Sum, placed, first_overflow, sum_at}
+use Rattle.cip_bland.specs.declared.places.Line.TheVariants.{Cost}
+use Rattle.cip_bland.specs.declared.places.EntryPlace.{EntryPlace}
 use Rattle.cip_dict.specs.Values.{IsAdded}
 use Rattle.cip_dict.specs.WholeLines.{HasTermsBelow}
 use Rattle.cip_dict.proofs.Formed.{sum_zero_left, sum_zero_right}

@@ -4,12 +4,12 @@ use Rattle.std.proofs.lemmas.Bool.{eq-eqb, ne_eqb, cases_eq, true≢false}
 use Rattle.std.proofs.lemmas.List.{get_or-set_same, get_or-set_other}
 use Rattle.cip_rational.specs.Rational.{ℚ}
 use Rattle.cip_problem.specs.Program.{Sides}
-use Rattle.cip_dictionary.specs.Dictionary.{Dictionary, is_basic}
-use Rattle.cip_dictionary.specs.Exchange.{exchanged, CanExchange}
-use Rattle.cip_dictionary.specs.declared.moves.Stand.{Stand}
-use Rattle.cip_dictionary.specs.Tables.{table}
-use Rattle.cip_dictionary.proofs.Tables.{length-table}
-use Rattle.cip_dictionary.proofs.Kept.{exchanges_keep}
+use Rattle.cip_bland.specs.Dictionary.{Dictionary, is_basic}
+use Rattle.cip_bland.specs.Exchange.{exchanged, CanExchange}
+use Rattle.cip_bland.specs.declared.moves.Stand.{Stand}
+use Rattle.cip_bland.specs.Tables.{table}
+use Rattle.cip_bland.proofs.Tables.{length-table}
+use Rattle.cip_bland.proofs.Kept.{exchanges_keep}
 use Rattle.cip_dict.specs.declared.lists.Lists.{Lists}
 use Rattle.cip_dict.specs.declared.lists.Room.{Room}
 use Rattle.cip_dict.specs.Lists.{basic_in}

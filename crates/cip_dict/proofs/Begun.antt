@@ -9,20 +9,20 @@ use Rattle.cip_rational.specs.Rational.{ℚ, zeroℚ}
 use Rattle.cip_problem.specs.Program.{Sides}
 use Rattle.cip_problem.specs.Activity.{value_at}
 use Rattle.cip_problem.specs.Box.{sides_at}
-use Rattle.cip_dictionary.specs.Tables.{table, form}
-use Rattle.cip_dictionary.specs.FirstState.{System, first, first_stand, first_value, is_column, row_number, form_operations, first_operations}
-use Rattle.cip_dictionary.specs.Operations.{Placed, value_place, sum_at}
-use Rattle.cip_dictionary.specs.declared.places.Line.{Line}
-use Rattle.cip_dictionary.specs.declared.places.Line.TheVariants.{Row, Cost}
-use Rattle.cip_dictionary.specs.declared.moves.Stand.{Stand}
-use Rattle.cip_dictionary.proofs.Tables.{same_table, length-table, at_table, form_same, form_at_same}
+use Rattle.cip_bland.specs.Tables.{table, form}
+use Rattle.cip_bland.specs.FirstState.{System, first, first_stand, first_value, is_column, row_number, form_operations, first_operations}
+use Rattle.cip_bland.specs.Operations.{Placed, value_place, sum_at}
+use Rattle.cip_bland.specs.declared.places.Line.{Line}
+use Rattle.cip_bland.specs.declared.places.Line.TheVariants.{Row, Cost}
+use Rattle.cip_bland.specs.declared.moves.Stand.{Stand}
+use Rattle.cip_bland.proofs.Tables.{same_table, length-table, at_table, form_same, form_at_same}
 use Rattle.cip_dict.specs.declared.lists.Lists.{Lists}
 use Rattle.cip_dict.specs.Lists.{basic_in}
 use Rattle.cip_dict.specs.Row.{row_in, row_length, HasRows}
 use Rattle.cip_dict.specs.State.{state}
 use Rattle.cip_dict.specs.declared.fault.FirstFault.{FirstFault}
 use Rattle.cip_dict.specs.declared.fault.FirstFault.TheVariants.{OutOfRange, NoMemory}
-use Rattle.cip_dictionary.proofs.Overflow.{overflow-found}
+use Rattle.cip_bland.proofs.Overflow.{overflow-found}
 use Rattle.cip_dict.specs.Entries.{Entry, entry_from, AreWithin, system_in, IsRowFault}
 use Rattle.cip_dict.specs.FirstLists.{stand_in, cost_in, column_value, column_values_of, row_form, row_of_entries, value_operations}
 use Rattle.cip_dict.proofs.Chains.{each_same}

@@ -3,14 +3,14 @@ use Rattle.std.proofs.Common.{◌≡◌, ℕ, zero, suc, ◌<◌, ◌==◌, Bool
 use Rattle.std.proofs.lemmas.Bool.{eq-eqb}
 use Rattle.cip_rational.specs.Rational.{ℚ, zeroℚ}
 use Rattle.cip_problem.specs.Activity.{value_at}
-use Rattle.cip_dictionary.specs.Tables.{table, each}
-use Rattle.cip_dictionary.specs.Exchange.{is_absent, solved_at, solved, substituted_at, substituted}
-use Rattle.cip_dictionary.specs.Operations.{Placed, first_overflow, entry_place}
-use Rattle.cip_dictionary.specs.MoveOperations.{substituted_operations_at, substituted_operations}
-use Rattle.cip_dictionary.specs.declared.places.Line.{Line}
-use Rattle.cip_dictionary.specs.declared.moves.Stand.{Stand}
-use Rattle.cip_dictionary.proofs.Overflow.{overflow-append}
-use Rattle.cip_dictionary.proofs.Tables.{at_table, table_same}
+use Rattle.cip_bland.specs.Tables.{table, each}
+use Rattle.cip_bland.specs.Exchange.{is_absent, solved_at, solved, substituted_at, substituted}
+use Rattle.cip_bland.specs.Operations.{Placed, first_overflow, entry_place}
+use Rattle.cip_bland.specs.MoveOperations.{substituted_operations_at, substituted_operations}
+use Rattle.cip_bland.specs.declared.places.Line.{Line}
+use Rattle.cip_bland.specs.declared.moves.Stand.{Stand}
+use Rattle.cip_bland.proofs.Overflow.{overflow-append}
+use Rattle.cip_bland.proofs.Tables.{at_table, table_same}
 use Rattle.cip_dict.specs.declared.fault.OutOfRange.{OutOfRange}
 use Rattle.cip_dict.specs.declared.fault.MoveFault.{MoveFault}
 use Rattle.cip_dict.specs.MoveFaults.{IsMoveFault}

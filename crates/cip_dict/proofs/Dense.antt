@@ -4,12 +4,12 @@ use Rattle.std.proofs.lemmas.Bool.{cases_eq, eq-eqb, ne_eqb}
 use Rattle.std.proofs.lemmas.List.{get_or-set_same, get_or-set_other, get_or-replicate, length-replicate}
 use Rattle.cip_rational.specs.Rational.{ℚ, zeroℚ}
 use Rattle.cip_problem.specs.Activity.{value_at}
-use Rattle.cip_dictionary.specs.Tables.{table, each}
-use Rattle.cip_dictionary.specs.Exchange.{is_absent, solved_at, solved, substituted_at, substituted}
-use Rattle.cip_dictionary.specs.Operations.{Placed, first_overflow, entry_place}
-use Rattle.cip_dictionary.specs.MoveOperations.{solved_operations_at, solved_operations, substituted_operations_at, substituted_operations}
-use Rattle.cip_dictionary.specs.declared.places.Line.{Line}
-use Rattle.cip_dictionary.proofs.Tables.{length-table, at_table, same_table, table_same}
+use Rattle.cip_bland.specs.Tables.{table, each}
+use Rattle.cip_bland.specs.Exchange.{is_absent, solved_at, solved, substituted_at, substituted}
+use Rattle.cip_bland.specs.Operations.{Placed, first_overflow, entry_place}
+use Rattle.cip_bland.specs.MoveOperations.{solved_operations_at, solved_operations, substituted_operations_at, substituted_operations}
+use Rattle.cip_bland.specs.declared.places.Line.{Line}
+use Rattle.cip_bland.proofs.Tables.{length-table, at_table, same_table, table_same}
 use Rattle.cip_dict.specs.declared.fault.MoveFault.{MoveFault}
 use Rattle.cip_dict.specs.MoveFaults.{IsMoveFault}
 use Rattle.cip_dict.specs.SparseLines.{Kept, entry_on, dense, kept_at, kept_of, AreKept}

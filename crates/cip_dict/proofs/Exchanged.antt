@@ -7,16 +7,16 @@ use Rattle.cip_rational.proofs.Rational.Ring.{+ℚ-zero, zero-*ℚ}
 use Rattle.cip_problem.specs.Program.{Sides}
 use Rattle.cip_problem.specs.Activity.{value_at}
 use Rattle.cip_problem.specs.Box.{sides_at}
-use Rattle.cip_dictionary.specs.Tables.{table, each}
-use Rattle.cip_dictionary.specs.Dictionary.{Dictionary, size, stand, is_basic, entry, cost_entry, standing_value, IsConsistent}
-use Rattle.cip_dictionary.specs.Exchange.{is_absent, substituted, pivot, entering, exchanged_row, exchanged_rows, exchanged_stand, CanExchange, moved, step}
-use Rattle.cip_dictionary.specs.Operations.{Placed}
-use Rattle.cip_dictionary.specs.MoveOperations.{exchange_operations, solved_operations, substituted_operations, step_operations, moved_operations, cost_operations}
-use Rattle.cip_dictionary.specs.declared.places.Line.TheVariants.{Row, Cost}
-use Rattle.cip_dictionary.specs.declared.moves.Stand.{Stand}
-use Rattle.cip_dictionary.proofs.Tables.{same_table, at_table}
-use Rattle.cip_dictionary.proofs.Forms.{IsFree, substituted_leaving, substituted_absent, substituted_kept}
-use Rattle.cip_dictionary.proofs.Zeros.{zero_of}
+use Rattle.cip_bland.specs.Tables.{table, each}
+use Rattle.cip_bland.specs.Dictionary.{Dictionary, size, stand, is_basic, entry, cost_entry, standing_value, IsConsistent}
+use Rattle.cip_bland.specs.Exchange.{is_absent, substituted, pivot, entering, exchanged_row, exchanged_rows, exchanged_stand, CanExchange, moved, step}
+use Rattle.cip_bland.specs.Operations.{Placed}
+use Rattle.cip_bland.specs.MoveOperations.{exchange_operations, solved_operations, substituted_operations, step_operations, moved_operations, cost_operations}
+use Rattle.cip_bland.specs.declared.places.Line.TheVariants.{Row, Cost}
+use Rattle.cip_bland.specs.declared.moves.Stand.{Stand}
+use Rattle.cip_bland.proofs.Tables.{same_table, at_table}
+use Rattle.cip_bland.proofs.Forms.{IsFree, substituted_leaving, substituted_absent, substituted_kept}
+use Rattle.cip_bland.proofs.Zeros.{zero_of}
 use Rattle.cip_dict.specs.declared.lists.Lists.{Lists}
 use Rattle.cip_dict.specs.Row.{form_changes, row_in, HasRows, taken_form, written_form}
 use Rattle.cip_dict.specs.State.{state}

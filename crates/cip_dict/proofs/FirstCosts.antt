@@ -4,8 +4,8 @@ use Rattle.std.proofs.lemmas.Bool.{lt-ltb, le-ltb, cases_lt, cases_eq}
 use Rattle.std.proofs.lemmas.List.{get_or-set_same, get_or-set_other, get_or-replicate, length-replicate}
 use Rattle.cip_rational.specs.Rational.{ℚ, zeroℚ}
 use Rattle.cip_problem.specs.Activity.{value_at}
-use Rattle.cip_dictionary.specs.Tables.{table}
-use Rattle.cip_dictionary.proofs.Tables.{same_table}
+use Rattle.cip_bland.specs.Tables.{table}
+use Rattle.cip_bland.proofs.Tables.{same_table}
 use Rattle.cip_dict.specs.FirstLists.{cost_in}
 use Rattle.cip_dict.proofs.Places.{same_default}
 

@@ -8,15 +8,15 @@ use Rattle.cip_rational.specs.Range.{difference_overflows}
 use Rattle.cip_problem.specs.Program.{Sides}
 use Rattle.cip_problem.specs.Activity.{value_at}
 use Rattle.cip_problem.specs.Box.{sides_at}
-use Rattle.cip_dictionary.specs.Tables.{table, each, least}
-use Rattle.cip_dictionary.specs.Dictionary.{Dictionary, size, stand, is_basic, standing_value}
-use Rattle.cip_dictionary.specs.Exchange.{other_stand, way, flipped_stand, flipped, CanFlip, moved}
-use Rattle.cip_dictionary.specs.Operations.{Placed, Difference, placed, value_place, first_overflow}
-use Rattle.cip_dictionary.specs.MoveOperations.{first_line, flipped_operations, cost_operations, flip_operations}
-use Rattle.cip_dictionary.specs.declared.moves.Stand.{Stand}
-use Rattle.cip_dictionary.specs.declared.places.EntryPlace.{EntryPlace}
-use Rattle.cip_dictionary.proofs.Tables.{same_table, length-table}
-use Rattle.cip_dictionary.proofs.Kept.{flips_keep}
+use Rattle.cip_bland.specs.Tables.{table, each, least}
+use Rattle.cip_bland.specs.Dictionary.{Dictionary, size, stand, is_basic, standing_value}
+use Rattle.cip_bland.specs.Exchange.{other_stand, way, flipped_stand, flipped, CanFlip, moved}
+use Rattle.cip_bland.specs.Operations.{Placed, Difference, placed, value_place, first_overflow}
+use Rattle.cip_bland.specs.MoveOperations.{first_line, flipped_operations, cost_operations, flip_operations}
+use Rattle.cip_bland.specs.declared.moves.Stand.{Stand}
+use Rattle.cip_bland.specs.declared.places.EntryPlace.{EntryPlace}
+use Rattle.cip_bland.proofs.Tables.{same_table, length-table}
+use Rattle.cip_bland.proofs.Kept.{flips_keep}
 use Rattle.cip_dict.specs.declared.lists.Lists.{Lists}
 use Rattle.cip_dict.specs.declared.lists.Room.{Room}
 use Rattle.cip_dict.specs.Lists.{basic_in}

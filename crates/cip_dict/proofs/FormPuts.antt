@@ -2,12 +2,12 @@
 use Rattle.std.proofs.Common.{◌≡◌, ℕ, ◌<◌, Bool, true, List, length, None, Ok, refl, sym, ◌∙◌, subst, arith}
 use Rattle.cip_rational.specs.Rational.{ℚ}
 use Rattle.cip_problem.specs.Activity.{value_at}
-use Rattle.cip_dictionary.specs.Tables.{table, each}
-use Rattle.cip_dictionary.specs.Exchange.{solved, substituted}
-use Rattle.cip_dictionary.specs.Operations.{first_overflow}
-use Rattle.cip_dictionary.specs.MoveOperations.{solved_operations, substituted_operations}
-use Rattle.cip_dictionary.specs.declared.places.Line.{Line}
-use Rattle.cip_dictionary.specs.declared.places.Line.TheVariants.{Cost}
+use Rattle.cip_bland.specs.Tables.{table, each}
+use Rattle.cip_bland.specs.Exchange.{solved, substituted}
+use Rattle.cip_bland.specs.Operations.{first_overflow}
+use Rattle.cip_bland.specs.MoveOperations.{solved_operations, substituted_operations}
+use Rattle.cip_bland.specs.declared.places.Line.{Line}
+use Rattle.cip_bland.specs.declared.places.Line.TheVariants.{Cost}
 use Rattle.cip_dict.specs.SparseLines.{Kept, entry_on, dense, kept_of, AreKept}
 use Rattle.cip_dict.specs.WholeLines.{Whole, over, IsWhole, IsForm, IsPut}
 use Rattle.cip_dict.proofs.Dense.{dense_len, dense_read, solved_written, substituted_written}

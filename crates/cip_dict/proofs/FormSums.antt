@@ -2,14 +2,14 @@
 use Rattle.std.proofs.Common.{◌≡◌, ℕ, zero, suc, ◌+◌, ◌-◌, ◌<◌, ◌≤◌, List, length, get_or, None, Some, Result, Ok, Err, MatchResult, refl, sym, ap, ◌∙◌, arith}
 use Rattle.cip_rational.specs.Rational.{ℚ, zeroℚ, ◌+ℚ◌, ◌*ℚ◌}
 use Rattle.cip_rational.proofs.Rational.Ring.{+ℚ-zero, zero-*ℚ}
-use Rattle.cip_dictionary.specs.Tables.{form}
-use Rattle.cip_dictionary.specs.FirstState.{form_operations}
-use Rattle.cip_dictionary.specs.Operations.{first_overflow, value_place, sum_at}
-use Rattle.cip_dictionary.specs.declared.places.Line.{Line}
-use Rattle.cip_dictionary.specs.declared.places.EntryPlace.{EntryPlace}
-use Rattle.cip_dictionary.proofs.Overflow.{overflow-append, first_at}
-use Rattle.cip_dictionary.proofs.Tables.{form_same}
-use Rattle.cip_dictionary.proofs.Zeros.{is_zero_of}
+use Rattle.cip_bland.specs.Tables.{form}
+use Rattle.cip_bland.specs.FirstState.{form_operations}
+use Rattle.cip_bland.specs.Operations.{first_overflow, value_place, sum_at}
+use Rattle.cip_bland.specs.declared.places.Line.{Line}
+use Rattle.cip_bland.specs.declared.places.EntryPlace.{EntryPlace}
+use Rattle.cip_bland.proofs.Overflow.{overflow-append, first_at}
+use Rattle.cip_bland.proofs.Tables.{form_same}
+use Rattle.cip_bland.proofs.Zeros.{is_zero_of}
 use Rattle.cip_dict.specs.declared.fault.OutOfRange.{OutOfRange}
 use Rattle.cip_dict.proofs.Begun.{form_operations_same}
 use Rattle.cip_dict.specs.SparseLines.{Kept, entry_on, AreKept, IsPlace}

@@ -4,9 +4,9 @@ use Rattle.std.proofs.lemmas.Bool.{or_right, true≢false}
 use Rattle.cip_rational.specs.Rational.{ℚ, ◌+ℚ◌, ◌*ℚ◌, zeroℚ, is_zero}
 use Rattle.cip_rational.specs.Range.{sum_overflows, product_overflows}
 use Rattle.cip_rational.proofs.Rational.Ring.{+ℚ-zero, *ℚ-zero, zero-*ℚ}
-use Rattle.cip_dictionary.specs.Operations.{first_overflow, product_at, sum_at}
-use Rattle.cip_dictionary.specs.declared.places.EntryPlace.{EntryPlace}
-use Rattle.cip_dictionary.proofs.Zeros.{is_zero_of, is_zero_false, zero_of}
+use Rattle.cip_bland.specs.Operations.{first_overflow, product_at, sum_at}
+use Rattle.cip_bland.specs.declared.places.EntryPlace.{EntryPlace}
+use Rattle.cip_bland.proofs.Zeros.{is_zero_of, is_zero_false, zero_of}
 
 -- a test that says when a number is 0 is the test of 0
 pub same_test : (q : ℚ) (b : Bool) → (IsTrue b ↔ (q ≡ zeroℚ)) → b ≡ is_zero q

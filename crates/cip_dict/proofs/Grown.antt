@@ -1,7 +1,7 @@
 -- Tables that grow by one value.
 use Rattle.std.proofs.Common.{◌≡◌, ℕ, ◌+◌, [], ◌∷◌, ◌++◌, refl, arith}
 use Rattle.std.proofs.lemmas.List.FromFn.{map-range_with_len_more}
-use Rattle.cip_dictionary.specs.Tables.{table}
+use Rattle.cip_bland.specs.Tables.{table}
 
 pub table_none : {X : Type 0} (f : ℕ → X) → [] ≡ table 0 f
 unfolding table

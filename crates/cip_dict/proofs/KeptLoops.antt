@@ -3,14 +3,14 @@ use Rattle.std.proofs.Common.{◌≡◌, ◌≢◌, ℕ, zero, suc, ◌+◌, ◌
 use Rattle.std.proofs.lemmas.Bool.{cases_eq, cases_lt, eq-eqb, ne_eqb, eqb-true}
 use Rattle.std.proofs.lemmas.List.{append-nil}
 use Rattle.cip_rational.specs.Rational.{ℚ, zeroℚ, is_zero}
-use Rattle.cip_dictionary.specs.Tables.{each}
-use Rattle.cip_dictionary.specs.Exchange.{is_absent, solved, substituted_at, substituted}
-use Rattle.cip_dictionary.specs.Operations.{Placed, first_overflow, entry_place}
-use Rattle.cip_dictionary.specs.MoveOperations.{solved_operations, substituted_operations_at, substituted_operations}
-use Rattle.cip_dictionary.specs.declared.places.Line.{Line}
-use Rattle.cip_dictionary.specs.declared.places.EntryPlace.{EntryPlace}
-use Rattle.cip_dictionary.proofs.Overflow.{overflow-append}
-use Rattle.cip_dictionary.proofs.Zeros.{is_zero_of, nonzero_of}
+use Rattle.cip_bland.specs.Tables.{each}
+use Rattle.cip_bland.specs.Exchange.{is_absent, solved, substituted_at, substituted}
+use Rattle.cip_bland.specs.Operations.{Placed, first_overflow, entry_place}
+use Rattle.cip_bland.specs.MoveOperations.{solved_operations, substituted_operations_at, substituted_operations}
+use Rattle.cip_bland.specs.declared.places.Line.{Line}
+use Rattle.cip_bland.specs.declared.places.EntryPlace.{EntryPlace}
+use Rattle.cip_bland.proofs.Overflow.{overflow-append}
+use Rattle.cip_bland.proofs.Zeros.{is_zero_of, nonzero_of}
 use Rattle.cip_dict.specs.SparseLines.{Kept, entry_on, kept_at, kept_of, AreKept}
 use Rattle.cip_dict.proofs.SparseLines.{sparse_lines_tell, entry_kept}
 use Rattle.cip_dict.proofs.Places.{passed, met, none_below}

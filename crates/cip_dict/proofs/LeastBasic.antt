@@ -1,7 +1,7 @@
 -- The least number that passes a test, by a loop upwards.
 use Rattle.std.proofs.Common.{◌≡◌, ℕ, zero, suc, ◌+◌, ◌<◌, Bool, true, false, cond, None, Some, refl, ap, inl, inr, arith, add-one}
 use Rattle.std.proofs.lemmas.Bool.{cases_eq}
-use Rattle.cip_dictionary.specs.Tables.{least, first_of}
+use Rattle.cip_bland.specs.Tables.{least, first_of}
 
 pub least_more : (n : ℕ) (test : ℕ → Bool) → least n test ≡ None → test n ≡ false → least (n + 1) test ≡ None
 least_more n test h e = rw (add-one, h, e) refl

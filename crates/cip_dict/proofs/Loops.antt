@@ -1,9 +1,9 @@
 -- Loops that write the values of a function, each with its operations.
 use Rattle.std.proofs.Common.{◌≡◌, ℕ, ◌+◌, ◌<◌, ◌≤◌, List, length, get_or, set, None, ap, ◌∙◌, arith}
 use Rattle.std.proofs.lemmas.List.Edits.{fill_by_more}
-use Rattle.cip_dictionary.specs.Tables.{table, each}
-use Rattle.cip_dictionary.specs.Operations.{Placed, first_overflow}
-use Rattle.cip_dictionary.proofs.Tables.{same_table}
+use Rattle.cip_bland.specs.Tables.{table, each}
+use Rattle.cip_bland.specs.Operations.{Placed, first_overflow}
+use Rattle.cip_bland.proofs.Tables.{same_table}
 
 -- one more value is written
 pub written_more : {X : Type 0} (g : ℕ → X) (out : List X) (k : ℕ) (v d : X) → k < length out → ((m : ℕ) → m < k → get_or out m d ≡ g m) → v ≡ g k → (m : ℕ) → m < k + 1 → get_or (set out k v) m d ≡ g m

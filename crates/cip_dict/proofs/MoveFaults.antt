@@ -1,8 +1,8 @@
 -- Faults of a part of the operations are those of all.
 use Rattle.std.proofs.Common.{◌≡◌, ℕ, ◌<◌, List, ◌++◌, None, Result, Ok, Err, MatchResult, ◌∙◌}
-use Rattle.cip_dictionary.specs.Tables.{each}
-use Rattle.cip_dictionary.specs.Operations.{Placed, first_overflow}
-use Rattle.cip_dictionary.proofs.Overflow.{overflow-append, overflow-found, first_at}
+use Rattle.cip_bland.specs.Tables.{each}
+use Rattle.cip_bland.specs.Operations.{Placed, first_overflow}
+use Rattle.cip_bland.proofs.Overflow.{overflow-append, overflow-found, first_at}
 use Rattle.cip_dict.specs.declared.fault.MoveFault.{MoveFault}
 use Rattle.cip_dict.specs.declared.fault.MoveFault.TheVariants.{OutOfRange, NoMemory}
 use Rattle.cip_dict.specs.MoveFaults.{IsMoveFault}

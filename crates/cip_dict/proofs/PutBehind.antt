@@ -4,7 +4,7 @@ use Rattle.std.specs.List.{insert}
 use Rattle.std.proofs.lemmas.List.{append-nil}
 use Rattle.cip_rational.specs.Rational.{ℚ, zeroℚ, ratio, is_zero}
 use Rattle.cip_rational.specs.Range.{magnitude}
-use Rattle.cip_dictionary.proofs.Zeros.{zero_of, nonzero_of}
+use Rattle.cip_bland.proofs.Zeros.{zero_of, nonzero_of}
 use Rattle.cip_dict.specs.SparseLines.{Kept, entry_on, AreKept, AreRising, IsPlace, kept_at}
 use Rattle.cip_dict.specs.WholeLines.{Whole, over, IsWhole}
 use Rattle.cip_dict.proofs.Places.{place_of, more_before}

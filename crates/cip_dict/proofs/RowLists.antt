@@ -5,7 +5,7 @@ use Rattle.std.proofs.lemmas.List.{get_or-set_same, get_or-set_other, get_or_rea
 use Rattle.std.specs.List.{swap}
 use Rattle.std.proofs.lemmas.List.Edits.{swap_is}
 use Rattle.cip_rational.specs.Rational.{ℚ}
-use Rattle.cip_dictionary.specs.declared.moves.Stand.{Stand}
+use Rattle.cip_bland.specs.declared.moves.Stand.{Stand}
 use Rattle.cip_dict.specs.Row.{HasRows, row_in}
 
 -- what is read at a number is the row of that number

@@ -4,10 +4,10 @@ use Rattle.std.specs.Bool.{⊤}
 use Rattle.std.proofs.lemmas.Bool.{cases_eq, eq-eqb, ne_eqb}
 use Rattle.std.proofs.lemmas.List.{append-nil}
 use Rattle.cip_rational.specs.Rational.{ℚ, zeroℚ, is_zero}
-use Rattle.cip_dictionary.specs.Tables.{table, each}
-use Rattle.cip_dictionary.specs.Operations.{Placed}
-use Rattle.cip_dictionary.proofs.Tables.{table_same}
-use Rattle.cip_dictionary.proofs.Zeros.{zero_of, is_zero_of}
+use Rattle.cip_bland.specs.Tables.{table, each}
+use Rattle.cip_bland.specs.Operations.{Placed}
+use Rattle.cip_bland.proofs.Tables.{table_same}
+use Rattle.cip_bland.proofs.Zeros.{zero_of, is_zero_of}
 use Rattle.cip_dict.specs.SparseLines.{Kept, entry_on, dense, kept_at, kept_of, SparseLinesTell}
 
 -- the variables are below n

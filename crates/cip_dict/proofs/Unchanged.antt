@@ -2,16 +2,16 @@
 use Rattle.std.proofs.Common.{◌≡◌, ℕ, zero, suc, ◌==◌, Bool, true, false, cond, not, ◌&&◌, ◌||◌, List, [], length, Option, None, refl, ap, ◌∙◌}
 use Rattle.cip_rational.specs.Rational.{ℚ, zeroℚ, negate, is_zero}
 use Rattle.cip_problem.specs.Activity.{value_at}
-use Rattle.cip_dictionary.specs.Tables.{each}
-use Rattle.cip_dictionary.specs.Exchange.{is_absent, solved_at, solved, substituted_at, substituted}
-use Rattle.cip_dictionary.specs.Operations.{Placed, first_overflow}
-use Rattle.cip_dictionary.specs.MoveOperations.{solved_operations_at, solved_operations, substituted_operations_at, substituted_operations}
+use Rattle.cip_bland.specs.Tables.{each}
+use Rattle.cip_bland.specs.Exchange.{is_absent, solved_at, solved, substituted_at, substituted}
+use Rattle.cip_bland.specs.Operations.{Placed, first_overflow}
+use Rattle.cip_bland.specs.MoveOperations.{solved_operations_at, solved_operations, substituted_operations_at, substituted_operations}
 use Rattle.cip_rational.proofs.Rational.Ring.{negate_zero}
-use Rattle.cip_dictionary.proofs.Zeros.{is_zero_of, zero_of}
-use Rattle.cip_dictionary.specs.declared.places.Line.{Line}
-use Rattle.cip_dictionary.specs.declared.places.EntryPlace.{EntryPlace}
-use Rattle.cip_dictionary.specs.declared.moves.Stand.{Stand}
-use Rattle.cip_dictionary.proofs.Overflow.{overflow-append}
+use Rattle.cip_bland.proofs.Zeros.{is_zero_of, zero_of}
+use Rattle.cip_bland.specs.declared.places.Line.{Line}
+use Rattle.cip_bland.specs.declared.places.EntryPlace.{EntryPlace}
+use Rattle.cip_bland.specs.declared.moves.Stand.{Stand}
+use Rattle.cip_bland.proofs.Overflow.{overflow-append}
 use Rattle.cip_dict.proofs.Formed.{product_zero_left, sum_zero_right}
 use Rattle.cip_dict.specs.Lists.{basic_in}
 use Rattle.cip_dict.specs.Row.{form_changes, form_operations_in, written_form}

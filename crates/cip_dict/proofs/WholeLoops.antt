@@ -4,7 +4,7 @@ use Rattle.std.proofs.lemmas.Bool.{eq-eqb, ne_eqb}
 use Rattle.std.proofs.lemmas.Int.{ints}
 use Rattle.std.proofs.lemmas.List.{append-nil, take_more}
 use Rattle.cip_rational.specs.Rational.{ratio}
-use Rattle.cip_dictionary.specs.Exchange.{is_absent}
+use Rattle.cip_bland.specs.Exchange.{is_absent}
 use Rattle.cip_dict.specs.SparseLines.{AreKept}
 use Rattle.cip_dict.specs.WholeLines.{Whole, over, number_on, is_none, whole_at, wholes_of, put_number, turned_number}
 use Rattle.cip_dict.proofs.WholeLines.{whole_lines_tell}

@@ -12,7 +12,7 @@ use Rattle.cip_frac.specs.FractionFault.{quotient_of, IsFaultOf}
 use Rattle.cip_frac.specs.declared.fraction.FracFault.{FracFault}
 use Rattle.cip_frac.specs.declared.fraction.FracFault.TheVariants.{ZeroBelow, Wide}
 use Rattle.cip_rational.proofs.Rational.Ratio.{same_truth, ratio_same, same_ratio, ratio-mul, ratio-lt_test, integer_ratio}
-use Rattle.cip_dictionary.proofs.Zeros.{is_zero_of, is_zero_false}
+use Rattle.cip_bland.proofs.Zeros.{is_zero_of, is_zero_false}
 use Rattle.cip_dict.specs.SparseLines.{Kept, entry_on, AreKept, AreRising, IsPlace}
 use Rattle.cip_dict.proofs.WholeLines.{whole_lines_tell}
 use Rattle.cip_dict.proofs.Places.{entry_miss, all_below}

@@ -7,14 +7,14 @@ use Rattle.cip_rational.specs.Rational.{ℚ, ◌+ℚ◌, ◌*ℚ◌, negate, inv
 use Rattle.cip_rational.specs.Range.{magnitude, sum_overflows, product_overflows}
 use Rattle.cip_rational.proofs.Rational.Inverse.{inverse_zero}
 use Rattle.cip_rational.proofs.Rational.Ratio.{ratio-negate}
-use Rattle.cip_dictionary.specs.Tables.{each}
-use Rattle.cip_dictionary.specs.Exchange.{is_absent, solved_at, solved, substituted_at, substituted}
-use Rattle.cip_dictionary.specs.Operations.{Placed, first_overflow, entry_place, product_at, sum_at}
-use Rattle.cip_dictionary.specs.MoveOperations.{solved_operations_at, solved_operations, substituted_operations_at, substituted_operations}
-use Rattle.cip_dictionary.specs.declared.places.Line.{Line}
-use Rattle.cip_dictionary.specs.declared.places.EntryPlace.{EntryPlace}
-use Rattle.cip_dictionary.proofs.Overflow.{overflow-append}
-use Rattle.cip_dictionary.proofs.Zeros.{is_zero_of, is_zero_false}
+use Rattle.cip_bland.specs.Tables.{each}
+use Rattle.cip_bland.specs.Exchange.{is_absent, solved_at, solved, substituted_at, substituted}
+use Rattle.cip_bland.specs.Operations.{Placed, first_overflow, entry_place, product_at, sum_at}
+use Rattle.cip_bland.specs.MoveOperations.{solved_operations_at, solved_operations, substituted_operations_at, substituted_operations}
+use Rattle.cip_bland.specs.declared.places.Line.{Line}
+use Rattle.cip_bland.specs.declared.places.EntryPlace.{EntryPlace}
+use Rattle.cip_bland.proofs.Overflow.{overflow-append}
+use Rattle.cip_bland.proofs.Zeros.{is_zero_of, is_zero_false}
 use Rattle.cip_dict.specs.SparseLines.{entry_on, kept_at, kept_of}
 use Rattle.cip_dict.specs.WholeLines.{Whole, over, number_on, is_none, whole_at, wholes_of, put_number, turned_number, IsWhole, IsPut, HasTermsBelow}
 use Rattle.cip_dict.proofs.Formed.{product_zero_left, product_zero_right, product_fits, sum_zero_left, sum_zero_right, sum_fits}

@@ -3,8 +3,8 @@ use Rattle.std.specs.Prelude.{◌≡◌, ℕ, ◌<◌, ◌==◌, ◌&&◌, List,
 use Rattle.cip_rational.specs.Rational.{ℚ, zeroℚ}
 use Rattle.cip_problem.specs.Program.{Sides}
 use Rattle.cip_problem.specs.Activity.{value_at}
-use Rattle.cip_dictionary.specs.Operations.{Placed, first_overflow}
-use Rattle.cip_dictionary.specs.FirstState.{System, first_operations}
+use Rattle.cip_bland.specs.Operations.{Placed, first_overflow}
+use Rattle.cip_bland.specs.FirstState.{System, first_operations}
 use Rattle.cip_dict.specs.declared.fault.FirstFault.{FirstFault}
 use Rattle.cip_dict.specs.declared.fault.FirstFault.TheVariants.{OutOfRange, NoMemory}
 

@@ -4,14 +4,14 @@ use Rattle.cip_rational.specs.Rational.{ℚ, zeroℚ}
 use Rattle.cip_problem.specs.Program.{Sides}
 use Rattle.cip_problem.specs.Activity.{value_at}
 use Rattle.cip_problem.specs.Box.{sides_at}
-use Rattle.cip_dictionary.specs.Dictionary.{standing_value}
-use Rattle.cip_dictionary.specs.FirstState.{first_stand, form_operations}
-use Rattle.cip_dictionary.specs.Tables.{table, each, form}
-use Rattle.cip_dictionary.specs.Operations.{Placed}
-use Rattle.cip_dictionary.specs.declared.places.Line.TheVariants.{Row, Cost}
+use Rattle.cip_bland.specs.Dictionary.{standing_value}
+use Rattle.cip_bland.specs.FirstState.{first_stand, form_operations}
+use Rattle.cip_bland.specs.Tables.{table, each, form}
+use Rattle.cip_bland.specs.Operations.{Placed}
+use Rattle.cip_bland.specs.declared.places.Line.TheVariants.{Row, Cost}
 use Rattle.cip_dict.specs.Row.{row_in}
 use Rattle.cip_dict.specs.Entries.{Entry, entry_from}
-use Rattle.cip_dictionary.specs.declared.moves.Stand.{Stand}
+use Rattle.cip_bland.specs.declared.moves.Stand.{Stand}
 
 -- where variable v stands: a column at a side or at 0, and a row is basic
 abbrev pub stand_in : List Sides → ℕ → Option Stand

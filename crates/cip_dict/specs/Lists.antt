@@ -2,7 +2,7 @@
 use Rattle.std.specs.Prelude.{ℕ, Bool, not, is_some, List, [], Option, None, slice_index_or}
 use Rattle.cip_rational.specs.Rational.{ℚ}
 use Rattle.cip_problem.specs.Activity.{value_at}
-use Rattle.cip_dictionary.specs.declared.moves.Stand.{Stand}
+use Rattle.cip_bland.specs.declared.moves.Stand.{Stand}
 
 -- whether a variable is basic, by where all stand
 abbrev pub basic_in : List (Option Stand) → ℕ → Bool

@@ -1,6 +1,6 @@
 -- Why an exchange isn't made.
 use Rattle.std.specs.Prelude.{◌≡◌, List, Some, ⊤}
-use Rattle.cip_dictionary.specs.Operations.{Placed, first_overflow}
+use Rattle.cip_bland.specs.Operations.{Placed, first_overflow}
 use Rattle.cip_dict.specs.declared.fault.MoveFault.{MoveFault}
 use Rattle.cip_dict.specs.declared.fault.MoveFault.TheVariants.{OutOfRange, NoMemory}
 

@@ -1,11 +1,11 @@
 -- The lines of an exchange, by its pivot.
 use Rattle.std.specs.Prelude.{ℕ, ℤ, ◌==◌, Bool, List}
 use Rattle.cip_rational.specs.Rational.{ℚ}
-use Rattle.cip_dictionary.specs.Operations.{Placed, entry_place}
-use Rattle.cip_dictionary.specs.Exchange.{is_absent, solved_at, solved, substituted_at, substituted}
-use Rattle.cip_dictionary.specs.MoveOperations.{solved_operations_at, solved_operations, substituted_operations_at, substituted_operations}
-use Rattle.cip_dictionary.specs.declared.places.Line.{Line}
-use Rattle.cip_dictionary.specs.declared.places.Line.TheVariants.{Row}
+use Rattle.cip_bland.specs.Operations.{Placed, entry_place}
+use Rattle.cip_bland.specs.Exchange.{is_absent, solved_at, solved, substituted_at, substituted}
+use Rattle.cip_bland.specs.MoveOperations.{solved_operations_at, solved_operations, substituted_operations_at, substituted_operations}
+use Rattle.cip_bland.specs.declared.places.Line.{Line}
+use Rattle.cip_bland.specs.declared.places.Line.TheVariants.{Row}
 use Rattle.cip_dict.specs.declared.pivots.Pivot.{Pivot}
 use Rattle.cip_dict.specs.declared.whole_sums.Factors.{Factors}
 use Rattle.cip_dict.specs.Lists.{basic_in}

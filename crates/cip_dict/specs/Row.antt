@@ -2,12 +2,12 @@
 use Rattle.std.specs.Prelude.{◌≡◌, ℕ, ◌==◌, ◌<◌, Bool, ◌&&◌, not, true, false, List, [], length, Option, slice_index_or, if◌then◌else◌}
 use Rattle.cip_rational.specs.Rational.{ℚ, is_zero}
 use Rattle.cip_problem.specs.Activity.{value_at}
-use Rattle.cip_dictionary.specs.Tables.{table, each}
-use Rattle.cip_dictionary.specs.Exchange.{substituted}
-use Rattle.cip_dictionary.specs.Operations.{Placed}
-use Rattle.cip_dictionary.specs.MoveOperations.{substituted_operations}
-use Rattle.cip_dictionary.specs.declared.places.Line.TheVariants.{Row}
-use Rattle.cip_dictionary.specs.declared.moves.Stand.{Stand}
+use Rattle.cip_bland.specs.Tables.{table, each}
+use Rattle.cip_bland.specs.Exchange.{substituted}
+use Rattle.cip_bland.specs.Operations.{Placed}
+use Rattle.cip_bland.specs.MoveOperations.{substituted_operations}
+use Rattle.cip_bland.specs.declared.places.Line.TheVariants.{Row}
+use Rattle.cip_bland.specs.declared.moves.Stand.{Stand}
 use Rattle.cip_dict.specs.declared.lists.Spelled.{Spelled}
 use Rattle.cip_dict.specs.Lists.{basic_in}
 use Rattle.cip_dict.specs.WholeLines.{IsSpelled}

@@ -1,8 +1,8 @@
 -- Lines of which only the entries that aren't 0 are kept: each with its variable, by rising variable.
 use Rattle.std.specs.Prelude.{◌≡◌, ◌≢◌, ℕ, zero, suc, ◌+◌, ◌<◌, ◌≤◌, ◌==◌, List, [], ◌∷◌, ◌++◌, if◌then◌else◌, ⊤}
 use Rattle.cip_rational.specs.Rational.{ℚ, zeroℚ, is_zero}
-use Rattle.cip_dictionary.specs.Tables.{table, each}
-use Rattle.cip_dictionary.specs.Operations.{Placed}
+use Rattle.cip_bland.specs.Tables.{table, each}
+use Rattle.cip_bland.specs.Operations.{Placed}
 
 -- a variable, and the entry on it
 abbrev pub Kept : Type 0

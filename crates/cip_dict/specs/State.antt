@@ -1,8 +1,8 @@
 -- The state that the lists of a dictionary make, and the room beside them.
 use Rattle.std.specs.Prelude.{◌≡◌, ◌<◌, ◌^◌, List, length, Option}
 use Rattle.cip_problem.specs.Program.{Sides}
-use Rattle.cip_dictionary.specs.Dictionary.{Dictionary, IsConsistent}
-use Rattle.cip_dictionary.specs.declared.moves.Stand.{Stand}
+use Rattle.cip_bland.specs.Dictionary.{Dictionary, IsConsistent}
+use Rattle.cip_bland.specs.declared.moves.Stand.{Stand}
 use Rattle.cip_dict.specs.declared.lists.Lists.{Lists}
 use Rattle.cip_dict.specs.declared.lists.Room.{Room}
 use Rattle.cip_dict.specs.Row.{HasRows}

@@ -2,12 +2,12 @@
 use Rattle.std.specs.Prelude.{◌≡◌, ℕ, ◌==◌, Bool, true, false, ◌||◌, List, [], Option, Some, None, if◌then◌else◌}
 use Rattle.cip_rational.specs.Rational.{ℚ, ◌+ℚ◌, ◌*ℚ◌}
 use Rattle.cip_problem.specs.Activity.{value_at}
-use Rattle.cip_dictionary.specs.Exchange.{moved_at}
-use Rattle.cip_dictionary.specs.Operations.{Placed, first_overflow, value_place, sum_at}
-use Rattle.cip_dictionary.specs.MoveOperations.{moved_operations_at}
-use Rattle.cip_dictionary.specs.declared.places.Line.TheVariants.{Row}
-use Rattle.cip_dictionary.specs.declared.places.EntryPlace.{EntryPlace}
-use Rattle.cip_dictionary.specs.declared.moves.Stand.{Stand}
+use Rattle.cip_bland.specs.Exchange.{moved_at}
+use Rattle.cip_bland.specs.Operations.{Placed, first_overflow, value_place, sum_at}
+use Rattle.cip_bland.specs.MoveOperations.{moved_operations_at}
+use Rattle.cip_bland.specs.declared.places.Line.TheVariants.{Row}
+use Rattle.cip_bland.specs.declared.places.EntryPlace.{EntryPlace}
+use Rattle.cip_bland.specs.declared.moves.Stand.{Stand}
 use Rattle.cip_dict.specs.Lists.{basic_in, entry_in}
 
 -- the product a * b was added to c, which came to `new`; or one of the two operations overflows

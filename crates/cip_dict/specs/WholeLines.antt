@@ -2,7 +2,7 @@
 use Rattle.std.specs.Prelude.{◌≡◌, ℕ, zero, suc, ◌<◌, ◌*◌, ◌^◌, ℤ, pos, neg_ℤ, ◌+ℤ◌, ◌*ℤ◌, ◌==◌, Bool, true, false, List, [], ◌∷◌, ◌++◌, if◌then◌else◌, ⊤}
 use Rattle.cip_rational.specs.Rational.{ℚ, ◌+ℚ◌, ◌*ℚ◌, negate, inverse, ratio, numerator, denominator}
 use Rattle.cip_rational.specs.Range.{magnitude, sum_overflows, product_overflows}
-use Rattle.cip_dictionary.specs.Exchange.{is_absent}
+use Rattle.cip_bland.specs.Exchange.{is_absent}
 use Rattle.cip_dict.specs.SparseLines.{Kept, AreKept, dense}
 
 -- a variable, and the whole number on it

@@ -2,13 +2,13 @@
 use Rattle.std.specs.Prelude.{◌≡◌, ℕ, ◌<◌, ◌==◌, true, List, [], ◌∷◌, ◌++◌, length, Option, None, Some, slice_set, slice_index_or, if◌then◌else◌}
 use Rattle.cip_rational.specs.Rational.{ℚ, ◌+ℚ◌, ◌-ℚ◌, ◌*ℚ◌}
 use Rattle.cip_problem.specs.Activity.{value_at}
-use Rattle.cip_dictionary.specs.Tables.{table, each}
-use Rattle.cip_dictionary.specs.Dictionary.{Dictionary, size, entry, cost_entry}
-use Rattle.cip_dictionary.specs.Exchange.{solved, substituted, moved, moved_cost, entering, exchanged_row, step, way, other_stand}
-use Rattle.cip_dictionary.specs.Operations.{Difference, Product, Placed, value_place, placed, sum_at}
-use Rattle.cip_dictionary.specs.MoveOperations.{solved_operations, substituted_operations}
-use Rattle.cip_dictionary.specs.declared.places.Line.TheVariants.{Row, Cost}
-use Rattle.cip_dictionary.specs.declared.moves.Stand.{Stand}
+use Rattle.cip_bland.specs.Tables.{table, each}
+use Rattle.cip_bland.specs.Dictionary.{Dictionary, size, entry, cost_entry}
+use Rattle.cip_bland.specs.Exchange.{solved, substituted, moved, moved_cost, entering, exchanged_row, step, way, other_stand}
+use Rattle.cip_bland.specs.Operations.{Difference, Product, Placed, value_place, placed, sum_at}
+use Rattle.cip_bland.specs.MoveOperations.{solved_operations, substituted_operations}
+use Rattle.cip_bland.specs.declared.places.Line.TheVariants.{Row, Cost}
+use Rattle.cip_bland.specs.declared.moves.Stand.{Stand}
 use Rattle.cip_dict.specs.declared.lists.Lists.{Lists}
 use Rattle.cip_dict.specs.declared.lists.Room.{Room}
 use Rattle.cip_dict.specs.Lists.{basic_in, entry_in}

@@ -2,14 +2,14 @@
 ghost use Rattle.std.specs.Prelude.{◌≡◌, ◌+◌, ◌<◌, ◌^◌, length, not, true, Some, None, MatchResult, slice_index_or};
 ghost use Rattle.cip_rational.specs.Rational.{zeroℚ, lt_test, is_zero};
 ghost use Rattle.cip_problem.specs.Box.{sides_at};
-ghost use Rattle.cip_dictionary.specs.Dictionary as def;
-ghost use Rattle.cip_dictionary.specs.Exchange.{CanExchange, exchanged, CanFlip, flipped};
-ghost use Rattle.cip_dictionary.specs.FirstState.{first, first_operations};
+ghost use Rattle.cip_bland.specs.Dictionary as def;
+ghost use Rattle.cip_bland.specs.Exchange.{CanExchange, exchanged, CanFlip, flipped};
+ghost use Rattle.cip_bland.specs.FirstState.{first, first_operations};
 ghost use Rattle.cip_dict.specs.Entries.{AreWithin, system_in, IsFirstFault};
 ghost use Rattle.cip_dict.specs.MoveFaults.{IsMoveFault};
 ghost use Rattle.cip_dict.specs.SparseLines.{Kept, kept_of};
-ghost use Rattle.cip_dictionary.specs.Operations.{first_overflow};
-ghost use Rattle.cip_dictionary.specs.MoveOperations.{exchange_operations, flip_operations};
+ghost use Rattle.cip_bland.specs.Operations.{first_overflow};
+ghost use Rattle.cip_bland.specs.MoveOperations.{exchange_operations, flip_operations};
 
 use crate::exchange::{plan, take_over};
 use crate::fault::{FirstFault, MoveFault, OutOfRange};
@@ -18,7 +18,7 @@ use crate::flip::{plan_flip, take_flip};
 use crate::lists::{Lists, Room};
 use crate::pivots::Exchange;
 use crate::spare::Spare;
-use cip_dictionary::Stand;
+use cip_bland::Stand;
 use cip_frac::Frac;
 use cip_lin::Sides;
 use std::alloc::Global;
@@ -35,7 +35,7 @@ pub struct Dict {
 }
 
 impl Model for Dict {
-    ghost use Rattle.cip_dictionary.specs.Dictionary.{Dictionary};
+    ghost use Rattle.cip_bland.specs.Dictionary.{Dictionary};
     ghost use Rattle.cip_dict.specs.DictionaryCode.{dictionary_code};
 
     ghost Value = { Dictionary };

@@ -2,11 +2,11 @@
 ghost use Rattle.std.specs.Prelude.{◌≡◌, ◌∷◌, [], Some, None, MatchResult};
 ghost use Rattle.cip_rational.specs.Rational.{◌+ℚ◌, ◌-ℚ◌, ◌*ℚ◌, lt_test, is_zero};
 ghost use Rattle.cip_rational.specs.Range.{difference_overflows};
-ghost use Rattle.cip_dictionary.specs.Operations.{first_overflow, product_at, sum_at, Difference, Product, Sum, placed};
+ghost use Rattle.cip_bland.specs.Operations.{first_overflow, product_at, sum_at, Difference, Product, Sum, placed};
 ghost use Rattle.cip_dict.specs.Values.{IsAdded};
 
 use crate::fault::OutOfRange;
-use cip_dictionary::EntryPlace;
+use cip_bland::EntryPlace;
 use cip_frac::Frac;
 
 /// Whether a number is 0.

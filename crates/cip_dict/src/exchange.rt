@@ -3,14 +3,14 @@ ghost use Rattle.std.specs.Prelude.{◌≡◌, ◌≢◌, ℕ, ◌<◌, ◌^◌,
 ghost use Rattle.cip_rational.specs.Rational.{zeroℚ, inverse, is_zero};
 ghost use Rattle.cip_problem.specs.Box.{sides_at};
 ghost use Rattle.cip_problem.specs.Activity.{value_at};
-ghost use Rattle.cip_dictionary.specs.Tables.{table, each};
-ghost use Rattle.cip_dictionary.specs.Operations.{first_overflow};
+ghost use Rattle.cip_bland.specs.Tables.{table, each};
+ghost use Rattle.cip_bland.specs.Operations.{first_overflow};
 ghost use Rattle.cip_dict.specs.Lists.{basic_in, entry_in};
 ghost use Rattle.cip_dict.specs.Pivots.{solved_by, solved_operations_by, substituted_by, substituted_operations_by};
 ghost use Rattle.cip_dict.specs.Row.{row_in, taken_form, AreMarked, HasRows, HasRowsAfter, HasSpelled};
-ghost use Rattle.cip_dictionary.specs.Dictionary.{standing_value};
-ghost use Rattle.cip_dictionary.specs.Exchange.{CanExchange, exchanged};
-ghost use Rattle.cip_dictionary.specs.MoveOperations.{exchange_operations};
+ghost use Rattle.cip_bland.specs.Dictionary.{standing_value};
+ghost use Rattle.cip_bland.specs.Exchange.{CanExchange, exchanged};
+ghost use Rattle.cip_bland.specs.MoveOperations.{exchange_operations};
 ghost use Rattle.cip_dict.specs.MoveFaults.{IsMoveFault};
 ghost use Rattle.cip_dict.specs.State.{state, HasLists, HasRoom};
 ghost use Rattle.cip_dict.specs.Written.{entering_in, other_operations, OthersWritten, lines_operations, LinesWritten, moves_operations, MovesWritten, step_in, values_operations, IsPlanned, entered_form, IsTakenOver};
@@ -23,7 +23,7 @@ use crate::lists::{Lists, Room, Scratch};
 use crate::pivots::{Exchange, Pivot};
 use crate::rows::{take_rows, write_rows};
 use crate::values::{Shift, take_values, value_of, write_moved};
-use cip_dictionary::{Line, Stand};
+use cip_bland::{Line, Stand};
 use cip_frac::Frac;
 use cip_lin::Sides;
 

@@ -1,16 +1,16 @@
 //! Why a state can't be formed.
-use cip_dictionary::EntryPlace;
+use cip_bland::EntryPlace;
 use std::alloc::AllocError;
 
 /// The first operation of a move that leaves the range of fractions.
-#[derive(Clone, Copy, PartialEq, Eq)]
+#[derive(Clone, Copy)]
 pub struct OutOfRange {
     /// Where it is formed.
     pub place: EntryPlace,
 }
 
 /// Why an exchange isn't made.
-#[derive(Clone, Copy, PartialEq, Eq)]
+#[derive(Clone, Copy)]
 pub enum MoveFault {
     /// The first operation that leaves the range of fractions is formed there.
     OutOfRange { place: EntryPlace },
@@ -30,7 +30,7 @@ impl From<AllocError> for MoveFault {
 }
 
 /// Why there is no first state.
-#[derive(Clone, Copy, PartialEq, Eq)]
+#[derive(Clone, Copy)]
 pub enum FirstFault {
     /// The first operation that leaves the range of fractions is formed there.
     OutOfRange { place: EntryPlace },

@@ -3,10 +3,10 @@ ghost use Rattle.std.specs.Prelude.{◌≡◌, ℕ, ◌+◌, ◌-◌, ◌<◌, �
 ghost use Rattle.cip_rational.specs.Rational.{zeroℚ, ◌+ℚ◌, ◌*ℚ◌};
 ghost use Rattle.cip_problem.specs.Activity.{value_at};
 ghost use Rattle.cip_problem.specs.Box.{sides_at};
-ghost use Rattle.cip_dictionary.specs.Tables.{table, each, form};
-ghost use Rattle.cip_dictionary.specs.Dictionary.{standing_value};
-ghost use Rattle.cip_dictionary.specs.FirstState.{first, first_stand, form_operations, first_operations};
-ghost use Rattle.cip_dictionary.specs.Operations.{first_overflow, value_place, sum_at};
+ghost use Rattle.cip_bland.specs.Tables.{table, each, form};
+ghost use Rattle.cip_bland.specs.Dictionary.{standing_value};
+ghost use Rattle.cip_bland.specs.FirstState.{first, first_stand, form_operations, first_operations};
+ghost use Rattle.cip_bland.specs.Operations.{first_overflow, value_place, sum_at};
 ghost use Rattle.cip_dict.specs.Lists.{basic_in};
 ghost use Rattle.cip_dict.specs.Row.{row_in, row_length, HasRows};
 ghost use Rattle.cip_dict.specs.Entries.{entry_from, AreWithin, system_in, IsRowFault, IsFirstFault};
@@ -20,7 +20,7 @@ use crate::lines::is_basic;
 use crate::lists::{Lists, Room, Scratch, Spelled};
 use crate::settle::settle_lists;
 use crate::spare::Spare;
-use cip_dictionary::{Line, Stand};
+use cip_bland::{Line, Stand};
 use cip_frac::Frac;
 use cip_lin::Sides;
 use std::alloc::{AllocError, Global};
@@ -347,11 +347,14 @@ fn room_for(
 ) -> Result<Room, AllocError>
     ensures { IfOk result (λ room. HasRoom standing.now room) }
 {
-    let entering = Form::zeros(alloc, spare, standing.len());
-    let rows = empty_rows(alloc, spare, standing)?;
-    let costs = Form::zeros(alloc, spare, standing.len());
-    let values = spare.zeros(alloc, standing.len())?;
     let changed = spare.marks(alloc, standing.len())?;
+    let values = spare.zeros(alloc, standing.len())?;
+    let entering = Form::zeros(alloc, spare, standing.len());
+    let Ok(rows) = empty_rows(alloc, spare, standing) else {
+        drop(entering);
+        return Err(AllocError);
+    };
+    let costs = Form::zeros(alloc, spare, standing.len());
     let held = room_of(lists.rows.as_slice()).saturating_add(room_of(rows.as_slice()));
     let others = lists.costs.room().saturating_add(costs.room());
     let held = held.saturating_add(others).saturating_add(entering.room());

@@ -3,11 +3,11 @@ ghost use Rattle.std.specs.Prelude.{◌≡◌, ℕ, ◌<◌, ◌^◌, true, fals
 ghost use Rattle.cip_rational.specs.Rational.{◌+ℚ◌};
 ghost use Rattle.cip_problem.specs.Activity.{value_at};
 ghost use Rattle.cip_problem.specs.Box.{sides_at};
-ghost use Rattle.cip_dictionary.specs.Tables.{least};
-ghost use Rattle.cip_dictionary.specs.Dictionary.{standing_value};
-ghost use Rattle.cip_dictionary.specs.Exchange.{CanFlip, other_stand};
-ghost use Rattle.cip_dictionary.specs.Operations.{first_overflow};
-ghost use Rattle.cip_dictionary.specs.MoveOperations.{first_line, flip_operations};
+ghost use Rattle.cip_bland.specs.Tables.{least};
+ghost use Rattle.cip_bland.specs.Dictionary.{standing_value};
+ghost use Rattle.cip_bland.specs.Exchange.{CanFlip, other_stand};
+ghost use Rattle.cip_bland.specs.Operations.{first_overflow};
+ghost use Rattle.cip_bland.specs.MoveOperations.{first_line, flip_operations};
 ghost use Rattle.cip_dict.specs.Lists.{basic_in};
 ghost use Rattle.cip_dict.specs.State.{state, HasLists, HasRoom};
 ghost use Rattle.cip_dict.specs.Written.{flips_operations, MovesWritten, IsFlipPlanned, IsFlipTaken};
@@ -18,7 +18,7 @@ use crate::fault::OutOfRange;
 use crate::lines::is_basic;
 use crate::lists::{Lists, Room};
 use crate::values::{Shift, take_values, value_of, write_flipped};
-use cip_dictionary::{Line, Stand};
+use cip_bland::{Line, Stand};
 use cip_frac::Frac;
 use cip_lin::Sides;
 

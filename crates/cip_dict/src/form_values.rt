@@ -2,16 +2,16 @@
 ghost use Rattle.std.specs.Prelude.{◌≡◌, ℕ, ◌<◌, ◌≤◌, ◌&&◌, ◌==◌, true, false, length, slice_index_or, Some, None, MatchResult};
 ghost use Rattle.cip_rational.specs.Rational.{◌+ℚ◌, ◌*ℚ◌};
 ghost use Rattle.cip_problem.specs.Activity.{value_at};
-ghost use Rattle.cip_dictionary.specs.Tables.{form};
-ghost use Rattle.cip_dictionary.specs.FirstState.{form_operations};
-ghost use Rattle.cip_dictionary.specs.Operations.{first_overflow, value_place, sum_at};
+ghost use Rattle.cip_bland.specs.Tables.{form};
+ghost use Rattle.cip_bland.specs.FirstState.{form_operations};
+ghost use Rattle.cip_bland.specs.Operations.{first_overflow, value_place, sum_at};
 ghost use Rattle.cip_dict.specs.SparseLines.{Kept, entry_on, AreKept};
 
 use crate::entries::sum;
 use crate::fault::OutOfRange;
 use crate::listed::is_within;
 use crate::values::value_of;
-use cip_dictionary::Line;
+use cip_bland::Line;
 use cip_frac::Frac;
 
 /// A sum with the product of an entry and the value of its variable.

@@ -2,9 +2,9 @@
 ghost use Rattle.std.specs.Prelude.{◌≡◌, ℕ, not, ◌^◌, ◌<◌, ◌≤◌, [], length, Some, None, OnOk, MatchResult, replicate, slice_set, slice_index_or};
 ghost use Rattle.cip_rational.specs.Rational.{zeroℚ, lt_test, ratio, is_zero};
 ghost use Rattle.cip_problem.specs.Activity.{value_at};
-ghost use Rattle.cip_dictionary.specs.Tables.{form};
-ghost use Rattle.cip_dictionary.specs.FirstState.{form_operations};
-ghost use Rattle.cip_dictionary.specs.Operations.{first_overflow};
+ghost use Rattle.cip_bland.specs.Tables.{form};
+ghost use Rattle.cip_bland.specs.FirstState.{form_operations};
+ghost use Rattle.cip_bland.specs.Operations.{first_overflow};
 ghost use Rattle.cip_dict.specs.SparseLines.{Kept, kept_of};
 ghost use Rattle.cip_dict.specs.WholeLines.{IsSpelled};
 
@@ -16,7 +16,7 @@ use crate::settle::{common_below, settle_entries};
 use crate::spare::Spare;
 use crate::whole::{fraction, number_of, put_over, spell_wholes, whole_entry_at};
 use crate::whole_entries::{put_behind, wholes_value};
-use cip_dictionary::Line;
+use cip_bland::Line;
 use cip_frac::Frac;
 use std::alloc::{AllocError, Global};
 use std::marker::Model;

@@ -27,7 +27,7 @@ mod whole_entries;
 mod whole_sums;
 mod whole_turns;
 
-pub use cip_dictionary::{EntryPlace, Line, Move, Stand};
+pub use cip_bland::{EntryPlace, Line, Move, Stand};
 pub use cip_frac::Frac;
 pub use dict::Dict;
 pub use fault::{FirstFault, MoveFault, OutOfRange};

@@ -1,10 +1,10 @@
 //! The lines of a dictionary, entry by entry.
 ghost use Rattle.std.specs.Prelude.{◌≡◌, ◌==◌, ◌&&◌, not, ◌<◌, ◌≤◌, ◌^◌, ◌∷◌, ◌++◌, List, [], true, false, pos, neg_ℤ, unsigned_abs, length, Some, None, OnOk, OnErr, IfOk, MatchResult, if◌then◌else◌};
 ghost use Rattle.cip_rational.specs.Rational.{ℚ, inverse, ratio, is_zero};
-ghost use Rattle.cip_dictionary.specs.declared.places.Line as places;
+ghost use Rattle.cip_bland.specs.declared.places.Line as places;
 ghost use Rattle.cip_problem.specs.Activity.{value_at};
-ghost use Rattle.cip_dictionary.specs.Tables.{table, each};
-ghost use Rattle.cip_dictionary.specs.Operations.{Placed, first_overflow, entry_place};
+ghost use Rattle.cip_bland.specs.Tables.{table, each};
+ghost use Rattle.cip_bland.specs.Operations.{Placed, first_overflow, entry_place};
 ghost use Rattle.cip_dict.specs.Lists.{basic_in};
 ghost use Rattle.cip_dict.specs.MoveFaults.{IsMoveFault};
 ghost use Rattle.cip_dict.specs.Pivots.{absent_by, solved_by, solved_operations_by, substituted_by, substituted_operations_by, solved_on, solved_operations_on, substituted_on, substituted_operations_on};
@@ -21,7 +21,7 @@ use crate::pivots::Pivot;
 use crate::whole::{Wholes, number_of};
 use crate::whole_sums::put_whole;
 use crate::whole_turns::turn_entries;
-use cip_dictionary::{EntryPlace, Line, Stand};
+use cip_bland::{EntryPlace, Line, Stand};
 use cip_frac::Frac;
 use std::alloc::AllocError;
 

@@ -167,8 +167,10 @@ pub(crate) fn put_near(
         → (0 < below) × (below < 2 ^ 42) × AreBelow (2 ^ 42) out.new.items
         × (over below out.new.items ≡ over under (wholes_of n (put_by pivot.now factors row.now new.now)))) }
 {
-    let Some(near) = sum_near(pivot, factors, row, new, under, out)? else {
-        return Ok(Put::Far);
+    let near = match sum_near(pivot, factors, row, new, under, out) {
+        Ok(Some(near)) => near,
+        Ok(None) => return Ok(Put::Far),
+        Err(error) => return Err(error),
     };
     if near.g == 1 {
         return Ok(if near.most < SMALL {

@@ -1,5 +1,5 @@
 //! Exchanges: what leaves, what enters, and what lines are written by.
-use cip_dictionary::Stand;
+use cip_bland::Stand;
 use cip_frac::Frac;
 
 /// An exchange that is asked for.

@@ -1,8 +1,8 @@
 //! The rows of basic variables in an exchange.
 ghost use Rattle.std.specs.Prelude.{◌≡◌, ℕ, ◌<◌, ◌^◌, true, [], length, false, None, OnOk, IfOk, MatchResult, slice_index_or, if◌then◌else◌};
 ghost use Rattle.cip_problem.specs.Activity.{value_at};
-ghost use Rattle.cip_dictionary.specs.Tables.{table, each};
-ghost use Rattle.cip_dictionary.specs.Operations.{first_overflow};
+ghost use Rattle.cip_bland.specs.Tables.{table, each};
+ghost use Rattle.cip_bland.specs.Operations.{first_overflow};
 ghost use Rattle.cip_dict.specs.Lists.{basic_in};
 ghost use Rattle.cip_dict.specs.MoveFaults.{IsMoveFault};
 ghost use Rattle.cip_dict.specs.Pivots.{changes_by, form_operations_by, written_by};
@@ -13,7 +13,7 @@ use crate::forms::{Form, count_room};
 use crate::lines::{is_basic, write_substituted};
 use crate::lists::Scratch;
 use crate::pivots::Pivot;
-use cip_dictionary::{Line, Stand};
+use cip_bland::{Line, Stand};
 
 /// Whether the row of variable v changes when i leaves and j enters: it is basic, stays so, and has an entry on j.
 #[inline(always)]

@@ -4,7 +4,7 @@ ghost use Rattle.cip_rational.specs.Rational.{zeroℚ};
 
 use crate::forms::Form;
 use crate::lists::Scratch;
-use cip_dictionary::Stand;
+use cip_bland::Stand;
 use cip_frac::Frac;
 use cip_lin::Sides;
 use std::alloc::{AllocError, Global};

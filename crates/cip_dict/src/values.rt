@@ -2,9 +2,9 @@
 ghost use Rattle.std.specs.Prelude.{◌≡◌, ◌<◌, ◌^◌, true, false, length, Some, None, MatchResult, if◌then◌else◌};
 ghost use Rattle.cip_rational.specs.Rational.{◌+ℚ◌};
 ghost use Rattle.cip_problem.specs.Activity.{value_at};
-ghost use Rattle.cip_dictionary.specs.Tables.{table, each};
-ghost use Rattle.cip_dictionary.specs.Operations.{first_overflow, value_place};
-ghost use Rattle.cip_dictionary.specs.declared.places.Line.TheVariants.{Row};
+ghost use Rattle.cip_bland.specs.Tables.{table, each};
+ghost use Rattle.cip_bland.specs.Operations.{first_overflow, value_place};
+ghost use Rattle.cip_bland.specs.declared.places.Line.TheVariants.{Row};
 ghost use Rattle.std.specs.Bool.{MatchBool};
 ghost use Rattle.cip_dict.specs.Lists.{basic_in};
 ghost use Rattle.cip_dict.specs.Pivots.{changes_by};
@@ -16,7 +16,7 @@ use crate::forms::Form;
 use crate::lines::{is_basic, number_at};
 use crate::pivots::Pivot;
 use crate::rows::is_marked;
-use cip_dictionary::{EntryPlace, Line, Stand};
+use cip_bland::{EntryPlace, Line, Stand};
 use cip_frac::Frac;
 
 /// By how much a variable moves, and what moves with it.

@@ -3,9 +3,9 @@ ghost use Rattle.std.specs.Prelude.{◌≡◌, ℕ, ◌+◌, ◌^◌, ◌<◌, �
 ghost use Rattle.cip_rational.specs.Rational.{◌+ℚ◌, ◌*ℚ◌, ratio};
 ghost use Rattle.cip_rational.specs.Range.{magnitude};
 ghost use Rattle.cip_problem.specs.Activity.{value_at};
-ghost use Rattle.cip_dictionary.specs.Tables.{form};
-ghost use Rattle.cip_dictionary.specs.FirstState.{form_operations};
-ghost use Rattle.cip_dictionary.specs.Operations.{first_overflow, value_place, sum_at};
+ghost use Rattle.cip_bland.specs.Tables.{form};
+ghost use Rattle.cip_bland.specs.FirstState.{form_operations};
+ghost use Rattle.cip_bland.specs.Operations.{first_overflow, value_place, sum_at};
 ghost use Rattle.cip_dict.specs.SparseLines.{entry_on, AreKept, IsPlace};
 ghost use Rattle.cip_dict.specs.WholeLines.{Whole, over, IsWhole};
 
@@ -16,7 +16,7 @@ use crate::listed::{is_past, is_within};
 use crate::values::value_of;
 use crate::whole::fraction;
 use crate::whole_sums::SMALL;
-use cip_dictionary::Line;
+use cip_bland::Line;
 use cip_frac::Frac;
 use std::alloc::AllocError;
 

@@ -4,9 +4,9 @@ use crate::dearest::Dearest;
 use crate::floors::Floors;
 use crate::halves::Halves;
 use cip_io::{MemoryStore, Sink};
-use cip_kits::is_few;
 use cip_main::{Words, no_plugins, run};
 use cip_plugin::{AnyPlugin, Kit};
+use cip_solve::is_few;
 use std::alloc::{AllocError, Global};
 
 /// The text of the program.

@@ -49,7 +49,7 @@ size_of false false n = refl
 size_of true false n = omega (arith, ints)
 size_of false true n = omega (arith, ints)
 
-negated_product : (n g : ℕ) → (up (neg_ℤ (pos n) *ℤ pos g) ≡ 0) × (down (neg_ℤ (pos n) *ℤ pos g) ≡ n * g)
+pub negated_product : (n g : ℕ) → (up (neg_ℤ (pos n) *ℤ pos g) ≡ 0) × (down (neg_ℤ (pos n) *ℤ pos g) ≡ n * g)
 negated_product zero g = (omega (arith, product_is (pos zero) (pos g)), omega (arith, product_is (pos zero) (pos g)))
 negated_product (suc n) g = (omega (arith, product_is (negsuc n) (pos g)), omega (arith, product_is (negsuc n) (pos g)))
 

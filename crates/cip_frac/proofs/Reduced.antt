@@ -1,7 +1,7 @@
 -- A fraction that need not be in lowest terms, taken to them.
-use Rattle.std.proofs.Common.{◌≡◌, ℕ, zero, suc, ◌*◌, ◌/◌, ◌<◌, ◌≤◌, ◌^◌, ℤ, pos, negsuc, neg_ℤ, ◌*ℤ◌, int_lt, unsigned_abs, FitsSigned, Bool, true, false, if◌then◌else◌, to_z, of_z, sym, ap, subst, ◌∙◌, refl, arith}
+use Rattle.std.proofs.Common.{◌≡◌, ℕ, suc, ◌*◌, ◌/◌, ◌<◌, ◌≤◌, ◌^◌, ℤ, pos, negsuc, neg_ℤ, ◌*ℤ◌, int_lt, unsigned_abs, FitsSigned, Bool, true, false, if◌then◌else◌, to_z, of_z, sym, ap, subst, ◌∙◌, refl, arith}
 use Rattle.std.specs.Int.{IsGcd, w64, w128}
-use borrow.Author.Differences.{up, down, same_in, product_is, false_is_lt}
+use borrow.Author.Differences.{same_in, product_is, false_is_lt}
 use Rattle.std.proofs.lemmas.Int.{ints, to_z-of_z}
 use Rattle.std.proofs.Math.Nat.{div-mul_cancel, div-le_self}
 use Rattle.cip_rational.specs.Rational.{ratio}
@@ -10,6 +10,7 @@ use Rattle.cip_frac.specs.LowestTerms.{AreLowest}
 use Rattle.cip_frac.proofs.Casts.{kept, widened, widened_small}
 use Rattle.cip_frac.proofs.Divisors.{IsCoprime, coprime_quotients, positive_from_IsGcd}
 use Rattle.cip_frac.proofs.SumSteps.{read, factor_some}
+use Rattle.cip_frac.proofs.Quotients.{negated_product}
 
 -- z over g, by its sign
 signed_part : ℤ → ℕ → ℤ
@@ -22,10 +23,6 @@ sized false n = refl
 part_size : (z : ℤ) (g : ℕ) → unsigned_abs (signed_part z g) ≡ unsigned_abs z / g
 unfolding signed_part
 part_size z g = sized (int_lt z (pos 0)) (unsigned_abs z / g)
-
-negated_product : (n g : ℕ) → (up (neg_ℤ (pos n) *ℤ pos g) ≡ 0) × (down (neg_ℤ (pos n) *ℤ pos g) ≡ n * g)
-negated_product zero g = (omega (arith, product_is (pos zero) (pos g)), omega (arith, product_is (pos zero) (pos g)))
-negated_product (suc n) g = (omega (arith, product_is (negsuc n) (pos g)), omega (arith, product_is (negsuc n) (pos g)))
 
 part_exact : (z : ℤ) (g : ℕ) → unsigned_abs z / g * g ≡ unsigned_abs z → signed_part z g *ℤ pos g ≡ z
 unfolding signed_part

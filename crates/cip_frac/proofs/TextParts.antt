@@ -3,8 +3,8 @@ use Rattle.std.proofs.Common.{◌≡◌, ℕ, zero, suc, ◌+◌, ◌-◌, ◌<�
 use Rattle.std.specs.Fmt.{decimal, signed_decimal}
 use Rattle.std.proofs.lemmas.List.{drop-drop, append-nil}
 use Rattle.cip_rational.specs.Rational.{ℚ, numerator, denominator}
-use Rattle.cip_number_text.specs.NumberText.{integer_text, denominator_text, fraction_text}
-use Rattle.cip_number_text.proofs.NumberText.{natural_text_decimal, integer_text_decimal}
+use Rattle.cip_rational.specs.NumberText.{integer_text, denominator_text, fraction_text}
+use Rattle.cip_rational.proofs.NumberText.{natural_text_decimal, integer_text_decimal}
 use Rattle.cip_frac.specs.LowestTerms.{AreLowest}
 use Rattle.cip_frac.proofs.Casts.{kept}
 use Rattle.cip_frac.proofs.SumSteps.{read}

@@ -1,6 +1,6 @@
 // The text of a fraction.
 ghost use Rattle.std.specs.Prelude.{Some, ◌≡◌, ◌+◌, ◌≤◌, ◌++◌, length, take, drop};
-ghost use Rattle.cip_number_text.specs.NumberText.{fraction_text};
+ghost use Rattle.cip_rational.specs.NumberText.{fraction_text};
 
 use crate::fraction::Frac;
 use itoa::Buffer;

@@ -8,9 +8,9 @@ use Rattle.cip_rational.specs.Rational.{ℚ, integer, zeroℚ, ◌<ℚ◌}
 use Rattle.cip_rational.proofs.Rational.Extremes.{absolute-negate}
 use Rattle.cip_problem.specs.Program.{Sides, Program}
 use Rattle.cip_problem.specs.NearSides.{IsNear, HasNearSides}
-use Rattle.cip_number_text.specs.Numeral.{value_of, numeral_of}
+use Rattle.cip_rational.specs.Numeral.{value_of, numeral_of}
 use Rattle.cip_mps_rules.specs.MpsWords.{is_too_fine, bound_number, is_in}
-use Rattle.cip_mps_steps.specs.MpsStepStatements.{ValuesAreTested}
+use Rattle.cip_mps_rules.specs.MpsStepStatements.{ValuesAreTested}
 use Rattle.cip_line_texts.specs.LineStatements.{known_after, IsEndReached, NeedsNoEnd}
 use Rattle.cip_line_texts.proofs.LineEnded.{result_found, holds_open}
 use Rattle.cip_lp_rules.specs.LpWords.{LpPart, NoPart, Costs, Constraints, Bounds, Generals, Binaries, End, Relation, AtMost, EqualTo, AtLeast}

@@ -1,7 +1,12 @@
 pub mod BlocksRead
+pub mod KnownPointFaults
 pub mod LimitedModels
 pub mod Models
 pub mod ModelsRead
+pub mod PointKindTexts
+pub mod PointLinesRead
+pub mod PointReaders
+pub mod PointTexts
 pub mod PointsRead
 pub mod TextPulls
 pub mod TextsRead
@@ -10,6 +15,5 @@ pub use Rattle.cip_blocks.specs.declared.kinds.BlockKind
 pub use Rattle.cip_blocks.specs.BlockKindTexts
 pub use Rattle.cip_lp.specs.LpKindTexts
 pub use Rattle.cip_mps.specs.MpsKindTexts
-pub use Rattle.cip_point.specs.declared.kinds.PointKind
-pub use Rattle.cip_point.specs.PointKindTexts
 pub use Rattle.cip_blocks.specs.TextFault
+pub use Rattle.cip_point_rules.specs.PointRules

@@ -6,9 +6,9 @@ use Rattle.cip_rational.specs.Rational.{ℚ}
 use Rattle.cip_io.specs.Store.{StoreTells}
 use Rattle.cip_problem.specs.Program.{Program}
 use Rattle.cip_line_texts.specs.LineTexts.{HasResult, HasFault}
-use Rattle.cip_point.specs.PointRules.{point_reading}
-use Rattle.cip_point.specs.PointKindTexts.{kind_number}
-use Rattle.cip_point.specs.declared.kinds.PointKind.{PointKind}
+use Rattle.cip_input.specs.PointRules.{point_reading}
+use Rattle.cip_input.specs.PointKindTexts.{kind_number}
+use Rattle.cip_input.specs.declared.kinds.PointKind.{PointKind}
 use Rattle.cip_input.specs.TextsRead.{ReadsText}
 use Rattle.cip_input.specs.Unreads.{UnreadCause}
 use Rattle.cip_input.specs.declared.unread.Unread.{Unread}

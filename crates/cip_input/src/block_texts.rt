@@ -27,7 +27,13 @@ fn read_text<S: Store>(
         (BlocksCause program (S.tells store.old).left (S.tells store.old) (S.tells store.new)) }
     ensures holds { (S.tells store.new).holds ≡ (S.tells store.old).holds }
 {
-    read_pieces::<S, BlockText<'_>, BlockKind>(store, &mut reader, buffer)?;
+    match read_pieces::<S, BlockText<'_>, BlockKind>(store, &mut reader, buffer) {
+        Ok(()) => (),
+        Err(unread) => {
+            drop(reader);
+            return Err(unread);
+        }
+    }
     Ok(reader.finish()?)
 }
 

@@ -25,6 +25,12 @@ pub(crate) fn read_mps_text<S: Store>(
     ensures holds { (S.tells store.new).holds ≡ (S.tells store.old).holds }
 {
     let mut reader = MpsReader::new(alloc);
-    read_pieces::<S, MpsText, ModelKind>(store, &mut reader, buffer)?;
+    match read_pieces::<S, MpsText, ModelKind>(store, &mut reader, buffer) {
+        Ok(()) => (),
+        Err(unread) => {
+            drop(reader);
+            return Err(unread);
+        }
+    }
     Ok(reader.finish()?)
 }

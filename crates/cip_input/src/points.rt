@@ -2,17 +2,17 @@
 ghost use Rattle.std.specs.Prelude.{◌≡◌, [], MatchResult, length};
 ghost use Rattle.cip_problem.specs.Program as problem;
 ghost use Rattle.cip_blocks.specs.PieceReaders.{HasTaken};
-ghost use Rattle.cip_point.specs.PointReaders.{HasCome};
-ghost use Rattle.cip_point.specs.PointTexts.{program_of};
+ghost use Rattle.cip_input.specs.PointReaders.{HasCome};
+ghost use Rattle.cip_input.specs.PointTexts.{program_of};
 ghost use Rattle.cip_input.specs.PointsRead.{ReadsPoint, PointCause};
 ghost use Rattle.cip_input.specs.declared.pulling.TheConstants.{PIECE};
 
 use crate::pulling::{PIECE, read_pieces};
 use crate::unread::Unread;
+use crate::{PointKind, PointReader, PointText};
 use cip_frac::Frac;
 use cip_io::Store;
 use cip_model::Program;
-use cip_point::{PointKind, PointReader, PointText};
 use std::alloc::Global;
 
 /// Reads the current text, of which nothing was pulled yet.
@@ -28,7 +28,13 @@ fn read_text<S: Store>(
         (PointCause program (S.tells store.old).left (S.tells store.old) (S.tells store.new)) }
     ensures holds { (S.tells store.new).holds ≡ (S.tells store.old).holds }
 {
-    read_pieces::<S, PointText<'_>, PointKind>(store, &mut reader, buffer)?;
+    match read_pieces::<S, PointText<'_>, PointKind>(store, &mut reader, buffer) {
+        Ok(()) => (),
+        Err(unread) => {
+            drop(reader);
+            return Err(unread);
+        }
+    }
     Ok(reader.finish()?)
 }
 

@@ -15,15 +15,15 @@ use Rattle.cip_problem.specs.BlockParts.{BlockPart, Blocks, rows_where, is_block
 use Rattle.cip_problem.specs.BlockMeaning.{part_at}
 use Rattle.cip_pricing.specs.Decomposition.{picked, renumbered}
 use Rattle.cip_pricing.proofs.Picked.{own_rows, length_picked}
-use Rattle.cip_decomposition.specs.Numbers.{found}
-use Rattle.cip_decomposition.specs.declared.parts.Subproblem.{Subproblem}
-use Rattle.cip_decomposition.specs.declared.parts.Decomposed.{Decomposed}
-use Rattle.cip_decomposition.specs.Decompositions.{owners_in, IsSubproblem, IsDecompositionOf}
-use Rattle.cip_decomposition.proofs.AtPlaces.{get-set_same, get-set_other, get_push}
-use Rattle.cip_decomposition.proofs.Found.{found_block, found_in, found_sides}
-use Rattle.cip_decomposition.proofs.Numbered.{found_all, numbers_below, few_numbers}
-use Rattle.cip_decomposition.proofs.Placing.{renumbered_rows}
-use Rattle.cip_decomposition.proofs.Whole.{part_by, count_by}
+use Rattle.cip_lagrange.specs.Numbers.{found}
+use Rattle.cip_lagrange.specs.declared.parts.Subproblem.{Subproblem}
+use Rattle.cip_lagrange.specs.declared.parts.Decomposed.{Decomposed}
+use Rattle.cip_lagrange.specs.Decompositions.{owners_in, IsSubproblem, IsDecompositionOf}
+use Rattle.cip_lagrange.proofs.AtPlaces.{get-set_same, get-set_other, get_push}
+use Rattle.cip_lagrange.proofs.Found.{found_block, found_in, found_sides}
+use Rattle.cip_lagrange.proofs.Numbered.{found_all, numbers_below, few_numbers}
+use Rattle.cip_lagrange.proofs.Placing.{renumbered_rows}
+use Rattle.cip_lagrange.proofs.Whole.{part_by, count_by}
 use Rattle.cip_cert.specs.declared.pricing.BoundTree.{BoundTree}
 use Rattle.cip_lagrange.specs.TreeOutcomes.{node_in, tree_outcome}
 use Rattle.cip_lagrange.specs.LagrangeOutcomes.{asked_of, block_outcome}

@@ -24,13 +24,13 @@ use Rattle.cip_pricing.specs.TreeBounds.{IsNodePoint}
 use Rattle.cip_pricing.proofs.Trees.{node_point}
 use Rattle.cip_pricing.proofs.Shown.{lagrange_shows, feasible_shown, no_block_point}
 use Rattle.cip_cert.specs.declared.pricing.BoundTree.{BoundTree}
-use Rattle.cip_decomposition.specs.Numbers.{found}
-use Rattle.cip_decomposition.specs.declared.parts.Subproblem.{Subproblem}
-use Rattle.cip_decomposition.specs.declared.parts.Decomposed.{Decomposed}
-use Rattle.cip_decomposition.specs.Decompositions.{owners_in, IsSubproblem, IsDecompositionOf}
-use Rattle.cip_decomposition.proofs.Found.{found_block, found_free}
-use Rattle.cip_decomposition.proofs.Numbered.{found_all, numbers_below}
-use Rattle.cip_decomposition.proofs.Whole.{part_by}
+use Rattle.cip_lagrange.specs.Numbers.{found}
+use Rattle.cip_lagrange.specs.declared.parts.Subproblem.{Subproblem}
+use Rattle.cip_lagrange.specs.declared.parts.Decomposed.{Decomposed}
+use Rattle.cip_lagrange.specs.Decompositions.{owners_in, IsSubproblem, IsDecompositionOf}
+use Rattle.cip_lagrange.proofs.Found.{found_block, found_free}
+use Rattle.cip_lagrange.proofs.Numbered.{found_all, numbers_below}
+use Rattle.cip_lagrange.proofs.Whole.{part_by}
 use Rattle.cip_lagrange.specs.declared.answers.TreeBound.{TreeBound}
 use Rattle.cip_lagrange.specs.declared.answers.TreeBound.TheVariants.{Finite, NoPoint}
 use Rattle.cip_lagrange.specs.LagrangeOutcomes.{Reduced, part_node, multipliers_used, free_added, blocks_added, start_of, rests_added, lagrange_outcome}

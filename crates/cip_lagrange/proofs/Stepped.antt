@@ -7,7 +7,7 @@ use Rattle.cip_problem.specs.Program.{Sides}
 use Rattle.cip_problem.specs.BlockParts.{Blocks}
 use Rattle.cip_problem.specs.BlockMeaning.{part_at}
 use Rattle.cip_cert.specs.declared.pricing.BoundTree.{BoundTree}
-use Rattle.cip_decomposition.specs.declared.parts.Subproblem.{Subproblem}
+use Rattle.cip_lagrange.specs.declared.parts.Subproblem.{Subproblem}
 use Rattle.cip_lagrange.specs.declared.answers.TreeBound.{TreeBound}
 use Rattle.cip_lagrange.specs.declared.answers.LagrangeFault.{LagrangeFault}
 use Rattle.cip_lagrange.specs.LagrangeOutcomes.{chain, block_outcome, block_added, blocks_added}

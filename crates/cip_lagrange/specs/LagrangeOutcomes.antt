@@ -13,9 +13,9 @@ use Rattle.cip_problem.specs.Log.{Node}
 use Rattle.cip_problem.specs.BlockParts.{Blocks}
 use Rattle.cip_problem.specs.BlockMeaning.{part_at}
 use Rattle.cip_cert.specs.declared.pricing.BoundTree.{BoundTree}
-use Rattle.cip_decomposition.specs.Numbers.{found}
-use Rattle.cip_decomposition.specs.declared.parts.Subproblem.{Subproblem}
-use Rattle.cip_decomposition.specs.declared.parts.Decomposed.{Decomposed}
+use Rattle.cip_lagrange.specs.Numbers.{found}
+use Rattle.cip_lagrange.specs.declared.parts.Subproblem.{Subproblem}
+use Rattle.cip_lagrange.specs.declared.parts.Decomposed.{Decomposed}
 use Rattle.cip_lagrange.specs.declared.answers.TreeBound.{TreeBound}
 use Rattle.cip_lagrange.specs.declared.answers.TreeBound.TheVariants.{Finite, NoPoint}
 use Rattle.cip_lagrange.specs.declared.answers.TreeFault.{TreeFault}

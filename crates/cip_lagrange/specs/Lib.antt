@@ -1,5 +1,10 @@
+pub mod Built
+pub mod Decompositions
 pub mod LagrangeMeaning
 pub mod LagrangeOutcomes
+pub mod Numbers
+pub mod Owners
+pub mod Places
 pub mod Scratches
-pub mod TreeOutcomes
 pub mod TreeMeaning
+pub mod TreeOutcomes

@@ -6,8 +6,8 @@ use Rattle.cip_problem.specs.Limits.{most_columns}
 use Rattle.cip_problem.specs.WellFormed.{columns}
 use Rattle.cip_problem.specs.BlockParts.{most_blocks}
 use Rattle.cip_problem.specs.BlockMeaning.{part_at}
-use Rattle.cip_decomposition.specs.declared.parts.Subproblem.{Subproblem}
-use Rattle.cip_decomposition.specs.declared.parts.Decomposed.{Decomposed}
+use Rattle.cip_lagrange.specs.declared.parts.Subproblem.{Subproblem}
+use Rattle.cip_lagrange.specs.declared.parts.Decomposed.{Decomposed}
 use Rattle.cip_lagrange.specs.declared.scratches.BlockScratch.{BlockScratch}
 use Rattle.cip_lagrange.specs.declared.scratches.LagrangeScratch.{LagrangeScratch}
 

@@ -2,8 +2,8 @@
 ghost use Rattle.std.specs.Prelude.{◌≡◌, ◌<◌, length, slice_get, All, IfOk, Some, Ok, Err, MatchResult};
 ghost use Rattle.cip_problem.specs.WellFormed.{columns};
 ghost use Rattle.cip_problem.specs.BlockMeaning.{part_at};
-ghost use Rattle.cip_decomposition.specs.declared.parts.Subproblem.{Subproblem};
-ghost use Rattle.cip_decomposition.specs.Decompositions.{IsDecompositionOf};
+ghost use Rattle.cip_lagrange.specs.declared.parts.Subproblem.{Subproblem};
+ghost use Rattle.cip_lagrange.specs.Decompositions.{IsDecompositionOf};
 ghost use Rattle.cip_lagrange.specs.TreeOutcomes.{node_in, tree_outcome};
 ghost use Rattle.cip_lagrange.specs.LagrangeOutcomes.{asked_of, block_outcome, block_added, bounds_sum, blocks_added, multipliers_used, start_of, rests_added, lagrange_outcome};
 ghost use Rattle.cip_lagrange.specs.LagrangeMeaning.{LagrangeFollows};
@@ -14,8 +14,8 @@ use crate::free::add_free;
 use crate::multipliers::use_multipliers;
 use crate::scratches::{BlockScratch, LagrangeScratch};
 use crate::trees::bound_at;
+use crate::{Decomposed, Program, Subproblem};
 use cip_cert::{BoundTree, Rows, SparseRow};
-use cip_decomposition::{Decomposed, Program, Subproblem};
 use cip_frac::Frac;
 use cip_lin::Bounds;
 

@@ -1,13 +1,13 @@
 //! What the Lagrangian bound works in.
 ghost use Rattle.std.specs.Prelude.{◌≡◌, ◌<◌, ◌≤◌, length, All, IfOk};
 ghost use Rattle.cip_problem.specs.Limits.{most_columns};
-ghost use Rattle.cip_decomposition.specs.Numbers.{found};
-ghost use Rattle.cip_decomposition.specs.Decompositions.{IsDecompositionOf};
+ghost use Rattle.cip_lagrange.specs.Numbers.{found};
+ghost use Rattle.cip_lagrange.specs.Decompositions.{IsDecompositionOf};
 ghost use Rattle.cip_lagrange.specs.Scratches.{FitsBlock, FitsScratch, AreFitting};
 
 use crate::regions::TreeRegion;
+use crate::{Decomposed, Program, Subproblem};
 use cip_cert::SparseRow;
-use cip_decomposition::{Decomposed, Program, Subproblem};
 use cip_frac::Frac;
 use cip_lin::Bounds;
 use std::alloc::{AllocError, Global};
@@ -100,7 +100,13 @@ fn rooms(alloc: Global, parts: &[Subproblem]) -> Result<Vec<BlockScratch>, Alloc
 {
     let mut rooms = Vec::new(alloc);
     for part in parts {
-        rooms.push(BlockScratch::new(alloc, part)?)?;
+        let Ok(()) = rooms.reserve(1) else {
+            return Err(AllocError);
+        };
+        let Ok(room) = BlockScratch::new(alloc, part) else {
+            return Err(AllocError);
+        };
+        rooms.push_reserved(room);
     }
     Ok(rooms)
 }

@@ -5,10 +5,10 @@ use Rattle.cip_rational.specs.Rational.{ℚ}
 use Rattle.cip_problem.specs.Program.{Program}
 use Rattle.cip_problem.specs.WellFormed.{IsWellFormed}
 use Rattle.cip_linear.specs.LinearProgram.{LinearProgram}
-use Rattle.cip_dictionary.specs.Dictionary.{Dictionary}
-use Rattle.cip_dictionary.specs.FirstState.{first_operations}
-use Rattle.cip_dictionary.specs.ProgramState.{system_of, first_of_program}
-use Rattle.cip_dictionary.specs.declared.moves.Move.{Move}
+use Rattle.cip_bland.specs.Dictionary.{Dictionary}
+use Rattle.cip_bland.specs.FirstState.{first_operations}
+use Rattle.cip_bland.specs.ProgramState.{system_of, first_of_program}
+use Rattle.cip_bland.specs.declared.moves.Move.{Move}
 use Rattle.cip_bland.specs.MoveList.{is_out_of_range, Ending, Ends, Overflows, Stops, Run, run}
 use Rattle.cip_bland.specs.EndAnswers as def
 use Rattle.cip_bland.specs.NoRepeat.{whole_answer}

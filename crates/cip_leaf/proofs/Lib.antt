@@ -4,6 +4,7 @@ pub mod ChoicesMade
 pub mod DecidedSides
 pub mod Ends
 pub mod FirstPlaces
+pub mod ListSteps
 pub mod Rays
 pub mod Steps
 pub mod Sums

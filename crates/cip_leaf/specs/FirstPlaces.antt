@@ -1,7 +1,7 @@
 -- The lines of a first state, behind so many columns.
 use Rattle.std.specs.Prelude.{ℕ, ◌+◌, ◌≤◌, ⊤}
-use Rattle.cip_dictionary.specs.declared.places.Line.{Line}
-use Rattle.cip_dictionary.specs.declared.places.Line.TheVariants as line
+use Rattle.cip_bland.specs.declared.places.Line.{Line}
+use Rattle.cip_bland.specs.declared.places.Line.TheVariants as line
 use Rattle.cip_model.specs.declared.verdicts.Place.{Place}
 use Rattle.cip_model.specs.declared.verdicts.Place.TheVariants.{Row, Cost}
 

@@ -5,7 +5,7 @@ use Rattle.cip_problem.specs.Program.{Row, Program}
 use Rattle.cip_problem.specs.Points.{cost_of}
 use Rattle.cip_linear.specs.LinearProgram.{LinearProgram, IsOptimal}
 use Rattle.cip_linear.specs.Falling.{FallsWithoutEnd}
-use Rattle.cip_dictionary.specs.declared.moves.Move.{Move}
+use Rattle.cip_bland.specs.declared.moves.Move.{Move}
 use Rattle.cip_bland.specs.EndAnswers.{Certificate, Optimal, Unbounded, OutOfRange}
 use Rattle.cip_bland.specs.NoRepeat.{whole_answer}
 use Rattle.cip_problem.specs.Choices.{decided}

@@ -2,6 +2,7 @@
 ghost use Rattle.std.specs.Prelude.{◌≡◌, IfOk, IfSome};
 ghost use Rattle.cip_linear.specs.LinearProgram.{IsPoint};
 ghost use Rattle.cip_problem.specs.WellFormed.{IsWellFormed};
+ghost use Rattle.cip_simplex.specs.Reached.{Holds};
 ghost use Rattle.cip_leaves.specs.Leaf.{IsLeaf};
 ghost use Rattle.cip_leaves.specs.LeafProgram.{program_of_leaf};
 ghost use Rattle.cip_leaf.specs.LeafAnswers.{IsValuesAnswer, IsOptimalThere};
@@ -57,6 +58,60 @@ fn ray_of(
     Ok(None)
 }
 
+/// What a rule that makes few moves answers on a leaf's program; none where it has no answer. `Err` where memory was
+/// refused.
+fn asked_greedily(
+    alloc: Global,
+    solver: &mut Solver,
+    lp: &Lp,
+) -> Result<Option<LpAnswer>, AllocError>
+    ensures { IfOk result (λ found. IfSome found (Holds lp.now)) }
+{
+    let start = Start::slack(alloc, lp)?;
+    let solved = solve_greedily(alloc, solver, lp, &start, FEW_MOVES);
+    drop(start);
+    match solved {
+        Ok((found, last)) => {
+            drop(last);
+            Ok(found)
+        }
+        Err(error) => Err(error),
+    }
+}
+
+/// What an answer on its program shows of a leaf; none where it shows nothing, or a test of what it shows is out of
+/// range. `Err` where memory was refused.
+fn shown_by(
+    alloc: Global,
+    program: &Decided,
+    leaf: &[Frac],
+    found: LpAnswer,
+) -> Result<Option<LeafAnswer>, AllocError>
+    requires leaf { IsLeaf program.now leaf.now }
+    requires formed { IsWellFormed program.now }
+    requires found { Holds (program_of_leaf program.now leaf.now) found }
+    ensures { IfOk result (λ found. IfSome found (IsValuesAnswer program.now leaf.now)) }
+{
+    match found {
+        LpAnswer::Optimal { point, combo, .. } => {
+            drop(combo);
+            best_of(alloc, program, leaf, point.as_slice())
+        }
+        LpAnswer::Infeasible { combo } => {
+            drop(combo);
+            Ok(Some(LeafAnswer::NoPoint))
+        }
+        LpAnswer::Unbounded { point, ray } => {
+            ray_of(alloc, program, leaf, point.as_slice(), ray.as_slice())
+        }
+        LpAnswer::Wide { moves } => {
+            drop(moves);
+            Ok(None)
+        }
+        LpAnswer::Limit => Ok(None),
+    }
+}
+
 /// What a rule that makes few moves shows of a leaf with this program; none where it shows nothing, or a test of what
 /// it shows is out of range. `Err` where memory was refused.
 pub(crate) fn shown_by_few(
@@ -71,17 +126,8 @@ pub(crate) fn shown_by_few(
     requires linear { lp.now ≡ program_of_leaf program.now leaf.now }
     ensures { IfOk result (λ found. IfSome found (IsValuesAnswer program.now leaf.now)) }
 {
-    let start = Start::slack(alloc, lp)?;
-    let (first, _last) = solve_greedily(alloc, solver, lp, &start, FEW_MOVES)?;
-    let Some(found) = first else {
+    let Some(found) = asked_greedily(alloc, solver, lp)? else {
         return Ok(None);
     };
-    match found {
-        LpAnswer::Optimal { point, .. } => best_of(alloc, program, leaf, point.as_slice()),
-        LpAnswer::Infeasible { .. } => Ok(Some(LeafAnswer::NoPoint)),
-        LpAnswer::Unbounded { point, ray } => {
-            ray_of(alloc, program, leaf, point.as_slice(), ray.as_slice())
-        }
-        _ => Ok(None),
-    }
+    shown_by(alloc, program, leaf, found)
 }

@@ -2,8 +2,8 @@
 ghost use Rattle.std.specs.Prelude.{◌≡◌, ℕ, ◌+◌, ◌<◌, ◌≤◌, ◌^◌, ◌++◌, length, map, true, IfOk};
 ghost use Rattle.cip_problem.specs.RowTerms.{AreTerms};
 ghost use Rattle.cip_linear.specs.Multipliers.{row_sides};
-ghost use Rattle.cip_dictionary.specs.FirstState.{first_operations};
-ghost use Rattle.cip_dictionary.specs.ProgramState.{terms_at, system_of};
+ghost use Rattle.cip_bland.specs.FirstState.{first_operations};
+ghost use Rattle.cip_bland.specs.ProgramState.{terms_at, system_of};
 ghost use Rattle.cip_bland.specs.MoveList.{is_out_of_range};
 ghost use Rattle.cip_simplex.specs.LpEntries.{entry_of, entries_in};
 ghost use Rattle.cip_simplex.specs.LpShape.{IsSolvable};
@@ -86,16 +86,20 @@ pub(crate) fn first_wide(
     let entries = entries_of(alloc, rows)?;
     let sides = all_sides(alloc, rows)?;
     let mut spare = Spare::new(alloc);
-    match Dict::first(
+    let first = Dict::first(
         alloc,
         &mut spare,
         entries.as_slice(),
         sides.as_slice(),
         bounds.as_slice(),
         costs,
-    ) {
+    );
+    drop(spare);
+    match first {
         Ok(_) => unreachable!(),
-        Err(FirstFault::OutOfRange { place }) => Ok(place_in(place.line, bounds.len() as u32)),
-        Err(FirstFault::NoMemory) => Err(AllocError),
+        Err(fault) => match fault {
+            FirstFault::OutOfRange { place } => Ok(place_in(place.line, bounds.len() as u32)),
+            FirstFault::NoMemory => Err(AllocError),
+        },
     }
 }

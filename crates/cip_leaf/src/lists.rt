@@ -38,10 +38,10 @@ pub(crate) fn merged(
         if whole[at] {
             point.push(value_at_or_zero(leaf, taken))?;
             taken += 1;
-        } else {
-            point.push(value_at_or_zero(others, put))?;
-            put += 1;
+            continue;
         }
+        point.push(value_at_or_zero(others, put))?;
+        put += 1;
     }
     Ok(point)
 }
@@ -55,9 +55,10 @@ pub(crate) fn new_numbers(alloc: Global, whole: &[bool]) -> Result<Vec<u32>, All
     let mut count = 0;
     for at in 0..whole.len() {
         numbers.push(count)?;
-        if !whole[at] {
-            count += 1;
+        if whole[at] {
+            continue;
         }
+        count += 1;
     }
     Ok(numbers)
 }

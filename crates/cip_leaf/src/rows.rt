@@ -25,7 +25,7 @@ pub(crate) enum RowsFault {
 }
 
 /// Why one row was not made.
-#[derive(Clone, Copy, PartialEq, Eq)]
+#[derive(Clone, Copy)]
 enum RowFault {
     /// Its fixed part overflows, or what a side leaves of it does.
     Wide,

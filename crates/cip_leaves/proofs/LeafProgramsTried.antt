@@ -10,9 +10,9 @@ use Rattle.cip_bland.specs.Dictionary.{Dictionary, value, cost_entry}
 use Rattle.cip_bland.specs.Exchange.{exchanged, flipped}
 use Rattle.cip_bland.specs.FirstState.{first}
 use Rattle.cip_bland.specs.ProgramState.{first_of_program}
-use Rattle.cip_bland.specs.Stand.TheVariants.{Low}
-use Rattle.cip_bland.specs.Move.{Move}
-use Rattle.cip_bland.specs.Move.TheVariants.{Exchange}
+use Rattle.cip_bland.specs.declared.moves.Stand.TheVariants.{Low}
+use Rattle.cip_bland.specs.declared.moves.Move.{Move}
+use Rattle.cip_bland.specs.declared.moves.Move.TheVariants.{Exchange}
 use Rattle.cip_bland.specs.MoveList.{run}
 use Rattle.cip_bland.specs.EndAnswers.{Optimal, Unbounded, OutOfRange, answer}
 use Rattle.cip_bland.specs.NoRepeat.{whole_answer}

@@ -17,10 +17,10 @@ use Rattle.cip_bland.specs.Operations.{Placed, first_overflow}
 use Rattle.cip_bland.specs.FirstState.{System, is_column, first_value, first_operations, form_operations}
 use Rattle.cip_bland.specs.ProgramState.{system_of, first_of_program}
 use Rattle.cip_bland.proofs.PassedOn.{first-size, first-stand}
-use Rattle.cip_bland.specs.Move.{Move}
-use Rattle.cip_bland.specs.Move.TheVariants.{Exchange, Flip}
-use Rattle.cip_bland.specs.Line.{Line}
-use Rattle.cip_bland.specs.Line.TheVariants as line
+use Rattle.cip_bland.specs.declared.moves.Move.{Move}
+use Rattle.cip_bland.specs.declared.moves.Move.TheVariants.{Exchange, Flip}
+use Rattle.cip_bland.specs.declared.places.Line.{Line}
+use Rattle.cip_bland.specs.declared.places.Line.TheVariants as line
 use Rattle.cip_bland.specs.Rule.{next}
 use Rattle.cip_bland.specs.MoveList.{Ending, Ends, Overflows, Stops, Run, run, is_out_of_range, state_after}
 use Rattle.cip_bland.specs.EndAnswers.{Answer, Optimal, NoPoint, Unbounded, OutOfRange, LimitReached, answer_of, answer_after, answer}

@@ -3,8 +3,8 @@ use Rattle.std.specs.Prelude.{◌≡◌, ◌^◌, ℕ, pos, negsuc, true, false,
 use Rattle.cip_rational.specs.Rational.{ℚ, integer, ratio, zeroℚ, oneℚ, negate}
 use Rattle.cip_problem.specs.Program.{Term, Sides, Row, Program}
 use Rattle.cip_linear.specs.LinearProgram.{LinearProgram}
-use Rattle.cip_bland.specs.Stand.TheVariants.{Low}
-use Rattle.cip_bland.specs.Move.TheVariants.{Exchange}
+use Rattle.cip_bland.specs.declared.moves.Stand.TheVariants.{Low}
+use Rattle.cip_bland.specs.declared.moves.Move.TheVariants.{Exchange}
 use Rattle.cip_bland.specs.EndAnswers.{Certificate, Optimal, Unbounded, OutOfRange}
 use Rattle.cip_bland.specs.NoRepeat.{whole_answer}
 use Rattle.cip_leaves.specs.LeafProgram.{at_continuous, merged, is_continuous, new_number, program_of_leaf}

@@ -12,9 +12,9 @@ use Rattle.cip_linear.specs.LinearProgram.{LinearProgram}
 use Rattle.cip_bland.specs.Operations.{first_overflow, value_place}
 use Rattle.cip_bland.specs.FirstState.{first_operations}
 use Rattle.cip_bland.specs.ProgramState.{system_of}
-use Rattle.cip_bland.specs.Move.{Move}
-use Rattle.cip_bland.specs.Line.TheVariants as line
-use Rattle.cip_bland.specs.EntryPlace as dictionary
+use Rattle.cip_bland.specs.declared.moves.Move.{Move}
+use Rattle.cip_bland.specs.declared.places.Line.TheVariants as line
+use Rattle.cip_bland.specs.declared.places.EntryPlace as dictionary
 use Rattle.cip_bland.specs.EndAnswers.{Answer, Optimal, NoPoint, Unbounded, OutOfRange, LimitReached}
 use Rattle.cip_bland.specs.NoRepeat.{whole_answer}
 use Rattle.cip_leaves.specs.Wide.{Place, InRow, InCost, row_part, cost_part, IsWideAt}

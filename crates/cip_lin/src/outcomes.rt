@@ -2,7 +2,7 @@
 use cip_frac::Frac;
 
 /// The least activity of a row in a box.
-#[derive(Clone, Copy, PartialEq, Eq)]
+#[derive(Clone, Copy)]
 pub enum Least {
     /// The exact least activity.
     Value(Frac),

@@ -3,7 +3,6 @@ pub mod Bounds
 pub mod Certificates
 pub mod Covers
 pub mod CutTried
-pub mod CutsPassedOn
 pub mod Emptiness
 pub mod Implied
 pub mod Improving

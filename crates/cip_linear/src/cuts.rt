@@ -2,6 +2,7 @@
 //! what follows from valid rows, when a box has no improving point, and how the nodes of a search cover the improving
 //! points. `specs/` holds the definitions.
 // Each function here does nothing. Its contract is one of the laws of the definitions, so that the check proves it.
+
 ghost use Rattle.cip_linear.specs.CutExamples.{Examples};
 ghost use Rattle.cip_linear.specs.CutStatements.{ImprovingPointsShrink, RowsAreValid, SumsAreValid, SplitRowsAreValid, ValidRowsImply, BoxesAreEmpty, CoversGoOn, NodesAreReplaced, CoversTell, ReductionsCarry};
 

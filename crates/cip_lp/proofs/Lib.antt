@@ -1,5 +1,12 @@
 pub mod ByteSteps
+pub mod FormLaws
+pub mod FormOrder
+pub mod FormPlaces
+pub mod KeptLaws
 pub mod LastBytes
 pub mod LineLaws
 pub mod LpAnswers
+pub mod PieceLaws
 pub mod TakenLaws
+pub mod ValueLaws
+pub mod WordLaws

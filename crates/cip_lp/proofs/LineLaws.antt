@@ -4,8 +4,8 @@ use Rattle.std.specs.Prelude.{is_some, MatchOption}
 use Rattle.cip_line_texts.specs.LineEnds.{Stage, Open, Ended}
 use Rattle.cip_line_texts.specs.LineStream.{Going, progress_at, item_read}
 use Rattle.cip_text.specs.PieceStands.{progress_after}
-use Rattle.cip_lp_tokens.specs.declared.line_tokens.Token as code
-use Rattle.cip_lp_tokens.specs.LpLines.{token_shown}
+use Rattle.cip_lp.specs.declared.line_tokens.Token as code
+use Rattle.cip_lp.specs.LpLines.{token_shown}
 use Rattle.cip_lp_rules.specs.LpTokens.{Token}
 use Rattle.cip_lp_rules.specs.LpOutcome.{LpContext, context_with, is_end, lp_reading}
 use Rattle.cip_lp.specs.declared.line_reader.LineReader.{LineReader}

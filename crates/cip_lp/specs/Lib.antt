@@ -1,7 +1,16 @@
 pub mod LinesRead
+pub mod LpAmounts
+pub mod LpCodes
+pub mod LpDrafts
+pub mod LpEvents
+pub mod LpForms
 pub mod LpKindTexts
+pub mod LpKinds
+pub mod LpLimits
+pub mod LpLines
+pub mod LpNumbers
+pub mod LpPieces
 pub mod LpReaders
 pub mod LpStages
 pub mod LpTaken
 pub mod LpTexts
-pub use Rattle.cip_lp_draft.specs.LpEvents

@@ -7,8 +7,8 @@ use Rattle.cip_lp_rules.specs.LpPlaces as places
 use Rattle.cip_lp_rules.specs.LpWords.{Relation, AtMost}
 use Rattle.cip_lp_rules.specs.LpGrammar.{is_name, goes_behind, low_side, high_side}
 use Rattle.cip_lp_rules.specs.LpOutcome.{LpContext}
-use Rattle.cip_lp_tokens.specs.LpKinds.{part_shown, relation_shown}
-use Rattle.cip_lp_draft.specs.LpLimits.{limit_shown}
+use Rattle.cip_lp.specs.LpKinds.{part_shown, relation_shown}
+use Rattle.cip_lp.specs.LpLimits.{limit_shown}
 use Rattle.cip_lp.specs.declared.places.Stage.{Stage}
 use Rattle.cip_lp.specs.declared.places.Stage.TheVariants.{Start, Labelled, FirstName, FirstSign, FirstNumber, SecondStart, SecondSign, SecondNumber, SecondName, AfterTerm, TermSign, TermNumber, LastDue, LastSign, BoundName, BoundDue, BoundSign, LimitSign, LimitRead, LimitDue, BoundedName}
 use Rattle.cip_lp.specs.declared.places.Place.{Place}

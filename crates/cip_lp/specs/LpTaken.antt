@@ -4,7 +4,7 @@ use Rattle.cip_lp_rules.specs.LpTokens.{Token}
 use Rattle.cip_lp_rules.specs.LpPlaces.{Reads}
 use Rattle.cip_lp_rules.specs.LpFacts.{first_fault, facts_after}
 use Rattle.cip_lp_rules.specs.LpOutcome.{token_fault, context_with}
-use Rattle.cip_lp_draft.specs.LpEvents.{IsLpKind}
+use Rattle.cip_lp.specs.LpEvents.{IsLpKind}
 use Rattle.cip_lp.specs.declared.statements.Statements.{Statements}
 use Rattle.cip_lp.specs.LpStages.{where_of, context_of}
 

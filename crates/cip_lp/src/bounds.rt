@@ -3,17 +3,16 @@ ghost use Rattle.std.specs.Prelude.{◌≡◌, ◌∷◌, [], IfOk, OnOk};
 ghost use Rattle.cip_lp_rules.specs.LpPlaces as places;
 ghost use Rattle.cip_lp_rules.specs.LpFacts.{facts_with};
 ghost use Rattle.cip_lp_rules.specs.LpGrammar.{bound_read, bound_front, bound_set, bound_value, bound_related, limit_related, limit_in, with_limit, general_read, binary_read};
-ghost use Rattle.cip_lp_tokens.specs.LpKinds.{relation_shown};
-ghost use Rattle.cip_lp_tokens.specs.LpLines.{token_shown};
-ghost use Rattle.cip_lp_draft.specs.LpLimits.{limit_shown};
+ghost use Rattle.cip_lp.specs.LpKinds.{relation_shown};
+ghost use Rattle.cip_lp.specs.LpLines.{token_shown};
+ghost use Rattle.cip_lp.specs.LpLimits.{limit_shown};
 ghost use Rattle.cip_lp.specs.LpStages.{place_at, where_of};
 ghost use Rattle.cip_lp.specs.LpTaken.{AreTaken};
 
 use crate::places::Stage;
 use crate::statements::Statements;
 use crate::terms::set_name;
-use cip_lp_draft::{Limit, LpDraft, agree, flipped, is_wrong, limit_of};
-use cip_lp_tokens::{Relation, Token};
+use crate::{Limit, LpDraft, Relation, Token, agree, flipped, is_wrong, limit_of};
 use std::alloc::AllocError;
 
 /// Sets the side, or both, that this relation to a value says of a column.

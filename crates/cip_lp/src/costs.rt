@@ -2,14 +2,13 @@
 ghost use Rattle.std.specs.Prelude.{◌≡◌, None, IfOk};
 ghost use Rattle.cip_lp_rules.specs.LpPlaces as places;
 ghost use Rattle.cip_lp_rules.specs.LpGrammar.{cost_read};
-ghost use Rattle.cip_lp_tokens.specs.LpLines.{token_shown};
+ghost use Rattle.cip_lp.specs.LpLines.{token_shown};
 ghost use Rattle.cip_lp.specs.LpStages.{given_of, place_at, where_of};
 ghost use Rattle.cip_lp.specs.LpTaken.{AreTaken};
 
 use crate::places::Stage;
 use crate::statements::Statements;
-use cip_lp_draft::unit;
-use cip_lp_tokens::Token;
+use crate::{Token, unit};
 use std::alloc::AllocError;
 
 impl Statements {

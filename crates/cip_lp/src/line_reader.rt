@@ -5,13 +5,12 @@ ghost use Rattle.cip_text.specs.PieceStands.{progress_after};
 ghost use Rattle.cip_lp_rules.specs.LpOutcome as text;
 ghost use Rattle.cip_lp_rules.specs.LpOutcome.{LpContext, lp_reading};
 ghost use Rattle.cip_lp_rules.specs.LpBytes.{tokens_read};
-ghost use Rattle.cip_lp_tokens.specs.LpLines.{token_shown, tokens_left};
+ghost use Rattle.cip_lp.specs.LpLines.{token_shown, tokens_left};
 ghost use Rattle.cip_lp.specs.LpEvents.{IsLpKind};
 ghost use Rattle.cip_lp.specs.LpStages.{context_of};
 ghost use Rattle.cip_lp.specs.LinesRead.{stage_of, AreOver, IsTaken};
 
-use crate::{Program, Statements};
-use cip_lp_tokens::{LineTokens, LpPart, Token};
+use crate::{LineTokens, LpPart, Program, Statements, Token};
 use std::alloc::{AllocError, Global};
 
 /// What was read of the tokens of a text. Behind End none is looked at.

@@ -13,12 +13,11 @@ ghost use Rattle.cip_lp_rules.specs.LpBytes.{part_read, with_last, byte_taken, t
 ghost use Rattle.cip_lp_rules.specs.LpParts.{ends_with};
 ghost use Rattle.cip_lp_rules.specs.LpTakenTexts.{last_line};
 
-use crate::Program;
 use crate::faults::answer;
 use crate::kinds::LpKind;
 use crate::line_reader::LineReader;
+use crate::{LineTokens, Program, ends_before, hangs};
 use cip_lp_rules::lp_taken::{taken_faults_stay, taken_texts_come_out};
-use cip_lp_tokens::{LineTokens, ends_before, hangs};
 use cip_text::{KnownFault, PieceText, ReadFault, TextFault};
 use std::alloc::{AllocError, Global};
 use std::mem;

@@ -1,6 +1,5 @@
 //! Where a token stands in its statement.
-use cip_lp_draft::{Amount, Limit};
-use cip_lp_tokens::Relation;
+use crate::{Amount, Limit, Relation};
 
 /// Where a token stands in its statement.
 #[derive(Clone, Copy, PartialEq, Eq)]

@@ -2,16 +2,15 @@
 ghost use Rattle.std.specs.Prelude.{◌≡◌, ◌&&◌, None, Some, IfOk};
 ghost use Rattle.cip_lp_rules.specs.LpPlaces as places;
 ghost use Rattle.cip_lp_rules.specs.LpGrammar.{row_read, front_read, first_related, second_term, second_name, second_related, form_related};
-ghost use Rattle.cip_lp_tokens.specs.LpKinds.{relation_shown};
-ghost use Rattle.cip_lp_tokens.specs.LpLines.{token_shown};
+ghost use Rattle.cip_lp.specs.LpKinds.{relation_shown};
+ghost use Rattle.cip_lp.specs.LpLines.{token_shown};
 ghost use Rattle.cip_lp.specs.LpStages.{first_of, given_of, place_at, where_of};
 ghost use Rattle.cip_lp.specs.LpTaken.{AreTaken};
 
 use crate::places::Stage;
 use crate::statements::Statements;
 use crate::terms::set_name;
-use cip_lp_draft::{Amount, agree, is_equality, unit};
-use cip_lp_tokens::{Relation, Token};
+use crate::{Amount, Relation, Token, agree, is_equality, unit};
 use std::alloc::AllocError;
 
 impl Statements {

@@ -4,15 +4,14 @@ ghost use Rattle.cip_lp_rules.specs.LpPlaces.{Opens, fails};
 ghost use Rattle.cip_lp_rules.specs.LpFacts.{facts_with};
 ghost use Rattle.cip_lp_rules.specs.LpGrammar as grammar;
 ghost use Rattle.cip_lp_rules.specs.LpGrammar.{section_read, outside_read, read_in, read, may_end, opened};
-ghost use Rattle.cip_lp_tokens.specs.LpKinds.{part_shown};
-ghost use Rattle.cip_lp_tokens.specs.LpLines.{token_shown};
+ghost use Rattle.cip_lp.specs.LpKinds.{part_shown};
+ghost use Rattle.cip_lp.specs.LpLines.{token_shown};
 ghost use Rattle.cip_lp.specs.LpStages.{place_at, where_of};
 ghost use Rattle.cip_lp.specs.LpTaken.{AreTaken};
 
 use crate::places::Stage;
 use crate::statements::Statements;
-use cip_lp_draft::LpDraft;
-use cip_lp_tokens::{LpPart, Token};
+use crate::{LpDraft, LpPart, Token};
 use std::alloc::AllocError;
 
 /// Whether the objective is behind.

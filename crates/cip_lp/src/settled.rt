@@ -4,14 +4,13 @@ ghost use Rattle.cip_lp_rules.specs.LpPlaces as places;
 ghost use Rattle.cip_lp_rules.specs.LpFacts.{facts_with};
 ghost use Rattle.cip_lp_rules.specs.LpGrammar as grammar;
 ghost use Rattle.cip_lp_rules.specs.LpGrammar.{settled, settled_cost, settled_row, zero_ends, goes_behind};
-ghost use Rattle.cip_lp_tokens.specs.LpLines.{token_shown};
+ghost use Rattle.cip_lp.specs.LpLines.{token_shown};
 ghost use Rattle.cip_lp.specs.LpStages.{first_of, given_of, goes_on_with, place_at, where_of};
 ghost use Rattle.cip_lp.specs.LpTaken.{AreTaken};
 
 use crate::places::Stage;
 use crate::statements::Statements;
-use cip_lp_draft::{agree, high_side, is_equality, low_side, unit};
-use cip_lp_tokens::{LpPart, Token};
+use crate::{LpPart, Token, agree, high_side, is_equality, low_side, unit};
 use std::alloc::AllocError;
 
 /// Whether a token is a name.

@@ -2,15 +2,14 @@
 ghost use Rattle.std.specs.Prelude.{◌≡◌, IfOk};
 ghost use Rattle.cip_lp_rules.specs.LpOutcome as text;
 ghost use Rattle.cip_lp_rules.specs.LpFacts as facts;
-ghost use Rattle.cip_lp_tokens.specs.LpLines.{token_shown};
+ghost use Rattle.cip_lp.specs.LpLines.{token_shown};
 ghost use Rattle.cip_lp_rules.specs.LpPlaces as places;
 ghost use Rattle.cip_lp.specs.LpStages.{place_at, context_of};
 ghost use Rattle.cip_lp.specs.LpTaken.{IsTokenTaken};
 
 use crate::places::{Place, Stage};
+use crate::{Amount, Limit, LpDraft, LpPart, Program, Relation, Token};
 use cip_frac::Frac;
-use cip_lp_draft::{Amount, Limit, LpDraft, Program};
-use cip_lp_tokens::{LpPart, Relation, Token};
 use std::alloc::{AllocError, Global};
 
 /// What the tokens of a text have said, and where the next one stands.

@@ -3,15 +3,14 @@ ghost use Rattle.std.specs.Prelude.{◌≡◌, ◌∷◌, [], None, Some, IfOk, 
 ghost use Rattle.cip_lp_rules.specs.LpPlaces as places;
 ghost use Rattle.cip_lp_rules.specs.LpPlaces.{AddsCost, Adds, Begins, says, moves};
 ghost use Rattle.cip_lp_rules.specs.LpGrammar.{amount_in, with_number, row_ends};
-ghost use Rattle.cip_lp_tokens.specs.LpKinds.{relation_shown};
+ghost use Rattle.cip_lp.specs.LpKinds.{relation_shown};
 ghost use Rattle.cip_lp.specs.LpStages.{first_of, given_of, row_low, row_high, where_of};
 ghost use Rattle.cip_lp.specs.LpTaken.{AreTaken};
 
 use crate::places::Stage;
 use crate::statements::Statements;
+use crate::{Amount, Relation, amount_of, high_side, low_side};
 use cip_frac::Frac;
-use cip_lp_draft::{Amount, amount_of, high_side, low_side};
-use cip_lp_tokens::Relation;
 use std::alloc::AllocError;
 
 /// Keeps a name in place of another one. `Err` comes where a growth was refused.

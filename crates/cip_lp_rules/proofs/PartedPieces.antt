@@ -3,7 +3,7 @@ use Rattle.std.proofs.Common.{◌≡◌, ℕ, zero, suc, ◌≤◌, Bool, true, 
 use Rattle.std.specs.List.{list_any}
 use Rattle.std.proofs.lemmas.List.{drop-append-le}
 use Rattle.std.proofs.lemmas.Bool.{eqb-true}
-use Rattle.cip_number_text.specs.Numeral.{is_exponent_mark}
+use Rattle.cip_rational.specs.Numeral.{is_exponent_mark}
 use Rattle.cip_line_texts.specs.Lines.{is_blank}
 use Rattle.cip_lp_rules.specs.LpWords.{Piece, first_piece, first_rest}
 use Rattle.cip_lp_rules.specs.LpTokens.{is_comment, line_pieces}

@@ -7,7 +7,7 @@ use Rattle.std.specs.List.{prefix_len}
 use Rattle.std.proofs.lemmas.List.{drop-append-le, take-append-le}
 use Rattle.std.proofs.lemmas.List.Sums.{prefix_len-le-length}
 use Rattle.std.proofs.lemmas.Bool.{cond-false, eqb-true, false_from_ne_true}
-use Rattle.cip_number_text.specs.Numeral.{is_sign, is_exponent_mark, is_point}
+use Rattle.cip_rational.specs.Numeral.{is_sign, is_exponent_mark, is_point}
 use Rattle.cip_lp_rules.specs.LpWords.{begins_name, is_name_byte, begins_number, digits_length, sign_length, signed_length, exponent_length, decimals_length, mantissa_length, has_digit, number_length, Relation, AtMost, EqualTo, AtLeast, Piece, WordPiece, NumberPiece, SignPiece, ColonPiece, RelationPiece, NoPiece, equal_relation, mark_piece, is_double, number_piece, first_piece, first_rest}
 use Rattle.cip_lp_rules.specs.LpParts.{is_relation_mark, joins}
 

@@ -5,7 +5,7 @@ use Rattle.std.specs.Prelude.{ℕ, ◌+◌, ◌==◌, nat_lt, nat_le, Bool, true
 use Rattle.std.specs.List.{list_any}
 use Rattle.std.specs.Str.{bytes_eq}
 use Rattle.cip_rational.specs.Rational.{ℚ, zeroℚ, oneℚ, negate}
-use Rattle.cip_number_text.specs.NumberText.{natural_text}
+use Rattle.cip_rational.specs.NumberText.{natural_text}
 use Rattle.cip_problem.specs.Limits.{most_rows, most_columns, most_entries, longest_name}
 use Rattle.cip_problem.specs.Program.{Term, Sides, Row, Program}
 use Rattle.cip_mps_rules.specs.MpsWords.{number_in, is_in}

@@ -3,7 +3,7 @@
 --     read w token      what this token says then, and where the next one stands
 use Rattle.std.specs.Prelude.{ℕ, Bool, true, false, not, ◌&&◌, ◌||◌, if◌then◌else◌, List, [], ◌∷◌, ◌++◌, Option, None, Some}
 use Rattle.cip_rational.specs.Rational.{ℚ}
-use Rattle.cip_number_text.specs.Numeral.{Numeral, value_of, numeral_of}
+use Rattle.cip_rational.specs.Numeral.{Numeral, value_of, numeral_of}
 use Rattle.cip_mps_rules.specs.MpsWords.{is_huge, is_too_fine, bound_number}
 use Rattle.cip_lp_rules.specs.LpWords.{LpPart, NoPart, Costs, Constraints, Bounds, Generals, Binaries, End, Relation, AtMost, EqualTo, AtLeast}
 use Rattle.cip_lp_rules.specs.LpTokens.{Token, Opening, OutsideSection, Free, Infinite, Number, Name, Sign, Colon, Relates, BadToken}

@@ -2,7 +2,7 @@
 --     ends_before last byte      a token has ended between these two bytes
 --     hangs pieces      what the first word is hangs on what follows
 use Rattle.std.specs.Prelude.{ℕ, ◌==◌, Bool, true, false, not, ◌&&◌, ◌||◌, List, [], ◌∷◌, Option, None, Some}
-use Rattle.cip_number_text.specs.Numeral.{is_sign, is_exponent_mark}
+use Rattle.cip_rational.specs.Numeral.{is_sign, is_exponent_mark}
 use Rattle.cip_line_texts.specs.Lines.{is_blank}
 use Rattle.cip_lp_rules.specs.LpWords.{WordMeaning, OpensPart, OpensWith, Outside, FreeWord, Infinity, word_meaning, is_name_byte, Piece, WordPiece}
 

@@ -1,7 +1,7 @@
 -- Where a token of an LP text stands, and what tokens say.
 use Rattle.std.specs.Prelude.{ℕ, Bool, true, false, if◌then◌else◌, List, [], ◌∷◌, Option, None, Some}
 use Rattle.cip_rational.specs.Rational.{ℚ, oneℚ, negate}
-use Rattle.cip_number_text.specs.Numeral.{Numeral}
+use Rattle.cip_rational.specs.Numeral.{Numeral}
 use Rattle.cip_mps_rules.specs.MpsWords.{is_zero}
 use Rattle.cip_mps_rules.specs.MpsProgram.{number}
 use Rattle.cip_lp_rules.specs.LpWords.{LpPart, NoPart, Relation, AtMost, EqualTo, AtLeast}

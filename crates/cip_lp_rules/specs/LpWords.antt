@@ -6,7 +6,7 @@ use Rattle.std.specs.Prelude.{ℕ, ◌+◌, ◌-◌, ◌==◌, nat_lt, Bool, tru
 use Rattle.std.specs.Char.{is_ascii_digit, is_ascii_alphabetic, is_ascii_alphanumeric}
 use Rattle.std.specs.List.{prefix_len}
 use Rattle.std.specs.Str.{str_to_ascii_lowercase}
-use Rattle.cip_number_text.specs.Numeral.{is_sign, is_exponent_mark, is_point}
+use Rattle.cip_rational.specs.Numeral.{is_sign, is_exponent_mark, is_point}
 use Rattle.cip_mps_rules.specs.MpsWords.{Word, meaning_in}
 
 -- ---- words

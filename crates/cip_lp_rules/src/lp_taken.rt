@@ -1,6 +1,7 @@
 //! LP texts byte by byte: which tokens have ended, and what is known then. `specs/` holds the definitions, and the laws
 //! as statements.
 // Each function here does nothing. Its contract is one of the laws, so that the check proves it.
+
 ghost use Rattle.cip_lp_rules.specs.LpTakenTexts.{TakenFaultsStay, TakenTextsComeOut};
 
 use crate::lp_pieces::lp_texts_are_read;

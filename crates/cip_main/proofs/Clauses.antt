@@ -19,8 +19,8 @@ use Rattle.cip_answering.specs.BlockKindTexts.{kind_number as block_kind_number}
 use Rattle.cip_answering.specs.BlockKind.{BlockKind}
 use Rattle.cip_answering.specs.PointKindTexts.{kind_number as point_kind_number}
 use Rattle.cip_answering.specs.PointKind.{PointKind}
-use Rattle.cip_words.specs.Jobs.{Limits, Job, Solve, Check, Generate, usual_limits}
-use Rattle.cip_generator.specs.Generated.{generated}
+use Rattle.cip_tasks.specs.Jobs.{Limits, Job, Solve, Check, Generate, usual_limits}
+use Rattle.cip_tasks.specs.Generated.{generated}
 use Rattle.cip_answers.specs.Checks.{check_status}
 use Rattle.cip_model.specs.Verdicts.{verdict_of}
 use Rattle.cip_tasks.specs.declared.refusals.FaultyText.{FaultyText}

@@ -10,8 +10,8 @@ use Rattle.cip_problem.specs.BlockParts.{Blocks as Parts}
 use Rattle.cip_answering.specs.TextsRead.{ReadsText}
 use Rattle.cip_tasks.specs.declared.plain.Plain.{Plain}
 use Rattle.cip_plugin.specs.Who.{Who}
-use Rattle.cip_words.specs.Jobs.{Limits, Job, usual_limits, job_for}
-use Rattle.cip_generator.specs.Generated.{entries_of}
+use Rattle.cip_tasks.specs.Jobs.{Limits, Job, usual_limits, job_for}
+use Rattle.cip_tasks.specs.Generated.{entries_of}
 use Rattle.cip_answers.specs.SelfTexts.{Drawn as Told}
 use Rattle.cip_answers.specs.TraceTexts.{traced_text}
 use Rattle.cip_answers.specs.Figures.{names_of}

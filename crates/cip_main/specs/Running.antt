@@ -12,10 +12,10 @@ use Rattle.cip_line_texts.specs.LineTexts.{HasResult, HasFault as HasLineFault}
 use Rattle.cip_problem.specs.BlockParts.{Blocks as Parts}
 use Rattle.cip_block_rules.specs.BlockRules.{block_reading}
 use Rattle.cip_point_rules.specs.PointRules.{point_reading}
-use Rattle.cip_generator.specs.Generated.{generated, entries_of as coefficients_of}
+use Rattle.cip_tasks.specs.Generated.{generated, entries_of as coefficients_of}
 use Rattle.cip_answers.specs.SelfTexts.{Drawn}
 use Rattle.cip_answers.specs.TraceTexts.{traced_text}
-use Rattle.cip_words.specs.Jobs.{Limits, Job, Solve, Check, Generate, usual_limits}
+use Rattle.cip_tasks.specs.Jobs.{Limits, Job, Solve, Check, Generate, usual_limits}
 use Rattle.cip_answering.specs.Models.{is_lp_name, HasModel, HasModelFault, is_lp_kind, model_kind_number}
 use Rattle.cip_answering.specs.TextPulls.{IsAllPulled}
 use Rattle.cip_answering.specs.ModelKind.{ModelKind}

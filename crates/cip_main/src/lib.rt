@@ -7,6 +7,5 @@ mod running;
 pub use bare::no_plugins;
 pub use cip_answering::{Drawn, Log, Mark, check_and_report, solve_and_report, solve_drawn};
 pub use cip_plugin::Kit;
-pub use cip_tasks::{FaultyText, Plain, Task, read_task, refusals_tell};
-pub use cip_words::Words;
+pub use cip_tasks::{FaultyText, Plain, Task, Words, read_task, refusals_tell};
 pub use running::{run, say};

@@ -11,7 +11,7 @@ use Rattle.cip_linear.specs.LinearProgram.{LinearProgram}
 use Rattle.cip_bland.specs.EndAnswers as list
 use Rattle.cip_bland.specs.EndAnswers.{Answer, answer}
 use Rattle.cip_bland.specs.Statements.{IsRight}
-use Rattle.cip_dictionary.specs.ProgramState.{first_of_program}
+use Rattle.cip_bland.specs.ProgramState.{first_of_program}
 use Rattle.cip_lin.specs.declared.combos.Combo.{Combo}
 use Rattle.cip_simplex.specs.LpAnswers.{IsAnswer}
 use Rattle.cip_simplex.specs.Reached.{IsOptimumBy, IsEmptyBy}

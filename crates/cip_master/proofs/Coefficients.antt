@@ -14,7 +14,7 @@ use Rattle.cip_pricing.specs.Decomposition.{Owner, same_owner, place}
 use Rattle.cip_pricing.proofs.Picked.{same_owner-true}
 use Rattle.cip_pricing.specs.MasterForms.{first_or_zero, after_first}
 use Rattle.cip_pricing.proofs.Spread.{spread}
-use Rattle.cip_decomposition.specs.Places.{ArePlaces}
+use Rattle.cip_lagrange.specs.Places.{ArePlaces}
 use Rattle.cip_master.specs.BlockSums.{block_added, block_sum, free_term, free_terms}
 
 -- ---- the value of a column at a point that is spread

@@ -17,11 +17,11 @@ use Rattle.cip_pricing.specs.Decomposition.{Owner, same_owner, picked}
 use Rattle.cip_pricing.proofs.Picked.{same_owner-true}
 use Rattle.cip_pricing.specs.MasterPrograms.{IsMasterRow, AreSumRows}
 use Rattle.cip_pricing.proofs.Spread.{spread, dot-spread}
-use Rattle.cip_decomposition.specs.Places.{ArePlaces}
-use Rattle.cip_decomposition.specs.Numbers.{found}
-use Rattle.cip_decomposition.specs.declared.parts.Decomposed.{Decomposed}
-use Rattle.cip_decomposition.specs.Decompositions.{IsDecompositionOf}
-use Rattle.cip_decomposition.proofs.Placing.{place_inside}
+use Rattle.cip_lagrange.specs.Places.{ArePlaces}
+use Rattle.cip_lagrange.specs.Numbers.{found}
+use Rattle.cip_lagrange.specs.declared.parts.Decomposed.{Decomposed}
+use Rattle.cip_lagrange.specs.Decompositions.{IsDecompositionOf}
+use Rattle.cip_lagrange.proofs.Placing.{place_inside}
 use Rattle.cip_master.specs.BlockSums.{free_term, free_terms, free_row}
 use Rattle.cip_master.specs.FirstRows.{sum_row}
 use Rattle.cip_master.specs.KeptMasters.{IsMasterOf}

@@ -7,7 +7,7 @@ use Rattle.cip_pricing.specs.Mixtures.{Held}
 use Rattle.cip_pricing.specs.MasterStatements.{AreHeld}
 use Rattle.cip_columns.specs.PoolPoints.{PoolPoint, held_of}
 use Rattle.cip_columns.proofs.InBoxes.{inside_means}
-use Rattle.cip_decomposition.specs.Decompositions.{owners_in}
+use Rattle.cip_lagrange.specs.Decompositions.{owners_in}
 use Rattle.cip_master.specs.KeptMasters.{is_held_in}
 use Rattle.cip_master.specs.MasterTasks.{Task, IsTask, held_by}
 use Rattle.cip_master.proofs.Lowered.{filtered}

@@ -19,8 +19,8 @@ use Rattle.cip_pricing.specs.Decomposition.{picked}
 use Rattle.cip_pricing.specs.Mixtures.{Held, total}
 use Rattle.cip_pricing.specs.LeastCosts.{ArePrices}
 use Rattle.cip_columns.specs.PoolPoints.{PoolPoint, held_of}
-use Rattle.cip_decomposition.specs.declared.parts.Decomposed.{Decomposed}
-use Rattle.cip_decomposition.specs.Decompositions.{owners_in}
+use Rattle.cip_lagrange.specs.declared.parts.Decomposed.{Decomposed}
+use Rattle.cip_lagrange.specs.Decompositions.{owners_in}
 use Rattle.cip_lagrange.specs.LagrangeOutcomes.{chain, in_range}
 use Rattle.cip_lagrange.proofs.Multiplied.{ok_chain, ok_weaker}
 use Rattle.cip_master.specs.KeptMasters.{is_held_in, held_in}

@@ -9,7 +9,7 @@ use Rattle.cip_pricing.specs.MasterForms.{mixed}
 use Rattle.cip_pricing.specs.MasterStatements.{ComesToMixture}
 use Rattle.cip_pricing.proofs.Points.{comes_to}
 use Rattle.cip_columns.specs.PoolPoints.{PoolPoint, held_of}
-use Rattle.cip_decomposition.specs.Decompositions.{owners_in}
+use Rattle.cip_lagrange.specs.Decompositions.{owners_in}
 use Rattle.cip_master.specs.KeptMasters.{program_in}
 use Rattle.cip_master.specs.declared.masters.MasterProgram.{MasterProgram}
 use Rattle.cip_master.specs.MasterTasks.{Task, IsTask, points_in, held_by}

@@ -14,9 +14,9 @@ use Rattle.cip_problem.specs.Program.{Sides}
 use Rattle.cip_problem.specs.Activity.{value_at}
 use Rattle.cip_problem.specs.Box.{sides_at, no_sides, is_between}
 use Rattle.cip_columns.specs.ColumnPools.{is_inside}
-use Rattle.cip_decomposition.specs.Numbers.{found}
-use Rattle.cip_decomposition.proofs.Found.{found_in, found_sides}
-use Rattle.cip_decomposition.proofs.Numbered.{found_all}
+use Rattle.cip_lagrange.specs.Numbers.{found}
+use Rattle.cip_lagrange.proofs.Found.{found_in, found_sides}
+use Rattle.cip_lagrange.proofs.Numbered.{found_all}
 use Rattle.cip_columns.proofs.InBoxes.{other_length}
 
 -- what stands at the numbers from one on is what stands at that one, and then the others

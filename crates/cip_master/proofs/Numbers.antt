@@ -9,12 +9,12 @@ use Rattle.cip_problem.specs.WellFormed.{columns, IsWellFormed}
 use Rattle.cip_problem.specs.BlockParts.{BlockPart, Blocks, rows_where, is_block}
 use Rattle.cip_problem.specs.BlockMeaning.{part_at}
 use Rattle.cip_pricing.specs.Decomposition.{picked, master_rows}
-use Rattle.cip_decomposition.specs.Numbers.{found}
-use Rattle.cip_decomposition.specs.declared.parts.Decomposed.{Decomposed}
-use Rattle.cip_decomposition.specs.Decompositions.{owners_in, IsDecompositionOf}
-use Rattle.cip_decomposition.proofs.Found.{found_block, found_free}
-use Rattle.cip_decomposition.proofs.Numbered.{found_all, numbers_below}
-use Rattle.cip_decomposition.proofs.Whole.{part_by, count_by}
+use Rattle.cip_lagrange.specs.Numbers.{found}
+use Rattle.cip_lagrange.specs.declared.parts.Decomposed.{Decomposed}
+use Rattle.cip_lagrange.specs.Decompositions.{owners_in, IsDecompositionOf}
+use Rattle.cip_lagrange.proofs.Found.{found_block, found_free}
+use Rattle.cip_lagrange.proofs.Numbered.{found_all, numbers_below}
+use Rattle.cip_lagrange.proofs.Whole.{part_by, count_by}
 
 -- a row, by its number
 abbrev pub row_of : List Row → ℕ → Row

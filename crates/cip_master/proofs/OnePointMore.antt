@@ -19,9 +19,9 @@ use Rattle.cip_pricing.specs.MasterPrograms.{IsMasterRow, AreSumRows}
 use Rattle.cip_pricing.proofs.Spread.{spread}
 use Rattle.cip_columns.specs.PoolPoints.{PoolPoint, held_of}
 use Rattle.cip_columns.specs.ColumnPools.{most_points}
-use Rattle.cip_decomposition.specs.Numbers.{found}
-use Rattle.cip_decomposition.specs.declared.parts.Decomposed.{Decomposed}
-use Rattle.cip_decomposition.specs.Decompositions.{owners_in, IsDecompositionOf}
+use Rattle.cip_lagrange.specs.Numbers.{found}
+use Rattle.cip_lagrange.specs.declared.parts.Decomposed.{Decomposed}
+use Rattle.cip_lagrange.specs.Decompositions.{owners_in, IsDecompositionOf}
 use Rattle.cip_master.specs.BlockSums.{coefficient_in}
 use Rattle.cip_master.specs.WeightTerms.{with_weight, weighted}
 use Rattle.cip_master.specs.KeptMasters.{is_held_in, held_in, IsMasterOf, HasSeen, PutsPoint, TakesPoint, IsTakenFault, IsPoolFault}

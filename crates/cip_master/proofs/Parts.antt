@@ -13,9 +13,9 @@ use Rattle.cip_columns.specs.PoolPoints.{PoolPoint}
 use Rattle.cip_columns.specs.ColumnPools.{IsAdded}
 use Rattle.cip_columns.specs.declared.pools.Added.{Added}
 use Rattle.cip_columns.specs.declared.pools.Added.TheVariants.{New, Known, Full}
-use Rattle.cip_decomposition.specs.declared.parts.Subproblem.{Subproblem}
-use Rattle.cip_decomposition.specs.declared.parts.Decomposed.{Decomposed}
-use Rattle.cip_decomposition.specs.Decompositions.{owners_in, IsSubproblem, IsDecompositionOf}
+use Rattle.cip_lagrange.specs.declared.parts.Subproblem.{Subproblem}
+use Rattle.cip_lagrange.specs.declared.parts.Decomposed.{Decomposed}
+use Rattle.cip_lagrange.specs.Decompositions.{owners_in, IsSubproblem, IsDecompositionOf}
 use Rattle.cip_master.specs.KeptMasters.{ArePoolPoints}
 use Rattle.cip_master.proofs.OnePointMore.{picked_few}
 use Rattle.cip_master.specs.declared.verdicts.PointVerdict.{PointVerdict}

@@ -17,8 +17,8 @@ use Rattle.cip_pricing.specs.Mixtures.{total}
 use Rattle.cip_pricing.specs.LeastCosts.{side_total, row_total, AreRests, sum_below, price_total, ShowsLeast}
 use Rattle.cip_pricing.proofs.Picked.{length_picked}
 use Rattle.cip_columns.specs.PoolPoints.{PoolPoint}
-use Rattle.cip_decomposition.specs.Decompositions.{owners_in}
-use Rattle.cip_decomposition.proofs.Numbered.{found_all}
+use Rattle.cip_lagrange.specs.Decompositions.{owners_in}
+use Rattle.cip_lagrange.proofs.Numbered.{found_all}
 use Rattle.cip_lagrange.specs.declared.answers.LagrangeFault.{LagrangeFault}
 use Rattle.cip_lagrange.specs.LagrangeOutcomes.{chain, Reduced, multipliers_used, free_added}
 use Rattle.cip_lagrange.proofs.BlocksAdded.{sum_total}

@@ -13,7 +13,7 @@ use Rattle.cip_pricing.specs.MasterForms.{weight_sides}
 use Rattle.cip_pricing.proofs.Picked.{length_picked}
 use Rattle.cip_columns.specs.PoolPoints.{PoolPoint, held_of}
 use Rattle.cip_columns.specs.ColumnPools.{most_points}
-use Rattle.cip_decomposition.proofs.Numbered.{few_numbers}
+use Rattle.cip_lagrange.proofs.Numbered.{few_numbers}
 use Rattle.cip_simplex.specs.LpShape.{IsSolvable}
 use Rattle.cip_master.specs.KeptMasters.{held_in, program_in, IsMasterOf}
 use Rattle.cip_master.specs.declared.masters.MasterProgram.{MasterProgram}

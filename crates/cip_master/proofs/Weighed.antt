@@ -19,6 +19,7 @@ use Rattle.cip_pricing.specs.MasterPrograms.{IsMasterRow, block_form, IsSumRow, 
 use Rattle.cip_pricing.proofs.Spread.{spread, dot-spread}
 use Rattle.cip_master.specs.WeightTerms.{with_weight, rows_then, weighted}
 use Rattle.cip_master.proofs.Coefficients.{activity-append}
+use Rattle.cip_master.proofs.Numbers.{row_of}
 
 -- ---- one number more in a form, one term more in a row
 
@@ -140,9 +141,6 @@ ok_rows : (P Q : List Row → Type 0) (r : Result (List Row) Wide) → ((rows : 
     → IfOk r Q
 ok_rows P Q (Ok rows) f h = f rows h
 ok_rows P Q (Err wide) f h = tt
-
-abbrev row_of : List Row → ℕ → Row
-row_of rows number = slice_index_or rows number no_row
 
 -- the rows that were master rows of some points are master rows of these and one more, over one column more
 pub record AreWeighed (n : ℕ) (owners : List Owner) (points : List Held) (column : ℕ) (rows : List Row)

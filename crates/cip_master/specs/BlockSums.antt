@@ -7,7 +7,7 @@ use Rattle.cip_problem.specs.Program.{Term, Row}
 use Rattle.cip_problem.specs.Activity.{value_at}
 use Rattle.cip_pricing.specs.Decomposition.{Owner, same_owner}
 use Rattle.cip_columns.specs.PoolPoints.{PoolPoint}
-use Rattle.cip_decomposition.specs.declared.parts.Decomposed.{Decomposed}
+use Rattle.cip_lagrange.specs.declared.parts.Decomposed.{Decomposed}
 
 -- a sum with the product of a term added, where the term stands on a column of the block
 abbrev pub block_added : List Owner → List ℕ → ℕ → List ℚ → Term → ℚ → Result ℚ Wide

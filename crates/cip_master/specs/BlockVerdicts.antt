@@ -11,8 +11,8 @@ use Rattle.cip_lin.specs.RowSums.{activity_from}
 use Rattle.cip_model.specs.Verdicts.{first_outside, first_not_whole}
 use Rattle.cip_model.specs.Meaning.{IsKept, IsBroken, RowOverflows}
 use Rattle.cip_pricing.specs.Decomposition.{Conditions, conditions_of, picked, IsPointOf}
-use Rattle.cip_decomposition.specs.declared.parts.Decomposed.{Decomposed}
-use Rattle.cip_decomposition.specs.Decompositions.{owners_in}
+use Rattle.cip_lagrange.specs.declared.parts.Decomposed.{Decomposed}
+use Rattle.cip_lagrange.specs.Decompositions.{owners_in}
 use Rattle.cip_master.specs.declared.verdicts.PointVerdict.{PointVerdict}
 use Rattle.cip_master.specs.declared.verdicts.PointVerdict.TheVariants.{Good, WrongCount, BreaksBound, BreaksWhole, BreaksRow, Wide}
 

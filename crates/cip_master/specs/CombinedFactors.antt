@@ -6,7 +6,7 @@ use Rattle.cip_lin.specs.declared.combos.RowId.{RowId}
 use Rattle.cip_lin.specs.declared.combos.RowId.TheVariants.{Own, Pool, Cutoff}
 use Rattle.cip_lin.specs.declared.combos.RowMultiple.{RowMultiple}
 use Rattle.cip_lin.specs.declared.combos.Combo.{Combo}
-use Rattle.cip_decomposition.specs.declared.parts.Decomposed.{Decomposed}
+use Rattle.cip_lagrange.specs.declared.parts.Decomposed.{Decomposed}
 
 -- a factor at the place of its row, counted from a first number; a row before that, or past the end, changes nothing
 abbrev pub factor_put : (first : ℕ) → RowId → ℚ → List ℚ → List ℚ

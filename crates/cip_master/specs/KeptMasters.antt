@@ -12,8 +12,8 @@ use Rattle.cip_pricing.specs.MasterForms.{master_form, master_box}
 use Rattle.cip_pricing.specs.MasterPrograms.{IsMasterRow, AreSumRows}
 use Rattle.cip_columns.specs.PoolPoints.{PoolPoint, held_of}
 use Rattle.cip_columns.specs.ColumnPools.{is_inside}
-use Rattle.cip_decomposition.specs.Decompositions.{owners_in}
-use Rattle.cip_decomposition.specs.declared.parts.Decomposed.{Decomposed}
+use Rattle.cip_lagrange.specs.Decompositions.{owners_in}
+use Rattle.cip_lagrange.specs.declared.parts.Decomposed.{Decomposed}
 use Rattle.cip_master.specs.BlockSums.{coefficient_in}
 use Rattle.cip_master.specs.declared.masters.MasterProgram.{MasterProgram}
 use Rattle.cip_master.specs.declared.masters.MasterFault.{MasterFault}

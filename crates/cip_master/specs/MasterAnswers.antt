@@ -7,13 +7,13 @@ use Rattle.cip_problem.specs.WellFormed.{columns}
 use Rattle.cip_linear.specs.LinearProgram.{LinearProgram}
 use Rattle.cip_bland.specs.EndAnswers.{answer, Unbounded, OutOfRange, LimitReached}
 use Rattle.cip_bland.specs.Statements.{IsRight}
-use Rattle.cip_dictionary.specs.declared.moves.Move.{Move}
+use Rattle.cip_bland.specs.declared.moves.Move.{Move}
 use Rattle.cip_lin.specs.declared.combos.Combo.{Combo}
 use Rattle.cip_simplex.specs.Reached.{IsOptimumBy, IsEmptyBy}
 use Rattle.cip_pricing.specs.Mixtures.{IsMixture, MeetsMaster}
 use Rattle.cip_pricing.specs.MasterForms.{mixed}
 use Rattle.cip_columns.specs.PoolPoints.{PoolPoint}
-use Rattle.cip_decomposition.specs.Decompositions.{owners_in}
+use Rattle.cip_lagrange.specs.Decompositions.{owners_in}
 use Rattle.cip_master.specs.KeptMasters.{IsPoolFault}
 use Rattle.cip_master.specs.declared.masters.MasterFault.TheVariants.{Wide}
 use Rattle.cip_master.specs.declared.masters.MasterProgram.{MasterProgram}

@@ -8,7 +8,7 @@ use Rattle.cip_simplex.specs.Reached.{IsOptimumBy, IsEmptyBy}
 use Rattle.cip_simplex.specs.declared.answers.LpAnswer.{LpAnswer}
 use Rattle.cip_simplex.specs.declared.answers.LpAnswer.TheVariants.{Optimal, Infeasible, Unbounded, Wide, Limit}
 use Rattle.cip_columns.specs.PoolPoints.{PoolPoint}
-use Rattle.cip_decomposition.specs.Decompositions.{owners_in}
+use Rattle.cip_lagrange.specs.Decompositions.{owners_in}
 use Rattle.cip_pricing.specs.MasterPrograms.{IsMasterProgram}
 use Rattle.cip_master.specs.MasterTasks.{Task, points_in, held_by}
 use Rattle.cip_master.specs.KeptMasters.{IsMasterOf, HasSeen}

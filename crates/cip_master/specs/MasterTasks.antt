@@ -4,8 +4,8 @@ use Rattle.cip_problem.specs.Program.{Sides, Program}
 use Rattle.cip_problem.specs.WellFormed.{columns}
 use Rattle.cip_pricing.specs.Mixtures.{Held}
 use Rattle.cip_columns.specs.PoolPoints.{PoolPoint, held_of}
-use Rattle.cip_decomposition.specs.Decompositions.{IsDecompositionOf}
-use Rattle.cip_decomposition.specs.declared.parts.Decomposed.{Decomposed}
+use Rattle.cip_lagrange.specs.Decompositions.{IsDecompositionOf}
+use Rattle.cip_lagrange.specs.declared.parts.Decomposed.{Decomposed}
 use Rattle.cip_master.specs.KeptMasters.{held_in, ArePoolPoints}
 use Rattle.cip_master.specs.declared.tasks.MasterTask.{MasterTask}
 

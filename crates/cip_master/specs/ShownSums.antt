@@ -8,8 +8,8 @@ use Rattle.cip_problem.specs.Activity.{value_at}
 use Rattle.cip_pricing.specs.Decomposition.{picked, master_rows}
 use Rattle.cip_pricing.specs.LeastCosts.{AreRests, ShowsLeast}
 use Rattle.cip_columns.specs.PoolPoints.{PoolPoint}
-use Rattle.cip_decomposition.specs.Decompositions.{owners_in}
-use Rattle.cip_decomposition.specs.declared.parts.Decomposed.{Decomposed}
+use Rattle.cip_lagrange.specs.Decompositions.{owners_in}
+use Rattle.cip_lagrange.specs.declared.parts.Decomposed.{Decomposed}
 use Rattle.cip_lagrange.specs.declared.answers.LagrangeFault.{LagrangeFault}
 use Rattle.cip_lagrange.specs.LagrangeOutcomes.{chain, in_range, Reduced, multipliers_used, free_added}
 use Rattle.cip_master.specs.KeptMasters.{is_held_in}

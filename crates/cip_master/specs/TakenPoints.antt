@@ -4,7 +4,7 @@ use Rattle.cip_rational.specs.Rational.{ℚ}
 use Rattle.cip_problem.specs.Program.{Program}
 use Rattle.cip_columns.specs.PoolPoints.{PoolPoint}
 use Rattle.cip_columns.specs.ColumnPools.{IsAdded}
-use Rattle.cip_decomposition.specs.declared.parts.Decomposed.{Decomposed}
+use Rattle.cip_lagrange.specs.declared.parts.Decomposed.{Decomposed}
 use Rattle.cip_master.specs.BlockVerdicts.{block_verdict}
 use Rattle.cip_master.specs.declared.verdicts.PointVerdict.TheVariants.{Good}
 use Rattle.cip_master.specs.declared.taking.Taken.{Taken}

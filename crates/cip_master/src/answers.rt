@@ -3,7 +3,7 @@ use crate::Shown;
 use cip_frac::Frac;
 
 /// The weight of a point that is held.
-#[derive(Clone, Copy, PartialEq, Eq)]
+#[derive(Clone, Copy)]
 pub struct PointWeight {
     /// The id of the point.
     pub id: u32,

@@ -40,6 +40,7 @@ fn asked_at(
 {
     let (first, last) = solve_greedily(alloc, solver, lp, start, limit)?;
     let Some(found) = first else {
+        drop(last);
         return asked_afresh(alloc, solver, lp, limit);
     };
     match found {
@@ -48,7 +49,11 @@ fn asked_at(
             last,
         )),
         LpAnswer::Infeasible { combo } => Ok((LpAnswer::Infeasible { combo }, last)),
-        _ => asked_afresh(alloc, solver, lp, limit),
+        _ => {
+            drop(found);
+            drop(last);
+            asked_afresh(alloc, solver, lp, limit)
+        }
     }
 }
 
@@ -74,7 +79,9 @@ fn asked(
     ensures { IfOk result (λ asked. Says limit lp.now asked.0) }
 {
     let start = begun(alloc, lp, start)?;
-    asked_at(alloc, solver, lp, &start, limit)
+    let answer = asked_at(alloc, solver, lp, &start, limit);
+    drop(start);
+    answer
 }
 
 /// Rows, lent one by one. `Err` where memory was refused.

@@ -6,12 +6,12 @@ ghost use Rattle.cip_problem.specs.Activity.{StandsBelow};
 ghost use Rattle.cip_problem.specs.Choices.{choice_at};
 ghost use Rattle.cip_lin.specs.RowSums.{activity_from};
 ghost use Rattle.cip_model.specs.Verdicts.{is_kept, first_outside, first_not_whole};
-ghost use Rattle.cip_decomposition.specs.Decompositions.{IsDecompositionOf};
+ghost use Rattle.cip_lagrange.specs.Decompositions.{IsDecompositionOf};
 ghost use Rattle.cip_master.specs.BlockVerdicts.{row_fault, first_faulty, verdict_on, block_verdict, BlockVerdictSays};
 
 use crate::verdicts::PointVerdict;
-use cip_decomposition::{Decomposed, Subproblem};
 use cip_frac::Frac;
+use cip_lagrange::{Decomposed, Subproblem};
 use cip_lin::{Choices, Row, Sides};
 use cip_model::Program;
 

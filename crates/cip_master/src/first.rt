@@ -4,16 +4,16 @@ ghost use Rattle.cip_rational.specs.Rational.{oneℚ};
 ghost use Rattle.cip_problem.specs.Program.{Term, Row, no_row};
 ghost use Rattle.cip_problem.specs.Activity.{StandsBelow};
 ghost use Rattle.cip_problem.specs.WellFormed.{columns};
-ghost use Rattle.cip_decomposition.specs.Numbers.{found};
-ghost use Rattle.cip_decomposition.specs.Decompositions.{IsDecompositionOf};
+ghost use Rattle.cip_lagrange.specs.Numbers.{found};
+ghost use Rattle.cip_lagrange.specs.Decompositions.{IsDecompositionOf};
 ghost use Rattle.cip_master.specs.BlockSums.{free_term, free_terms, free_row};
 ghost use Rattle.cip_master.specs.FirstRows.{sum_row};
 ghost use Rattle.cip_master.specs.KeptMasters.{IsMasterOf};
 
 use crate::masters::MasterProgram;
 use crate::sums::owner_at;
-use cip_decomposition::{Decomposed, Program};
 use cip_frac::Frac;
+use cip_lagrange::{Decomposed, Program};
 use cip_lin::{Bounds, Row, Term};
 use std::alloc::{AllocError, Global};
 
@@ -66,7 +66,10 @@ fn free_row(
     let mut own = Row::empty(alloc, row.low(), row.high());
     let terms = row.terms();
     for term in terms {
-        put_free(&mut own, *term, owners, places)?;
+        let Ok(()) = put_free(&mut own, *term, owners, places) else {
+            drop(own);
+            return Err(AllocError);
+        };
     }
     Ok(own)
 }
@@ -88,14 +91,23 @@ fn free_rows(alloc: Global, program: &Program, blocks: &Decomposed) -> Result<Ve
     Ok(owns)
 }
 
+/// A row by which no weights sum to 1.
+fn sum_row(alloc: Global) -> Row
+    ensures { result ≡ sum_row }
+{
+    Row::empty(alloc, Some(Frac::one()), Some(Frac::one()))
+}
+
 /// A row for each block, by which no weights sum to 1. `Err` where memory was refused.
-#[tactic(auto, using(std::proofs::lemmas::List::replicate_more))]
 fn sum_rows(alloc: Global, count: usize) -> Result<Vec<Row>, AllocError>
     ensures { IfOk result (λ owns. owns.items ≡ replicate count sum_row) }
 {
     let mut owns = Vec::new(alloc);
     for _block in 0..count {
-        owns.push(Row::empty(alloc, Some(Frac::one()), Some(Frac::one())))?;
+        let Ok(()) = owns.reserve(1) else {
+            return Err(AllocError);
+        };
+        owns.push_reserved(sum_row(alloc));
     }
     Ok(owns)
 }
@@ -108,7 +120,10 @@ fn sides_at(alloc: Global, bounds: &Bounds, numbers: &[u32]) -> Result<Bounds, A
 {
     let mut kept = Bounds::new(alloc, 0)?;
     for number in numbers {
-        kept.push(bounds.sides(*number))?;
+        let Ok(()) = kept.push(bounds.sides(*number)) else {
+            drop(kept);
+            return Err(AllocError);
+        };
     }
     Ok(kept)
 }
@@ -142,10 +157,18 @@ impl MasterProgram {
     {
         let _columns = program.columns();
         let numbers = blocks.blocks.free_columns();
-        let masters = free_rows(alloc, program, blocks)?;
-        let sums = sum_rows(alloc, blocks.subproblems.len())?;
-        let bounds = sides_at(alloc, bounds, numbers)?;
-        let costs = costs_at(alloc, program.costs(), numbers)?;
+        let Ok(masters) = free_rows(alloc, program, blocks) else {
+            return Err(AllocError);
+        };
+        let Ok(sums) = sum_rows(alloc, blocks.subproblems.len()) else {
+            return Err(AllocError);
+        };
+        let Ok(costs) = costs_at(alloc, program.costs(), numbers) else {
+            return Err(AllocError);
+        };
+        let Ok(bounds) = sides_at(alloc, bounds, numbers) else {
+            return Err(AllocError);
+        };
         Ok(MasterProgram {
             masters,
             sums,

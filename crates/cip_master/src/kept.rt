@@ -12,6 +12,7 @@ use crate::reading::{emptied, priced};
 use crate::{MasterFault, MasterProgram, MasterTask};
 use cip_simplex::{LpAnswer, Solver, Start};
 use std::alloc::{AllocError, Global};
+use std::mem;
 
 /// The master program of the points that a pool holds in a box, kept while the pool grows.
 #[derive(Drop)]
@@ -54,7 +55,7 @@ impl Master {
     {
         let start = self.start.as_ref();
         let (found, last) = solved(alloc, &mut self.solver, &self.program, start, limit)?;
-        self.start = Some(last);
+        drop(mem::replace(&mut self.start, Some(last)));
         Ok(found)
     }
 
@@ -76,11 +77,24 @@ impl Master {
         let found = self.found(alloc, limit)?;
         match found {
             LpAnswer::Optimal { point, combo, cost } => {
-                priced(alloc, task, &self.program, point.as_slice(), &combo, cost)
+                let answer = priced(alloc, task, &self.program, point.as_slice(), &combo, cost);
+                drop(combo);
+                answer
             }
-            LpAnswer::Infeasible { combo } => emptied(alloc, task, &self.program, &combo),
-            LpAnswer::Unbounded { .. } => Ok(unsolved(MasterCause::Unbounded)),
-            LpAnswer::Wide { .. } => Ok(unsolved(MasterCause::Wide)),
+            LpAnswer::Infeasible { combo } => {
+                let answer = emptied(alloc, task, &self.program, &combo);
+                drop(combo);
+                answer
+            }
+            LpAnswer::Unbounded { point, ray } => {
+                drop(point);
+                drop(ray);
+                Ok(unsolved(MasterCause::Unbounded))
+            }
+            LpAnswer::Wide { moves } => {
+                drop(moves);
+                Ok(unsolved(MasterCause::Wide))
+            }
             LpAnswer::Limit => Ok(unsolved(MasterCause::Limit)),
         }
     }

@@ -22,7 +22,7 @@ pub struct MasterProgram {
 }
 
 /// Why points weren't taken. The master program is of no use then.
-#[derive(Clone, Copy, PartialEq, Eq)]
+#[derive(Clone, Copy)]
 pub enum MasterFault {
     /// The cost of a point, or what it comes to in a master row, is out of range.
     Wide,

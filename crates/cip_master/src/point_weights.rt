@@ -4,7 +4,7 @@ ghost use Rattle.cip_rational.specs.Rational.{zeroℚ, oneℚ};
 ghost use Rattle.cip_problem.specs.Program.{no_row};
 ghost use Rattle.cip_problem.specs.Activity.{StandsBelow};
 ghost use Rattle.cip_pricing.specs.MasterForms.{weight_sides};
-ghost use Rattle.cip_decomposition.specs.Decompositions.{IsDecompositionOf};
+ghost use Rattle.cip_lagrange.specs.Decompositions.{IsDecompositionOf};
 ghost use Rattle.cip_master.specs.BlockSums.{coefficient_in};
 ghost use Rattle.cip_master.specs.WeightTerms.{with_weight, weighted};
 ghost use Rattle.cip_master.specs.KeptMasters.{IsPointFault, master_row_at};
@@ -12,8 +12,8 @@ ghost use Rattle.cip_master.specs.KeptMasters.{IsPointFault, master_row_at};
 use crate::masters::{MasterFault, MasterProgram};
 use crate::sums::block_sum;
 use cip_columns::HeldPoint;
-use cip_decomposition::{Decomposed, Program};
 use cip_frac::{Frac, Wide};
+use cip_lagrange::{Decomposed, Program};
 use cip_lin::{Row, Sides, Term};
 use std::alloc::AllocError;
 

@@ -2,15 +2,15 @@
 ghost use Rattle.std.specs.Prelude.{◌≡◌, ◌<◌, ◌^◌, length, All, MatchResult, OnOk};
 ghost use Rattle.cip_problem.specs.WellFormed.{columns};
 ghost use Rattle.cip_columns.specs.ColumnPools.{is_inside};
-ghost use Rattle.cip_decomposition.specs.Numbers.{found};
-ghost use Rattle.cip_decomposition.specs.Decompositions.{IsDecompositionOf};
+ghost use Rattle.cip_lagrange.specs.Numbers.{found};
+ghost use Rattle.cip_lagrange.specs.Decompositions.{IsDecompositionOf};
 ghost use Rattle.cip_master.specs.KeptMasters.{HasSeen, ArePoolPoints, PutsPoint, TakesPoint, IsPointFault, IsTakenFault, IsPoolFault, is_held_in};
 
 use crate::masters::{MasterFault, MasterProgram};
 use crate::sums::part_sum;
 use cip_columns::{ColumnPool, HeldPoint};
-use cip_decomposition::{Decomposed, Program};
 use cip_frac::Frac;
+use cip_lagrange::{Decomposed, Program};
 use cip_lin::Bounds;
 
 /// Whether values lie between the sides of the columns with these numbers, one for each of them.

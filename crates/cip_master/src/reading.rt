@@ -13,8 +13,8 @@ use crate::answers::{MasterAnswer, MasterCause};
 use crate::factors::factors_from;
 use crate::weights::weights_of;
 use crate::{MasterProgram, MasterTask, Shown, show};
-use cip_decomposition::Decomposed;
 use cip_frac::Frac;
+use cip_lagrange::Decomposed;
 use cip_lin::Combo;
 use std::alloc::{AllocError, Global};
 
@@ -85,12 +85,17 @@ pub(crate) fn priced(
     let costs = Vec::from_slice(alloc, task.program.costs())?;
     let mut shown = shown_by(alloc, task.blocks, combo, costs)?;
     let Ok(sum) = show(task, task.program.constant(), &mut shown) else {
+        drop(shown);
         return Ok(unshown());
     };
     if !is_same(sum, total) {
+        drop(shown);
         return Ok(unshown());
     }
-    let weights = weights_of(alloc, master.ids.as_slice(), point)?;
+    let Ok(weights) = weights_of(alloc, master.ids.as_slice(), point) else {
+        drop(shown);
+        return Err(AllocError);
+    };
     Ok(MasterAnswer::Prices {
         shown,
         weights,
@@ -113,11 +118,13 @@ pub(crate) fn emptied(
     let zeros = zeros(alloc, task.program.columns())?;
     let mut shown = shown_by(alloc, task.blocks, combo, zeros)?;
     let Ok(sum) = show(task, Frac::zero(), &mut shown) else {
+        drop(shown);
         return Ok(unshown());
     };
     if sum.is_positive() {
         Ok(MasterAnswer::Farkas { shown })
     } else {
+        drop(shown);
         Ok(unshown())
     }
 }

@@ -1,7 +1,7 @@
 //! Where the simplex method goes on from, as the master program has got weights.
 ghost use Rattle.std.specs.Prelude.{◌≡◌, ◌+◌, ◌<◌, ◌^◌, length, IfOk};
 
-use cip_dictionary::Stand;
+use cip_bland::Stand;
 use cip_simplex::Start;
 use std::alloc::{AllocError, Global};
 

@@ -2,10 +2,10 @@
 ghost use Rattle.std.specs.Prelude.{◌≡◌, ◌==◌, ◌<◌, None, Some, length, slice_index, slice_index_or, All, IfOk};
 ghost use Rattle.cip_rational.specs.Rational.{zeroℚ};
 ghost use Rattle.cip_rational.specs.Sums.{dot};
-ghost use Rattle.cip_frac.specs.Outcomes.{dot_from};
+ghost use Rattle.cip_frac.specs.Outcomes.{dot_from, product_added};
 ghost use Rattle.cip_problem.specs.Activity.{StandsBelow, value_at};
 ghost use Rattle.cip_pricing.specs.Decomposition.{same_owner};
-ghost use Rattle.cip_decomposition.specs.Numbers.{found};
+ghost use Rattle.cip_lagrange.specs.Numbers.{found};
 ghost use Rattle.cip_master.specs.BlockSums.{block_added, block_sum};
 
 use cip_frac::{Frac, Wide};
@@ -85,6 +85,14 @@ pub(crate) fn block_sum(
     Ok(sum)
 }
 
+/// A sum with the product of the number at a place and of a value added.
+fn plus_product_at(sum: Frac, form: &[Frac], at: u32, value: Frac) -> Result<Frac, Wide>
+    requires { at < length form.now }
+    ensures { result ≡ product_added sum (value_at form.now at) value }
+{
+    sum.plus_product(form[at as usize], value)
+}
+
 /// A sum with the products of the numbers at these places and of values added, one after another, as far as both go;
 /// the first operation that overflows.
 #[tactic(auto, using(crate::proofs::NumberSums::sum_opened, crate::proofs::NumberSums::sum_ended))]
@@ -97,7 +105,7 @@ fn numbers_sum(numbers: &[u32], form: &[Frac], values: &[Frac]) -> Result<Frac, 
         if at >= values.len() {
             return Ok(sum);
         }
-        match sum.plus_product(form[numbers[at] as usize], values[at]) {
+        match plus_product_at(sum, form, numbers[at], values[at]) {
             Ok(more) => sum = more,
             Err(wide) => return Err(wide),
         }

@@ -1,6 +1,6 @@
 //! What becomes of a point that is offered for a block.
 ghost use Rattle.std.specs.Prelude.{◌≡◌, ◌<◌, length, MatchResult};
-ghost use Rattle.cip_decomposition.specs.Decompositions.{IsDecompositionOf};
+ghost use Rattle.cip_lagrange.specs.Decompositions.{IsDecompositionOf};
 ghost use Rattle.cip_master.specs.KeptMasters.{ArePoolPoints};
 ghost use Rattle.cip_master.specs.TakenPoints.{IsTaken};
 
@@ -8,7 +8,7 @@ use crate::checks::check_point;
 use crate::verdicts::PointVerdict;
 use cip_cert::BlockPoint;
 use cip_columns::{Added, ColumnPool};
-use cip_decomposition::Decomposed;
+use cip_lagrange::Decomposed;
 use cip_model::Program;
 use std::alloc::AllocError;
 

@@ -1,7 +1,7 @@
 //! What the master program is asked of, and what multipliers and prices show.
 use cip_columns::ColumnPool;
-use cip_decomposition::Decomposed;
 use cip_frac::Frac;
+use cip_lagrange::Decomposed;
 use cip_lin::Bounds;
 use cip_model::Program;
 

@@ -11,9 +11,9 @@ use Rattle.cip_mps_rules.specs.MpsSayings.{Value}
 use Rattle.cip_mps_rules.specs.MpsRules.{least, has_twins, is_before_last}
 use Rattle.cip_mps_rules.proofs.Quiet.{kept as passes, left_false, right_false}
 use Rattle.cip_mps_rules.proofs.MpsNames.{same_bytes, number_same}
-use Rattle.cip_mps_steps.specs.MpsState.{Held, RowRead, State, no_row, item_at, row_at}
-use Rattle.cip_mps_steps.specs.MpsSteps.{changed, holds, number_or_next}
-use Rattle.cip_mps_steps.specs.MpsSoundState.{held_below}
+use Rattle.cip_mps_rules.specs.MpsState.{Held, RowRead, State, no_row, item_at, row_at}
+use Rattle.cip_mps_rules.specs.MpsSteps.{changed, holds, number_or_next}
+use Rattle.cip_mps_rules.specs.MpsSoundState.{held_below}
 use Rattle.cip_mps_lines.specs.MpsLines.{second_in}
 use Rattle.cip_mps_lines.specs.declared.line.Pair.{Pair}
 use Rattle.cip_mps.specs.FoundRows.{second_number}

@@ -10,8 +10,8 @@ use Rattle.cip_line_texts.specs.LineStream.{Going, progress_at, item_read, line_
 use Rattle.cip_text.specs.PieceStands.{progress_after}
 use Rattle.cip_mps_rules.specs.MpsSayings.{Saying}
 use Rattle.cip_mps_rules.specs.MpsRules.{Rule, least}
-use Rattle.cip_mps_steps.specs.MpsState.{State}
-use Rattle.cip_mps_steps.specs.MpsSteps.{tests, said_at, mps_steps}
+use Rattle.cip_mps_rules.specs.MpsState.{State}
+use Rattle.cip_mps_rules.specs.MpsSteps.{tests, said_at, mps_steps}
 use Rattle.cip_mps.specs.LinesRead.{IsTaken}
 
 -- ---- kinds

@@ -4,8 +4,8 @@
 use Rattle.std.specs.Prelude.{◌≡◌, ℕ, Option, None, Some}
 use Rattle.cip_mps_rules.specs.MpsSayings.{LinePlace, Saying, no_place, place_after}
 use Rattle.cip_mps_rules.specs.MpsRules.{least}
-use Rattle.cip_mps_steps.specs.MpsState.{State}
-use Rattle.cip_mps_steps.specs.MpsSteps.{tests, taken}
+use Rattle.cip_mps_rules.specs.MpsState.{State}
+use Rattle.cip_mps_rules.specs.MpsSteps.{tests, taken}
 use Rattle.cip_mps.specs.DraftStates.{at_place}
 
 -- what is kept behind a line: nothing else where it has a fault

@@ -4,8 +4,8 @@ use Rattle.std.specs.Prelude.{◌≡◌, ℕ, if◌then◌else◌, Option, None}
 use Rattle.cip_line_texts.specs.LineEnds.{Stage, Open, Ended}
 use Rattle.cip_mps_rules.specs.MpsSayings.{Saying}
 use Rattle.cip_mps_rules.specs.MpsRules.{least, is_end}
-use Rattle.cip_mps_steps.specs.MpsState.{State}
-use Rattle.cip_mps_steps.specs.MpsSteps.{tests, taken}
+use Rattle.cip_mps_rules.specs.MpsState.{State}
+use Rattle.cip_mps_rules.specs.MpsSteps.{tests, taken}
 use Rattle.cip_mps.specs.DraftStates.{kept, at_place}
 use Rattle.cip_mps.specs.declared.line_reader.LineReader.{LineReader}
 

@@ -4,7 +4,7 @@ use Rattle.cip_line_texts.specs.LineEnds.{Stage}
 use Rattle.cip_line_texts.specs.LineStream.{Stream}
 use Rattle.cip_text.specs.PieceCuts.{Cut, cut_of}
 use Rattle.cip_text.specs.PieceStands.{StandsAt}
-use Rattle.cip_mps_steps.specs.MpsState.{State}
+use Rattle.cip_mps_rules.specs.MpsState.{State}
 use Rattle.cip_mps.specs.declared.mps_text.MpsText.{MpsText}
 use Rattle.cip_mps.specs.LinesRead as lines
 

@@ -1,6 +1,6 @@
 //! A column as far as it was read.
 ghost use Rattle.std.specs.Prelude.{◌≡◌, true};
-ghost use Rattle.cip_number_text.specs.Numeral.{Numeral, value_of};
+ghost use Rattle.cip_rational.specs.Numeral.{Numeral, value_of};
 ghost use Rattle.cip_mps_lines.specs.MpsKinds.{bound_kind_in};
 ghost use Rattle.cip_mps_rules.specs.MpsBounds.{unbounded, with_low, with_high, with_semi, with_bound, made_whole, settled, own_sides, lacks_sides, is_mixed, is_semi, column_sides, choice_of};
 

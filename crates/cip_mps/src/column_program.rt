@@ -3,8 +3,8 @@ ghost use Rattle.std.specs.Prelude.{◌≡◌, ◌≤◌, [], true, map, nat_le,
 ghost use Rattle.std.specs.List.{list_all, list_any};
 ghost use Rattle.cip_problem.specs.Limits.{most_columns};
 ghost use Rattle.cip_mps_rules.specs.MpsBounds.{settled, lacks_sides, is_semi, column_sides, choice_of};
-ghost use Rattle.cip_mps_steps.specs.MpsState.{held_value, minimized_by, costs_from};
-ghost use Rattle.cip_mps_steps.specs.MpsSoundState.{rises};
+ghost use Rattle.cip_mps_rules.specs.MpsState.{held_value, minimized_by, costs_from};
+ghost use Rattle.cip_mps_rules.specs.MpsSoundState.{rises};
 ghost use Rattle.cip_mps.specs.Costs.{held_behind};
 
 use crate::Held;
@@ -41,7 +41,10 @@ pub(crate) fn bounds_of(alloc: Global, columns: &[ColumnDraft]) -> Result<Bounds
 {
     let mut bounds = Bounds::new(alloc, 0)?;
     for column in columns {
-        bounds.push(column.sides())?;
+        let Ok(()) = bounds.push(column.sides()) else {
+            drop(bounds);
+            return Err(AllocError);
+        };
     }
     Ok(bounds)
 }
@@ -66,7 +69,10 @@ fn each_choice(alloc: Global, columns: &[ColumnDraft]) -> Result<Choices, AllocE
 {
     let mut choices = Choices::new(alloc);
     for column in columns {
-        choices.push(column.choice())?;
+        let Ok(()) = choices.push(column.choice()) else {
+            drop(choices);
+            return Err(AllocError);
+        };
     }
     Ok(choices)
 }

@@ -2,13 +2,12 @@
 ghost use Rattle.std.specs.Prelude.{◌≡◌, ◌≤◌, ℕ, length, vec_len, true};
 ghost use Rattle.std.specs.List.{filter, list_all};
 ghost use Rattle.cip_problem.specs.Limits.{most_rows, most_columns, most_entries};
-ghost use Rattle.cip_mps_steps.specs.MpsState.{is_kept};
-ghost use Rattle.cip_mps_steps.specs.MpsSoundState.{held_below};
+ghost use Rattle.cip_mps_rules.specs.MpsState.{is_kept};
+ghost use Rattle.cip_mps_rules.specs.MpsSoundState.{held_below};
 
 use crate::RowTable;
 use crate::column_draft::ColumnDraft;
-use cip_mps_lines::Part;
-use cip_name_index::NameIndex;
+use cip_mps_lines::{NameIndex, Part};
 use std::alloc::Global;
 
 /// A program as far as the lines of a text have said it. Rows of type N are kept like others, and dropped at the end.

@@ -49,7 +49,13 @@ fn rows_with_room(
     for place in 0..heads.len() {
         let head = &heads[place];
         let sides = head.sides();
-        rows.push(Row::with_room(alloc, sides.low, sides.high, counts[place])?)?;
+        let Ok(()) = rows.reserve(1) else {
+            return Err(AllocError);
+        };
+        let Ok(row) = Row::with_room(alloc, sides.low, sides.high, counts[place]) else {
+            return Err(AllocError);
+        };
+        rows.push_reserved(row);
     }
     Ok(rows)
 }

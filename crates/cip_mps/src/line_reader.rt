@@ -6,7 +6,7 @@ ghost use Rattle.cip_line_texts.specs.LineStream.{Going, line_read};
 ghost use Rattle.cip_text.specs.PieceStands.{progress_after};
 ghost use Rattle.cip_mps.specs.MpsLines.{saying_of};
 ghost use Rattle.cip_mps_rules.specs.MpsRules as rules;
-ghost use Rattle.cip_mps_steps.specs.MpsSteps.{mps_steps};
+ghost use Rattle.cip_mps_rules.specs.MpsSteps.{mps_steps};
 ghost use Rattle.cip_mps.specs.LinesRead.{state_of_lines, stage_of, IsTaken};
 
 use crate::laws::places_join;

@@ -10,13 +10,13 @@ ghost use Rattle.cip_text.specs.PieceFaults.{has_kind_to};
 ghost use Rattle.cip_text.specs.PieceCuts.{no_bytes, cut_of, with_bytes, with_feed, known_fault};
 ghost use Rattle.cip_text.specs.PieceStands.{progress_after, IsRead, IsLastRead, outcome_with};
 ghost use Rattle.cip_mps_rules.specs.MpsOutcome.{mps_reading, HasProgram};
-ghost use Rattle.cip_mps_steps.specs.MpsState.{State};
-ghost use Rattle.cip_mps_steps.specs.MpsSteps.{mps_steps};
+ghost use Rattle.cip_mps_rules.specs.MpsState.{State};
+ghost use Rattle.cip_mps_rules.specs.MpsSteps.{mps_steps};
 
 use crate::Program;
 use crate::kinds::MpsKind;
 use crate::line_reader::LineReader;
-use cip_mps_steps::{faults_of_ended_lines, texts_are_read};
+use cip_mps_rules::step_laws::{faults_of_ended_lines, texts_are_read};
 use cip_text::{KnownFault, PieceText, Pieces, ReadFault, TextFault, cut_line, told};
 use std::alloc::{AllocError, Global};
 use std::mem;

@@ -3,9 +3,9 @@ ghost use Rattle.std.specs.Prelude.{◌≡◌, ◌<◌, false, None, Some, lengt
 ghost use Rattle.std.specs.List.{list_any};
 ghost use Rattle.cip_mps_lines.specs.MpsLines.{values_of};
 ghost use Rattle.cip_mps_rules.specs.MpsRules.{least};
-ghost use Rattle.cip_mps_steps.specs.MpsState.{no_row, item_at, row_at, value_for};
-ghost use Rattle.cip_mps_steps.specs.MpsSteps.{changed, overflows_with, has_right_side, with_right_side, put_values};
-ghost use Rattle.cip_mps_steps.specs.MpsLineTests.{right_side_tests};
+ghost use Rattle.cip_mps_rules.specs.MpsState.{no_row, item_at, row_at, value_for};
+ghost use Rattle.cip_mps_rules.specs.MpsSteps.{changed, overflows_with, has_right_side, with_right_side, put_values};
+ghost use Rattle.cip_mps_rules.specs.MpsLineTests.{right_side_tests};
 ghost use Rattle.cip_mps.specs.DraftStates.{kept};
 ghost use Rattle.cip_mps.specs.FoundRows.{AreFound};
 

@@ -5,16 +5,15 @@ ghost use Rattle.cip_mps_lines.specs.MpsKinds.{row_kind_in};
 ghost use Rattle.cip_mps_rules.specs.MpsWords.{is_in};
 ghost use Rattle.cip_mps_rules.specs.MpsProgram.{is_free};
 ghost use Rattle.cip_mps_rules.specs.MpsRules.{least};
-ghost use Rattle.cip_mps_steps.specs.MpsSteps.{new_row};
+ghost use Rattle.cip_mps_rules.specs.MpsSteps.{new_row};
 ghost use Rattle.cip_mps.specs.DraftStates.{kept};
 ghost use Rattle.cip_mps.specs.DraftLines.{row_line_tests};
 
 use crate::RowTable;
 use crate::draft::Draft;
 use cip_model::{LONGEST_NAME, MOST_ROWS};
-use cip_mps_lines::RowKind;
+use cip_mps_lines::{NameIndex, RowKind};
 use cip_mps_sides::is_free_kind;
-use cip_name_index::NameIndex;
 use std::alloc::{AllocError, Global};
 
 /// Puts a row with a name behind the others. `Err` comes where a growth was refused, and changes nothing.

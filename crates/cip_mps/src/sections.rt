@@ -9,8 +9,8 @@ ghost use Rattle.cip_mps_rules.specs.MpsFacts.{sense_words_in};
 ghost use Rattle.cip_mps_rules.specs.MpsBounds.{settled, lacks_sides};
 ghost use Rattle.cip_mps_rules.specs.MpsProgram.{is_free};
 ghost use Rattle.cip_mps_rules.specs.MpsRules.{least, stands_behind, is_opened, has_many_words};
-ghost use Rattle.cip_mps_steps.specs.MpsSteps.{or_else};
-ghost use Rattle.cip_mps_steps.specs.MpsLineTests.{opening_tests, end_tests, sense_tests};
+ghost use Rattle.cip_mps_rules.specs.MpsSteps.{or_else};
+ghost use Rattle.cip_mps_rules.specs.MpsLineTests.{opening_tests, end_tests, sense_tests};
 ghost use Rattle.cip_mps.specs.DraftLines.{section_tests, sense_said_on};
 ghost use Rattle.cip_mps.specs.DraftStates.{kept};
 

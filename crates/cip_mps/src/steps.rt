@@ -6,16 +6,15 @@ ghost use Rattle.cip_mps_lines.specs.MpsLines.{values_of, saying_of};
 ghost use Rattle.cip_mps_rules.specs.MpsSayings as text;
 ghost use Rattle.cip_mps_rules.specs.MpsSayings.{no_place};
 ghost use Rattle.cip_mps_rules.specs.MpsFacts.{no_facts};
-ghost use Rattle.cip_mps_steps.specs.MpsState.{state_of};
+ghost use Rattle.cip_mps_rules.specs.MpsState.{state_of};
 ghost use Rattle.cip_mps.specs.DraftStates.{kept};
 ghost use Rattle.cip_mps.specs.DraftSteps.{IsStep, PlacesJoin};
 
 use crate::RowTable;
 use crate::draft::Draft;
 use crate::sections::sense_fault;
-use cip_mps_lines::{BoundKind, BoundNumber, Line, Pairs, Part, RowKind, sense_of};
-use cip_mps_steps::lines_have_tests;
-use cip_name_index::NameIndex;
+use cip_mps_lines::{BoundKind, BoundNumber, Line, NameIndex, Pairs, Part, RowKind, sense_of};
+use cip_mps_rules::step_laws::lines_have_tests;
 use cip_text::Fields;
 use std::alloc::{AllocError, Global};
 

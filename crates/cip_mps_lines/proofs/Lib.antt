@@ -1,4 +1,5 @@
 pub mod FieldCuts
+pub mod NameLaws
 pub mod SetLines
 pub mod ValuesRead
 pub mod WordTables

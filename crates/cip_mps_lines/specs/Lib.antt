@@ -1,6 +1,7 @@
-pub mod MpsKinds
-pub mod NumbersRead
-pub mod MpsLines
 pub mod FirstWords
-pub mod SkippedSets
+pub mod MpsKinds
+pub mod MpsLines
+pub mod NamesApart
+pub mod NumbersRead
 pub mod SetWords
+pub mod SkippedSets

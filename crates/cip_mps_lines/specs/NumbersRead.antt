@@ -1,7 +1,7 @@
 -- What was read of a number.
 use Rattle.std.specs.Prelude.{◌≡◌, Result, Some, MatchResult}
 use Rattle.cip_rational.specs.Rational.{ℚ}
-use Rattle.cip_number_text.specs.Numeral.{Numeral, value_of}
+use Rattle.cip_rational.specs.Numeral.{Numeral, value_of}
 use Rattle.cip_text.specs.NumberFaults.{faulty}
 use Rattle.cip_text.specs.declared.number_text.NumberFault.{NumberFault}
 

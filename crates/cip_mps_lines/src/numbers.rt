@@ -12,7 +12,7 @@ pub struct Number<'a> {
 }
 
 impl<'a> Model for Number<'a> {
-    ghost use Rattle.cip_number_text.specs.Numeral.{Numeral, numeral_of};
+    ghost use Rattle.cip_rational.specs.Numeral.{Numeral, numeral_of};
     ghost use Rattle.cip_mps_lines.specs.NumbersRead.{IsRead};
 
     ghost Value = { Numeral };
@@ -24,7 +24,7 @@ impl<'a> Model for Number<'a> {
 
 impl<'a> Number<'a> {
     ghost use Rattle.std.specs.Prelude.{◌≡◌};
-    ghost use Rattle.cip_number_text.specs.Numeral.{numeral_of};
+    ghost use Rattle.cip_rational.specs.Numeral.{numeral_of};
     ghost use Rattle.cip_mps_rules.specs.MpsWords as words;
     ghost use Rattle.cip_mps_rules.specs.MpsProgram as program;
 

@@ -13,7 +13,7 @@ use Rattle.cip_line_texts.specs.Program.{Term}
 use Rattle.cip_line_texts.specs.Lines.{Record}
 use Rattle.cip_line_texts.specs.LineTexts.{Numbered}
 use Rattle.cip_line_texts.specs.LineStatements.{known_after, AreOpen}
-use Rattle.cip_number_text.specs.Numeral.{Numeral, Exact, NotANumber, Huge, TooFine, signed}
+use Rattle.cip_rational.specs.Numeral.{Numeral, Exact, NotANumber, Huge, TooFine, signed}
 use Rattle.cip_mps_rules.specs.MpsWords.{number_in, is_zero}
 use Rattle.cip_mps_rules.specs.MpsSayings.{Value, Saying, ColumnLine}
 use Rattle.cip_mps_rules.specs.MpsFacts.{Coefficient, Facts, facts_with, column_names}

@@ -12,7 +12,7 @@ use Rattle.cip_line_texts.specs.Activity.{StandsBelow}
 use Rattle.cip_line_texts.specs.Program.{Program}
 use Rattle.cip_line_texts.specs.WellFormed.{columns, IsWellFormed}
 use Rattle.cip_line_texts.specs.Lines.{Record}
-use Rattle.cip_number_text.specs.Numeral.{Numeral}
+use Rattle.cip_rational.specs.Numeral.{Numeral}
 use Rattle.cip_mps_rules.specs.MpsWords.{is_in, number_in, is_zero}
 use Rattle.cip_mps_rules.specs.MpsSayings.{Saying, RowLine, ColumnLine}
 use Rattle.cip_mps_rules.specs.MpsFacts.{GivenRow, Coefficient, Facts, facts_with, column_names, names_of}

@@ -1,9 +1,19 @@
-pub mod MpsNames
-pub mod Quiet
-pub mod Coefficients
 mod Few
-pub mod SemiColumns
-pub mod Outcomes
+mod Good
+mod ProgramSame
+mod ReadLines
+mod Rising
 mod SemiNamed
 mod SemiTried
+mod SoundState
+mod Taken
+mod TestsSame
 mod Tried
+pub mod ByLine
+pub mod Coefficients
+pub mod LookUps
+pub mod MpsNames
+pub mod Outcomes
+pub mod Quiet
+pub mod SemiColumns
+pub mod Told

@@ -10,7 +10,7 @@ use Rattle.cip_rational.specs.Rational.{zeroℚ, oneℚ}
 use Rattle.cip_line_texts.specs.Program.{Open, Plain}
 use Rattle.cip_line_texts.specs.Choices.{choice_at, is_open}
 use Rattle.cip_line_texts.specs.LineStatements.{known_after}
-use Rattle.cip_number_text.specs.Numeral.{Numeral}
+use Rattle.cip_rational.specs.Numeral.{Numeral}
 use Rattle.cip_mps_rules.specs.MpsWords.{BoundKind, Low, High, Fixed, WholeLow, WholeHigh, Unbounded, NoLow, NoHigh, Binary, SemiContinuous, End, next, number_in, is_in}
 use Rattle.cip_mps_rules.specs.MpsSayings.{Saying, Opens, ColumnLine, BoundLine}
 use Rattle.cip_mps_rules.specs.MpsFacts.{GivenColumn, GivenBound, Facts, facts_with, names_of, column_names}

@@ -3,7 +3,7 @@ use lib.Chars.{codes}
 use Rattle.std.proofs.Common.{◌≡◌, true, false, refl, pos, negsuc}
 use Rattle.cip_rational.specs.Rational.{ratio, zeroℚ, whole, lt_test, le_test}
 use Rattle.cip_rational.proofs.Rational.Order.{≤ℚ_refl, test_of_le}
-use Rattle.cip_number_text.specs.Numeral.{numeral_of}
+use Rattle.cip_rational.specs.Numeral.{numeral_of}
 use Rattle.cip_line_texts.specs.LineTexts.{outcome_of}
 use Rattle.cip_mps_rules.specs.MpsExamples.{continuous, choices_in, sides_in, open_between, behind_plain, integral, IsFaulty}
 

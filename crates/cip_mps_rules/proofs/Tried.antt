@@ -10,7 +10,7 @@ use Rattle.cip_rational.proofs.Range.InRange.{fits-integer}
 use Rattle.cip_rational.proofs.Rational.Ratio.{ratio-negate, ratio-add, integer_ratio}
 use Rattle.cip_rational.proofs.Rational.Ring.{negate_zero, sub_is}
 use Rattle.cip_line_texts.specs.Program.{Program}
-use Rattle.cip_number_text.specs.Numeral.{numeral_of}
+use Rattle.cip_rational.specs.Numeral.{numeral_of}
 use Rattle.cip_line_texts.specs.LineTexts.{outcome_of, Means}
 use Rattle.cip_mps_rules.specs.MpsExamples.{three_columns, three_columns_program, loose_text, loose_program, open_text, open_program, semi_text, semi_program, four_rows, row_sides_in, mps_outcome, sides_of_four, integral, large_value, facts_in}
 use Rattle.cip_mps_rules.specs.MpsSayings.{RangeLine, RightSideLine}

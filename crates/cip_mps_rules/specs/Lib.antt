@@ -1,10 +1,15 @@
 pub mod MpsBounds
 pub mod MpsExamples
 pub mod MpsFacts
+pub mod MpsLineTests
 pub mod MpsOutcome
 pub mod MpsProgram
 pub mod MpsRules
 pub mod MpsSayings
+pub mod MpsSoundState
+pub mod MpsState
 pub mod MpsStatements
+pub mod MpsStepStatements
+pub mod MpsSteps
 pub mod MpsWords
 pub use Rattle.cip_line_texts.specs.LineTexts

@@ -7,7 +7,7 @@ use Rattle.std.specs.Str.{bytes_eq}
 use Rattle.cip_rational.specs.Rational.{ℚ, zeroℚ, oneℚ, le_test}
 use Rattle.cip_line_texts.specs.Program.{Sides, Choice, Plain, Open}
 use Rattle.cip_line_texts.specs.Choices.{open_sides}
-use Rattle.cip_number_text.specs.Numeral.{Numeral, value_of}
+use Rattle.cip_rational.specs.Numeral.{Numeral, value_of}
 use Rattle.cip_mps_rules.specs.MpsWords.{BoundKind, Low, High, Fixed, WholeLow, WholeHigh, Unbounded, NoLow, NoHigh, Binary, SemiContinuous, is_negative}
 use Rattle.cip_mps_rules.specs.MpsFacts.{GivenColumn, GivenBound, Facts}
 

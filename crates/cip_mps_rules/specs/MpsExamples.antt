@@ -3,7 +3,7 @@ use lib.Chars.{codes}
 use Rattle.std.specs.Prelude.{◌≡◌, ℕ, Bool, true, false, pos, negsuc, List, [], ◌∷◌, ◌++◌, map, Option, None, Some, replicate}
 use Rattle.cip_rational.specs.Rational.{ℚ, ratio, zeroℚ, oneℚ}
 use Rattle.cip_line_texts.specs.Program.{Term, Sides, Row, Choice, Plain, Open, Program}
-use Rattle.cip_number_text.specs.Numeral.{Exact}
+use Rattle.cip_rational.specs.Numeral.{Exact}
 use Rattle.cip_line_texts.specs.LineTexts.{Outcome, Means, Faulty, items_in, too_long, outcome_of}
 use Rattle.cip_line_texts.specs.LineStatements.{known_after}
 use Rattle.cip_mps_rules.specs.MpsWords.{AtMost}

@@ -1,7 +1,7 @@
 -- What the lines of a text have said so far, as lists in the order of the text. Names stay names.
 --     facts_with facts saying      the facts, and what one more line says
 use Rattle.std.specs.Prelude.{ℕ, Bool, if◌then◌else◌, List, [], ◌∷◌, ◌++◌, map, Option, None, Some}
-use Rattle.cip_number_text.specs.Numeral.{Numeral}
+use Rattle.cip_rational.specs.Numeral.{Numeral}
 use Rattle.cip_mps_rules.specs.MpsWords.{Part, Sense, RowKind, BoundKind, is_in, sense_of}
 use Rattle.cip_mps_rules.specs.MpsSayings.{Value, Saying, Opens, SenseLine, RowLine, ColumnLine, RightSideLine, RangeLine, BoundLine}
 

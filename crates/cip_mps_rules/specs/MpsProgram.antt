@@ -5,7 +5,7 @@ use Rattle.std.specs.List.{filter}
 use Rattle.std.specs.Str.{bytes_eq}
 use Rattle.cip_rational.specs.Rational.{ℚ, zeroℚ, negate, ◌+ℚ◌, ◌-ℚ◌}
 use Rattle.cip_line_texts.specs.Program.{Term, Sides, Row, Program}
-use Rattle.cip_number_text.specs.Numeral.{Numeral, Exact, value_of}
+use Rattle.cip_rational.specs.Numeral.{Numeral, Exact, value_of}
 use Rattle.cip_mps_rules.specs.MpsWords.{RowKind, Free, AtMost, AtLeast, EqualTo, number_in, is_zero, is_negative}
 use Rattle.cip_mps_rules.specs.MpsSayings.{Value}
 use Rattle.cip_mps_rules.specs.MpsFacts.{GivenRow, GivenColumn, Coefficient, Facts, column_names}

@@ -9,7 +9,7 @@ use Rattle.std.specs.Str.{bytes_eq}
 use Rattle.cip_rational.specs.Rational.{ℚ}
 use Rattle.cip_rational.specs.Range.{sum_overflows, difference_overflows}
 use Rattle.cip_line_texts.specs.Limits.{most_rows, most_columns, longest_name, most_entries}
-use Rattle.cip_number_text.specs.Numeral.{Numeral}
+use Rattle.cip_rational.specs.Numeral.{Numeral}
 use Rattle.cip_mps_rules.specs.MpsWords.{Part, Title, Sense, Rows, Columns, End, RowKind, BoundKind, Low, High, Fixed, WholeLow, WholeHigh, SemiContinuous, rank, part_number, is_in, number_in, is_zero, is_negative, is_positive, is_no_number, is_huge, is_too_fine, sense_of}
 use Rattle.cip_mps_rules.specs.MpsSayings.{Value, Saying, UnknownSection, Opens, Misplaced, Miscounted, RowLine, ColumnLine, BadMarker, RightSideLine, RangeLine, BoundLine, BadBound}
 use Rattle.cip_mps_rules.specs.MpsFacts.{GivenRow, GivenColumn, Coefficient, Facts, row_names, column_names, coefficients_in, right_sides_in, ranges_in, sense_words_in}

@@ -4,7 +4,7 @@
 use lib.Chars.{codes}
 use Rattle.std.specs.Prelude.{ℕ, Bool, true, false, ◌&&◌, ◌||◌, if◌then◌else◌, List, [], ◌∷◌, Option, None, Some, is_some}
 use Rattle.std.specs.Str.{bytes_eq}
-use Rattle.cip_number_text.specs.Numeral.{Numeral, Exact, numeral_of}
+use Rattle.cip_rational.specs.Numeral.{Numeral, Exact, numeral_of}
 use Rattle.cip_line_texts.specs.Lines.{Record, Section, Entry}
 use Rattle.cip_mps_rules.specs.MpsWords.{Part, NoPart, Title, Sense, Rows, Columns, RightSides, Ranges, Bounds, End, RowKind, BoundKind, section_of, row_kind_of, bound_kind_of, marker_of, has_value, bound_number}
 

@@ -2,7 +2,7 @@
 use lib.Chars.{codes}
 use Rattle.std.specs.Prelude.{ℕ, suc, ◌*◌, ◌^◌, nat_le, Bool, true, false, not, ◌&&◌, if◌then◌else◌, List, [], ◌∷◌, Option, None, Some, is_some}
 use Rattle.std.specs.Str.{bytes_eq, str_to_ascii_lowercase}
-use Rattle.cip_number_text.specs.Numeral.{Numeral, Exact, NotANumber, Huge, TooFine, is_minus, without_sign, numeral_of}
+use Rattle.cip_rational.specs.Numeral.{Numeral, Exact, NotANumber, Huge, TooFine, is_minus, without_sign, numeral_of}
 
 -- ---- names
 

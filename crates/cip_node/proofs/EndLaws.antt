@@ -10,7 +10,7 @@ use Rattle.cip_domain.specs.Changes.{Region}
 use Rattle.cip_leaves.specs.Leaf.{Leaf, IsPointOfLeaf}
 use Rattle.cip_leaf.specs.LeafAnswers.{shown_as}
 use Rattle.cip_leaf.specs.declared.answers.Shown.{Shown}
-use Rattle.cip_core.specs.Mark.{Mark}
+use Rattle.cip_core.specs.declared.relaxed.Mark.{Mark}
 use Rattle.cip_tree.specs.Nodes.{TakenNode, Nodes, region_of, box_of, shown}
 use Rattle.cip_core.specs.CoreStates.{CoreState, reduced_of, way_of, held_of, IsTakenUp}
 use Rattle.cip_core.specs.Later.{IsLater, IsNarrower, IsLaterAt}

@@ -40,13 +40,17 @@ made_next (Off ∷ cs) (o ∷ os) (suc n) d l = made_next cs os n d (omega (arit
 made_next (On ∷ cs) [] (suc n) d l = made_next cs [] n d (omega (arith, l))
 made_next (On ∷ cs) (o ∷ os) (suc n) d l = made_next cs os n d (omega (arith, l))
 
-one_later : (n : ℕ) → n + 1 ≡ suc n
+pub one_later : (n : ℕ) → n + 1 ≡ suc n
 one_later n = omega arith
 
 pub made_open : (own now : List Choice) (n : ℕ) (d : Choice) → n < length own → is_open (get_or own n d) ≡ true → made_on (take (n + 1) own) now ≡ made_on (take n own) now ++ is_on (choice_at now n) ∷ []
 made_open own now n d l e =
     ap (λ k. made_on (take k own) now) (one_later n) ∙ made_next own now n d l
     ∙ ap (λ (t : Bool). if t then made_on (take n own) now ++ is_on (choice_at now n) ∷ [] else made_on (take n own) now) e
+
+pub made_pushed : (own now : List Choice) (n : ℕ) (d : Choice) (had has : List Bool) (on : Bool) → n < length own → is_open (get_or own n d) ≡ true → had ≡ made_on (take n own) now → on ≡ is_on (choice_at now n) → has ≡ had ++ on ∷ [] → has ≡ made_on (take (n + 1) own) now
+made_pushed own now n d had has on l e h o p =
+    p ∙ ap (λ (t : List Bool). t ++ on ∷ []) h ∙ ap (λ (t : Bool). made_on (take n own) now ++ t ∷ []) o ∙ sym (made_open own now n d l e)
 
 pub made_other : (own now : List Choice) (n : ℕ) (d : Choice) → n < length own → is_open (get_or own n d) ≡ false → made_on (take (n + 1) own) now ≡ made_on (take n own) now
 made_other own now n d l e =

@@ -16,6 +16,7 @@ use Rattle.cip_tree.specs.Tracked.{IsWithin}
 use Rattle.cip_node_rules.specs.OpenColumns.{is_open_at, PassesNowhere}
 use Rattle.cip_node_rules.proofs.Places.{order_of_whole}
 use Rattle.cip_node.specs.LeafValues.{least_above, least_values}
+use Rattle.cip_node.proofs.MadeChoices.{one_later}
 
 -- the least whole value of sides with one whole number between them
 least_between : (low high : Option ℚ) → HasWhole (record { low = low; high = high }) → two_wholes_between low high ≡ false → IsWholeBetween (record { low = low; high = high }) (least_above low)
@@ -78,9 +79,6 @@ least_next (true ∷ ws) (s ∷ ss) (suc n) d l m =
     ap (λ t. least_above s.low ∷ t) (least_next ws ss n d (omega (arith, l)) (omega (arith, m)))
     ∙ put_if (least_above s.low) (least_above (get_or ss n d).low) (least_values (take n ws) (take n ss)) (get_or ws n false)
 least_next (false ∷ ws) (s ∷ ss) (suc n) d l m = least_next ws ss n d (omega (arith, l)) (omega (arith, m))
-
-one_later : (n : ℕ) → n + 1 ≡ suc n
-one_later n = omega arith
 
 pub least_true : (whole : List Bool) (sides : List Sides) (n : ℕ) (d : Sides) → n < length whole → n < length sides → get_or whole n false ≡ true → least_values (take (n + 1) whole) (take (n + 1) sides) ≡ least_values (take n whole) (take n sides) ++ least_above (get_or sides n d).low ∷ []
 least_true whole sides n d l m e =

@@ -12,9 +12,9 @@ use Rattle.cip_tree.specs.Nodes.{TakenNode, box_of}
 use Rattle.cip_node_rules.specs.SplitRules.{IsNodeRule}
 use Rattle.cip_core.specs.NodeRows.{usable_rows}
 use Rattle.cip_core.specs.Relaxing.{node_program, IsMark, IsRelaxed}
-use Rattle.cip_core.specs.Mark.{Mark}
-use Rattle.cip_core.specs.Relaxed.{Relaxed}
-use Rattle.cip_core.specs.Relaxed.TheVariants as came
+use Rattle.cip_core.specs.declared.relaxed.Mark.{Mark}
+use Rattle.cip_core.specs.declared.relaxed.Relaxed.{Relaxed}
+use Rattle.cip_core.specs.declared.relaxed.Relaxed.TheVariants as came
 use Rattle.cip_core.specs.CoreStates.{CoreState, reduced_of, held_of, rows_lent}
 use Rattle.cip_core.specs.Steps.{IsTriedBack}
 use Rattle.cip_node.specs.declared.bounding.Found.{Found}

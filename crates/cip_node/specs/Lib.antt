@@ -8,7 +8,7 @@ pub mod SolvedLeaves
 pub use Rattle.cip_core.specs.KeptNodes
 pub use Rattle.cip_core.specs.Later
 pub use Rattle.cip_leaf.specs.LeafAnswers
-pub use Rattle.cip_core.specs.Mark
+pub use Rattle.cip_core.specs.declared.relaxed.Mark
 pub use Rattle.cip_core.specs.NodeRows
 pub use Rattle.cip_core.specs.Relaxing
 pub use Rattle.cip_leaf.specs.declared.answers.Shown

@@ -143,11 +143,11 @@ impl AnyPlugin {
 
     /// It is called for a request: what it gives, where it was asked for something. `Err`: it wanted memory that was
     /// refused.
-    fn call(&mut self, request: Request<'_>) -> Result<Option<Given>, AllocError>
-        requires { suits (⟦<AnyPlugin as Tells>⟧.who self.old).kind request ≡ true }
+    fn call(&mut self, request: &Request<'_>) -> Result<Option<Given>, AllocError>
+        requires { suits (⟦<AnyPlugin as Tells>⟧.who self.old).kind request.now ≡ true }
         ensures heard { Heard (⟦<AnyPlugin as Tells>⟧.who self.old).told
-            (call_for request.entry result ∷ []) (⟦<AnyPlugin as Tells>⟧.who self.new).told }
-        ensures given { has_given request.entry result ≡ true }
+            (call_for request.now result ∷ []) (⟦<AnyPlugin as Tells>⟧.who self.new).told }
+        ensures given { has_given request.now result ≡ true }
         ensures kind { (⟦<AnyPlugin as Tells>⟧.who self.new).kind ≡ (⟦<AnyPlugin as Tells>⟧.who self.old).kind }
     {
         match self {
@@ -167,7 +167,7 @@ impl AnyPlugin {
             (call_of callback.entry (is_ok result) ∷ []) (⟦<AnyPlugin as Tells>⟧.who self.new).told }
         ensures kind { (⟦<AnyPlugin as Tells>⟧.who self.new).kind ≡ (⟦<AnyPlugin as Tells>⟧.who self.old).kind }
     {
-        match self.call(Request::Callback(callback)) {
+        match self.call(&Request::Callback(callback)) {
             Ok(nothing) => {
                 drop(nothing);
                 Ok(())
@@ -224,7 +224,7 @@ impl AnyPlugin {
             (Asked (ask_of question.entry) (answer result answer_of) ∷ []) (⟦<AnyPlugin as Tells>⟧.who self.new).told }
         ensures kind { (⟦<AnyPlugin as Tells>⟧.who self.new).kind ≡ (⟦<AnyPlugin as Tells>⟧.who self.old).kind }
     {
-        match self.call(Request::Question(question, alloc, view)) {
+        match self.call(&Request::Question(question, alloc, view)) {
             Ok(Some(given)) => Ok(given),
             Ok(None) => unreachable!(),
             Err(error) => Err(error),

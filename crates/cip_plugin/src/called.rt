@@ -63,13 +63,13 @@ pub(crate) trait Called {
 /// refused.
 pub(crate) fn call<P: Called>(
     plugin: &mut P,
-    request: Request<'_>,
+    request: &Request<'_>,
 ) -> Result<Option<Given>, AllocError>
-    requires { suits P.kind request ≡ true }
-    ensures heard { Heard (P.calls plugin.old) (call_for request.entry result ∷ []) (P.calls plugin.new) }
-    ensures given { has_given request.entry result ≡ true }
+    requires { suits P.kind request.now ≡ true }
+    ensures heard { Heard (P.calls plugin.old) (call_for request.now result ∷ []) (P.calls plugin.new) }
+    ensures given { has_given request.now result ≡ true }
 {
-    match request {
+    match *request {
         Request::Callback(callback) => match plugin.call_back(callback) {
             Ok(()) => Ok(None),
             Err(error) => Err(error),

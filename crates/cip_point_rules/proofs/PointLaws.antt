@@ -7,7 +7,7 @@ use Rattle.std.proofs.lemmas.List.{append-nil, append_assoc}
 use Rattle.std.proofs.lemmas.List.Folds.{list_any-append}
 use Rattle.cip_rational.specs.Rational.{ℚ, zeroℚ}
 use Rattle.cip_problem.specs.Program.{Program}
-use Rattle.cip_number_text.specs.Numeral.{Numeral, value_of}
+use Rattle.cip_rational.specs.Numeral.{Numeral, value_of}
 use Rattle.cip_mps_rules.specs.MpsWords.{is_in}
 use Rattle.cip_mps_rules.specs.MpsProgram.{number_or_zero}
 use Rattle.cip_mps_rules.proofs.Quiet.{kept, left_false, right_false, or_false}

@@ -6,14 +6,14 @@ use Rattle.std.specs.Str.{bytes_eq}
 use Rattle.std.proofs.lemmas.List.{length-set}
 use Rattle.cip_rational.specs.Rational.{ℚ, zeroℚ}
 use Rattle.cip_problem.specs.Program.{Program}
-use Rattle.cip_number_text.specs.Numeral.{Numeral, value_of}
+use Rattle.cip_rational.specs.Numeral.{Numeral, value_of}
 use Rattle.cip_mps_rules.specs.MpsWords.{next, number_in, is_in}
 use Rattle.cip_mps_rules.specs.MpsRules.{least}
 use Rattle.cip_mps_rules.specs.MpsProgram.{number_or_zero}
 use Rattle.cip_mps_rules.proofs.Quiet.{kept}
 use Rattle.cip_mps_rules.proofs.MpsNames.{bytes_same, bytes_self, bytes_flip}
-use Rattle.cip_mps_steps.specs.MpsSteps.{changed}
-use Rattle.cip_mps_steps.proofs.LookUps.{AreApart, changed_map, is_in-cons}
+use Rattle.cip_mps_rules.specs.MpsSteps.{changed}
+use Rattle.cip_mps_rules.proofs.LookUps.{AreApart, changed_map, is_in-cons}
 use Rattle.cip_line_texts.proofs.LineSame.{StandsFor}
 use Rattle.cip_problem.specs.NamesOnce.{StandOnce}
 use Rattle.cip_point_rules.specs.PointRules.{PointLine, BadLine, ValueLine, Given, given_in, is_given, number_given, point_rules, point_fault, point_reading}

@@ -6,8 +6,8 @@ use Rattle.std.specs.Str.{bytes_eq}
 use Rattle.cip_rational.specs.Rational.{ℚ}
 use Rattle.cip_problem.specs.Program.{Program}
 use Rattle.cip_line_texts.specs.Lines.{Record, record_of}
-use Rattle.cip_number_text.specs.Numeral.{Numeral, value_of}
-use Rattle.cip_number_text.specs.FractionText.{fraction_of}
+use Rattle.cip_rational.specs.Numeral.{Numeral, value_of}
+use Rattle.cip_rational.specs.FractionText.{fraction_of}
 use Rattle.cip_mps_rules.specs.MpsWords.{is_in}
 use Rattle.cip_mps_rules.specs.MpsProgram.{number_or_zero}
 use Rattle.cip_mps_rules.specs.MpsRules.{Rule, rule, least}

@@ -3,7 +3,7 @@ use Rattle.std.specs.Prelude.{◌≡◌, ℕ, ◌≤◌, ◌==◌, true, false, 
 use Rattle.std.specs.List.{AllByRecursion, AllZip, list_any}
 use Rattle.cip_rational.specs.Rational.{ℚ}
 use Rattle.cip_problem.specs.Program.{Program}
-use Rattle.cip_number_text.specs.Numeral.{Numeral, value_of}
+use Rattle.cip_rational.specs.Numeral.{Numeral, value_of}
 use Rattle.cip_mps_rules.specs.MpsWords.{is_in}
 use Rattle.cip_line_texts.specs.LineTexts.{items_in, HasResult}
 use Rattle.cip_line_texts.specs.LineStatements.{OneOutcome, FaultsAreFirst, ResultsAreDescribed}

@@ -4,7 +4,7 @@ use Rattle.std.specs.Prelude.{ℕ, Bool, false, if◌then◌else◌, List, [], �
 use Rattle.std.specs.List.{list_any}
 use Rattle.cip_rational.specs.Rational.{ℚ, zeroℚ}
 use Rattle.cip_problem.specs.Program.{Program}
-use Rattle.cip_number_text.specs.Numeral.{Numeral, value_of}
+use Rattle.cip_rational.specs.Numeral.{Numeral, value_of}
 use Rattle.cip_mps_rules.specs.MpsWords.{number_in}
 use Rattle.cip_mps_rules.specs.MpsRules.{Rule, rule, least}
 use Rattle.cip_line_texts.specs.LineTexts.{Reading}

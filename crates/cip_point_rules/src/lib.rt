@@ -6,4 +6,4 @@ pub mod point_examples;
 pub mod point_steps;
 pub mod points;
 
-pub use cip_mps_steps::numbers_are_of_names;
+pub use cip_mps_rules::step_laws::numbers_are_of_names;

@@ -6,10 +6,10 @@ use Rattle.std.proofs.lemmas.Bool.{cases_lt}
 use Rattle.std.proofs.lemmas.Option.{none-some, same_Some, slice_get-get_or, slice_get_within}
 use Rattle.cip_rational.specs.Rational.{ℚ}
 use Rattle.cip_problem.specs.Activity.{value_at}
-use Rattle.cip_equalities.specs.Leaf.{at_wholes}
+use Rattle.cip_steps.specs.Leaf.{at_wholes}
 use Rattle.cip_frac.specs.declared.operations.Wide.{Wide}
 use Rattle.cip_frac.proofs.Outcomes.{product_added-value}
-use Rattle.cip_equalities.specs.Forms.{Form, form_value, filled}
+use Rattle.cip_steps.specs.Forms.{Form, form_value, filled}
 use Rattle.cip_postsolve.specs.StepsBack.{form_outcome, value_outcome, HasOverflow, WholesFit}
 use Rattle.cip_postsolve.specs.FilledPoints.{IsFilled}
 use Rattle.cip_postsolve.proofs.Placed.{next_of, none_next}
@@ -62,7 +62,7 @@ one_fits forms point k None v form g e h = absurd (none-some form (same_Some Non
 one_fits forms point k (Some own) v form g e h =
     subst (λ f. IsOk (form_outcome f point)) (same_Some own form (same_Some (Some own) (Some form) (sym g ∙ h))) (ok_is (form_outcome own point) v e)
 
-before_or_at : (column k : ℕ) → column < k + 1 → (column < k) ⊎ (column ≡ k)
+pub before_or_at : (column k : ℕ) → column < k + 1 → (column < k) ⊎ (column ≡ k)
 before_or_at column k l = go (cases_lt column k)
   where
     go : (column < k) ⊎ (k ≤ column) → (column < k) ⊎ (column ≡ k)

@@ -1,7 +1,13 @@
+pub mod CopiedParts
 pub mod FilledPoints
-pub mod LeavingPassedOn
+pub mod Gone
+pub mod LeavesFit
+pub mod LeftPairs
+pub mod Leftovers
 pub mod MayLeave
+pub mod MovedRows
 pub mod PassedOn
 pub mod Placed
 pub mod PointsBack
 pub mod StayingColumns
+pub mod Unchanged

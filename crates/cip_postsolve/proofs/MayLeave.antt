@@ -9,11 +9,11 @@ use Rattle.cip_rational.proofs.Range.InRange.{fits_in}
 use Rattle.cip_problem.specs.Program.{Program, no_row}
 use Rattle.cip_problem.specs.Box.{sides_at}
 use Rattle.cip_problem.proofs.Points.AtPlaces.{satisfied_at}
-use Rattle.cip_equalities.specs.Forms.{Form, constant_form}
-use Rattle.cip_equalities.specs.RowReading.{only_value}
-use Rattle.cip_equalities.proofs.PassedOn.{both_sides}
-use Rattle.cip_equalities.specs.ColumnForms.{RowGives, IsSubstitute}
-use Rattle.cip_equalities.specs.FormEnds.{FormKeeps}
+use Rattle.cip_steps.specs.Forms.{Form, constant_form}
+use Rattle.cip_steps.specs.RowReading.{only_value}
+use Rattle.cip_steps.proofs.PassedOn.{both_sides}
+use Rattle.cip_steps.specs.ColumnForms.{RowGives, IsSubstitute}
+use Rattle.cip_steps.specs.FormEnds.{FormKeeps}
 use Rattle.cip_postsolve.specs.ColumnsOut.{IsPlainAndFree, GoesAtValue, GoesWhole, GoesByForm, MayGo, MayAllGo}
 
 -- ---- one value

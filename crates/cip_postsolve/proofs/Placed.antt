@@ -3,8 +3,8 @@ use Rattle.std.proofs.Common.{◌≡◌, ℕ, zero, suc, ◌+◌, ◌<◌, ◌�
 use Rattle.std.specs.Prelude.{map, is_none, is_some, not}
 use Rattle.std.proofs.Math.ListN.{get_or}
 use Rattle.cip_rational.specs.Rational.{ℚ, zeroℚ}
-use Rattle.cip_equalities.specs.Forms.{Form, placed, gathered}
-use Rattle.cip_equalities.specs.WholeParts.{with_wholes}
+use Rattle.cip_steps.specs.Forms.{Form, placed, gathered}
+use Rattle.cip_steps.specs.WholeParts.{with_wholes}
 use Rattle.cip_postsolve.specs.Places.{later_values, value_taken, values_behind, is_whole_left, later_flags, whole_and_left}
 
 pub next_of : {X : Type 0} (xs : List X) (k : ℕ) (x d : X) → k < length xs → get_or xs k d ≡ x → drop k xs ≡ x ∷ drop (suc k) xs

@@ -2,10 +2,10 @@
 use Rattle.std.proofs.Common.{◌≡◌, Bool, List, Option, None, Some, length, sym, ap, ◌∙◌, subst}
 use Rattle.std.specs.Prelude.{map, is_none, MatchOption}
 use Rattle.cip_rational.specs.Rational.{ℚ}
-use Rattle.cip_equalities.specs.Forms.{Form, placed, filled}
-use Rattle.cip_equalities.specs.WholeParts.{with_wholes}
-use Rattle.cip_equalities.proofs.PassedOn.{length-placed}
-use Rattle.cip_equalities.specs.Leaf.{at_wholes}
+use Rattle.cip_steps.specs.Forms.{Form, placed, filled}
+use Rattle.cip_steps.specs.WholeParts.{with_wholes}
+use Rattle.cip_steps.proofs.PassedOn.{length-placed}
+use Rattle.cip_steps.specs.Leaf.{at_wholes}
 use Rattle.cip_postsolve.specs.Places.{whole_and_left}
 use Rattle.cip_postsolve.specs.StepsBack.{StepsTaken, whole_point, leaf_back, OverflowsBack, ComesBackAs, LeafFitsBack, HasOverflow, WholesFit}
 use Rattle.cip_postsolve.specs.FilledPoints.{IsFilled}

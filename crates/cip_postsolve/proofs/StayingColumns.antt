@@ -3,17 +3,17 @@ use Rattle.std.proofs.Common.{◌≡◌, ◌⊎◌, ℕ, zero, suc, ◌+◌, ◌
 use Rattle.std.specs.Prelude.{slice_set, slice_index_or, All}
 use Rattle.std.specs.List.{AllByRecursion}
 use Rattle.std.proofs.Math.ListN.{get_or}
-use Rattle.std.proofs.lemmas.Bool.{cases_lt}
 use Rattle.std.proofs.lemmas.Option.{none-some, same_Some, slice_get_within, get_or_from_slice_get, slice_get_read, slice_get-get_or}
 use Rattle.cip_rational.specs.Rational.{zeroℚ}
 use Rattle.cip_problem.specs.Program.{Term, Row, Program}
 use Rattle.cip_problem.specs.Activity.{StandsBelow}
-use Rattle.cip_equalities.specs.Forms.{Form}
-use Rattle.cip_equalities.specs.ColumnForms.{GivesForm}
-use Rattle.cip_equalities.specs.DraftParts.{IsDraft}
+use Rattle.cip_steps.specs.Forms.{Form}
+use Rattle.cip_steps.specs.ColumnForms.{GivesForm}
+use Rattle.cip_steps.specs.DraftParts.{IsDraft}
 use Rattle.cip_postsolve.specs.ColumnsOut.{MayAllGo, IsIn, TermsIn, SourceStays, SourcesStay, GoFewer}
 use Rattle.cip_postsolve.specs.SpentRows.{IsSpentBy, TermsInBut, RowGoes, RowsGo}
 use Rattle.cip_postsolve.specs.KeptRows.{RowKept, RowsKept}
+use Rattle.cip_postsolve.proofs.FilledPoints.{before_or_at}
 
 -- ---- one column stays
 
@@ -103,13 +103,6 @@ pub record SourcesTo (old forms : List (Option Form)) (n : ℕ) : Type 0 where
 
 pub no_sources : (forms : List (Option Form)) → SourcesTo forms forms 0
 no_sources forms = record { fewer = fewer_self forms; stay = λ column l. absurd (omega (arith, l)) }
-
-before_or_at : (column k : ℕ) → column < k + 1 → (column < k) ⊎ (column ≡ k)
-before_or_at column k l = go (cases_lt column k)
-  where
-    go : (column < k) ⊎ (k ≤ column) → (column < k) ⊎ (column ≡ k)
-    go (inl h) = inl h
-    go (inr h) = inr (omega (arith, l, h))
 
 pub next_source : (old forms new : List (Option Form)) (n : ℕ) → SourcesTo old forms n → GoFewer forms new → SourceStays new n → SourcesTo old new (n + 1)
 next_source old forms new n s f h = record {

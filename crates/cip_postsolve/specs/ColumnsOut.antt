@@ -8,10 +8,10 @@ use Rattle.cip_problem.specs.Program.{Term, Program}
 use Rattle.cip_problem.specs.Activity.{value_at}
 use Rattle.cip_problem.specs.Box.{sides_at}
 use Rattle.cip_problem.specs.Choices.{choice_at, is_open}
-use Rattle.cip_equalities.specs.Reduced.{IsRelaxed}
-use Rattle.cip_equalities.specs.Forms.{Form, constant_form, form_value}
-use Rattle.cip_equalities.specs.Statements.{IsFixedAt}
-use Rattle.cip_equalities.specs.FormEnds.{FormKeeps, FormAssigns}
+use Rattle.cip_steps.specs.Reduced.{IsRelaxed}
+use Rattle.cip_steps.specs.Forms.{Form, constant_form, form_value}
+use Rattle.cip_steps.specs.Statements.{IsFixedAt}
+use Rattle.cip_steps.specs.FormEnds.{FormKeeps, FormAssigns}
 
 -- a column isn't semi-continuous and costs nothing
 pub record IsPlainAndFree (program : Program) (column : ℕ) : Type 0 where

@@ -1,7 +1,7 @@
 -- Points with the values of the columns that are gone.
 use Rattle.std.specs.Prelude.{◌≡◌, List, Option}
 use Rattle.cip_rational.specs.Rational.{ℚ}
-use Rattle.cip_equalities.specs.Forms.{Form, filled}
+use Rattle.cip_steps.specs.Forms.{Form, filled}
 use Rattle.cip_postsolve.specs.StepsBack.{AllFit}
 
 -- values are a point's and those of the forms at it, of which none overflows

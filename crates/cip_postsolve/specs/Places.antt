@@ -1,7 +1,7 @@
 -- Values put at the places of the columns that take one, value by value.
 use Rattle.std.specs.Prelude.{Bool, true, false, ◌&&◌, List, [], ◌∷◌, Option, is_none}
 use Rattle.cip_rational.specs.Rational.{ℚ, zeroℚ}
-use Rattle.cip_equalities.specs.Forms.{Form}
+use Rattle.cip_steps.specs.Forms.{Form}
 
 -- the first value of those that are left, and the other ones
 abbrev pub next_value : List ℚ → ℚ

@@ -2,8 +2,8 @@
 use Rattle.std.specs.Prelude.{◌≡◌, ◌⊎◌, ℕ, List, Option, Some, slice_get}
 use Rattle.std.specs.List.{AllByRecursion}
 use Rattle.cip_problem.specs.Program.{Term, Row}
-use Rattle.cip_equalities.specs.Forms.{Form}
-use Rattle.cip_equalities.specs.ColumnForms.{GivesForm}
+use Rattle.cip_steps.specs.Forms.{Form}
+use Rattle.cip_steps.specs.ColumnForms.{GivesForm}
 use Rattle.cip_postsolve.specs.ColumnsOut.{IsIn, TermsIn}
 
 -- a column is left out by the form that a row gives it

@@ -3,13 +3,13 @@ use Rattle.std.specs.Prelude.{◌≡◌, ℕ, Bool, true, List, Option, None, So
 use Rattle.std.specs.Coded.{Coded, code_by, coded×, coded_bool, coded_list, coded_option}
 use Rattle.cip_rational.specs.Rational.{ℚ}
 use Rattle.cip_problem.specs.Activity.{value_at}
-use Rattle.cip_equalities.specs.Leaf.{at_wholes}
-use Rattle.cip_equalities.specs.SearchState.{WayBack}
+use Rattle.cip_steps.specs.Leaf.{at_wholes}
+use Rattle.cip_steps.specs.SearchState.{WayBack}
 use Rattle.cip_frac.specs.declared.operations.Wide.{Wide}
 use Rattle.cip_frac.specs.Outcomes.{product_added}
-use Rattle.cip_equalities.specs.Forms.{Form, placed, spread, gathered, kept_at}
-use Rattle.cip_equalities.specs.WholeParts.{with_wholes}
-use Rattle.cip_equalities.specs.ColumnForms.{form_code}
+use Rattle.cip_steps.specs.Forms.{Form, placed, spread, gathered, kept_at}
+use Rattle.cip_steps.specs.WholeParts.{with_wholes}
+use Rattle.cip_steps.specs.ColumnForms.{form_code}
 
 -- of each column of the program the form of its value where it is gone, and whether it is whole
 pub record StepsTaken : Type 0 where

@@ -4,13 +4,13 @@ ghost use Rattle.std.specs.Bool.{OnTrue};
 ghost use Rattle.cip_rational.specs.Rational.{IsWhole};
 ghost use Rattle.cip_rational.specs.Range.{fits_range};
 ghost use Rattle.cip_problem.specs.Box.{sides_at};
-ghost use Rattle.cip_equalities.specs.Forms.{constant_form};
-ghost use Rattle.cip_equalities.specs.ColumnForms.{IsSubstitute};
-ghost use Rattle.cip_equalities.specs.FormEnds.{FormKeeps};
+ghost use Rattle.cip_steps.specs.Forms.{constant_form};
+ghost use Rattle.cip_steps.specs.ColumnForms.{IsSubstitute};
+ghost use Rattle.cip_steps.specs.FormEnds.{FormKeeps};
 ghost use Rattle.cip_postsolve.specs.ColumnsOut.{IsPlainAndFree, GoesAtValue, GoesWhole, GoesByForm, MayAllGo};
 
 use crate::lone::RowCounts;
-use cip_equalities::{ColumnForm, Draft, Frac, assigns, form_at, is_substitute, keeps, only_value};
+use cip_steps::{ColumnForm, Draft, Frac, assigns, form_at, is_substitute, keeps, only_value};
 use std::alloc::{AllocError, Global};
 
 /// Whether a column may have a value: where it is whole, so is the value. Each number is in range.

@@ -5,7 +5,7 @@ ghost use Rattle.cip_postsolve.specs.SpentRows.{RowsGo};
 
 use crate::candidates::candidates;
 use crate::staying::{keep_rows, keep_sources};
-use cip_equalities::{ColumnForm, Draft};
+use cip_steps::{ColumnForm, Draft};
 use std::alloc::{AllocError, Global};
 
 /// The forms of the columns that are left out of a program in work: each of them may be, the sources of the forms stay,

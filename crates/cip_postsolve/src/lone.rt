@@ -1,5 +1,5 @@
 //! How many rows have each column: hints, of which nothing is promised.
-use cip_equalities::Row;
+use cip_steps::Row;
 use std::alloc::{AllocError, Global};
 
 /// In how many rows each column has a term.

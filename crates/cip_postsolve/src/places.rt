@@ -1,11 +1,11 @@
 //! The values of columns that stay, at the places of all columns.
 ghost use Rattle.std.specs.Prelude.{◌≡◌, ◌+◌, ◌<◌, ◌≤◌, ◌^◌, List, drop, map, IfOk, is_none};
 ghost use Rattle.cip_rational.specs.Rational.{ℚ};
-ghost use Rattle.cip_equalities.specs.WholeParts.{with_wholes};
+ghost use Rattle.cip_steps.specs.WholeParts.{with_wholes};
 ghost use Rattle.cip_postsolve.specs.Places.{next_value, value_taken, values_behind, is_whole_left, whole_and_left};
 
-use cip_equalities::ColumnForm;
 use cip_frac::Frac;
+use cip_steps::ColumnForm;
 use std::alloc::{AllocError, Global};
 
 /// Whether each column stays: whether it has no form. `Err` where the memory for it was refused.

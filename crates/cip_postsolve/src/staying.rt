@@ -6,7 +6,7 @@ ghost use Rattle.cip_postsolve.specs.ColumnsOut.{IsIn, SourceStays, SourcesStay,
 ghost use Rattle.cip_postsolve.specs.SpentRows.{IsSpentBy, TermsInBut};
 ghost use Rattle.cip_postsolve.specs.KeptRows.{RowKept, RowsKept};
 
-use cip_equalities::{ColumnForm, Row, Term, form_in};
+use cip_steps::{ColumnForm, Row, Term, form_in};
 
 /// A column stays.
 #[tactic(auto, using(crate::proofs::StayingColumns::staying))]

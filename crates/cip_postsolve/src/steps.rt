@@ -7,8 +7,8 @@ ghost use Rattle.cip_postsolve.specs.PostsolveFaults.{IsPostsolveFault};
 use crate::faults::PostsolveFault;
 use crate::places::{columns_left, placed, whole_and_left};
 use crate::values::{filled, wholes_filled};
-use cip_equalities::ColumnForm;
 use cip_frac::Frac;
+use cip_steps::ColumnForm;
 use std::alloc::{AllocError, Global};
 use std::marker::Model;
 

@@ -1,13 +1,13 @@
 //! The values of all columns at a point that has those of the columns that stay at their places.
 ghost use Rattle.std.specs.Prelude.{◌≡◌, ◌<◌, length, IfOk, Ok, IsOk, MatchOption};
 ghost use Rattle.cip_problem.specs.Activity.{value_at};
-ghost use Rattle.cip_equalities.specs.Leaf.{at_wholes};
-ghost use Rattle.cip_equalities.specs.Forms.{filled};
+ghost use Rattle.cip_steps.specs.Leaf.{at_wholes};
+ghost use Rattle.cip_steps.specs.Forms.{filled};
 ghost use Rattle.cip_postsolve.specs.StepsBack.{form_outcome, value_outcome, HasOverflow, WholesFit};
 ghost use Rattle.cip_postsolve.specs.FilledPoints.{IsFilled};
 
-use cip_equalities::ColumnForm;
 use cip_frac::{Frac, Wide};
+use cip_steps::ColumnForm;
 use std::alloc::{AllocError, Global};
 
 /// The value of a column at a point, 0 past the end.

@@ -67,7 +67,7 @@ all_more_one P xs n x e h p =
 all_at : {X : Type 0} (P : X → Type 0) (xs : List X) (n : ℕ) (x : X) → All P xs → slice_get xs n ≡ Some x → P x
 all_at P xs n x a g = subst P (get_or_from_slice_get xs n x x g) (a n x (slice_get_within xs n x g))
 
-take_whole : {X : Type 0} (xs : List X) (n : ℕ) → length xs ≤ n → take n xs ≡ xs
+pub take_whole : {X : Type 0} (xs : List X) (n : ℕ) → length xs ≤ n → take n xs ≡ xs
 take_whole [] zero e = refl
 take_whole [] (suc n) e = refl
 take_whole (x ∷ xs) zero e = absurd (omega (arith, e))

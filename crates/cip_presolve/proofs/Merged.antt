@@ -13,10 +13,11 @@ use Rattle.cip_problem.proofs.Choices.Meeting.{between_met}
 use Rattle.cip_lin.specs.MetSides.{is_past}
 use Rattle.cip_reductions.specs.NarrowedPrograms.{IsExactStep, IsInfeasible, with_row}
 use Rattle.cip_reductions.specs.RowSteps.{merged_row}
-use Rattle.cip_reductions.proofs.Pairing.{exact_self}
 use Rattle.cip_reductions.proofs.RowSteps.{merged}
-use Rattle.cip_postsolve.proofs.LeavingPassedOn.{past_below}
+use Rattle.cip_postsolve.proofs.PassedOn.{past_below}
 use Rattle.cip_presolve.specs.RowsMet.{sides_of}
+use Rattle.cip_presolve.proofs.Chained.{stays}
+use Rattle.cip_presolve.proofs.Free.{take_whole}
 
 pub same_term : (one other : Term) → one.column ≡ other.column → one.coefficient ≡ other.coefficient → one ≡ other
 same_term one other e k = ap (λ n. record { column = n; coefficient = one.coefficient }) e ∙ ap (λ q. record { column = other.column; coefficient = q }) k
@@ -43,21 +44,12 @@ one_same ones others n one other s below g k e =
     let long = s.long in
     record { long = s.long; same = rw add-one (take_more ones others n one other s.same (slice_get_read ones (length ones) n one refl below g) (slice_get_read others (length others) n other refl (omega (arith, below, long)) k) e) }
 
-take_whole : {X : Type 0} (xs : List X) (n : ℕ) → length xs ≤ n → take n xs ≡ xs
-take_whole [] zero e = refl
-take_whole [] (suc n) e = refl
-take_whole (x ∷ xs) zero e = absurd (omega (arith, e))
-take_whole (x ∷ xs) (suc n) e = ap (λ t. x ∷ t) (take_whole xs n (omega (arith, e)))
-
 pub all_same : (ones others : List Term) (n : ℕ) → SameTo ones others n → length ones ≤ n → ones ≡ others
 all_same ones others n s e = let long = s.long in sym (take_whole ones n e) ∙ s.same ∙ take_whole others n (omega (arith, e, long))
 
 pub ruleset same_terms = (none_same, one_same, all_same)
 
 -- ---- the step
-
-pub stays : (program : Program) → IsExactStep program program
-stays program = exact_self program
 
 pub merged_by : (program middle changed : Program) (first second : ℕ) (row other new : Row) (sides : Sides) → first ≢ second → slice_get program.rows first ≡ Some row → slice_get program.rows second ≡ Some other → row.terms ≡ other.terms → sides ≡ met (sides_of row) (sides_of other) → new ≡ record { terms = row.terms; low = sides.low; high = sides.high } → middle ≡ with_row program first new → changed ≡ with_row middle second no_row → IsExactStep program changed
 merged_by program middle changed first second row other new sides n g h t s e m k =

@@ -4,10 +4,10 @@ use Rattle.cip_problem.specs.Program.{Choice, Sides, Row, Program}
 use Rattle.cip_problem.specs.Choices.{choice_at, is_open}
 use Rattle.cip_reductions.specs.NarrowedPrograms.{IsExactStep}
 use Rattle.cip_reductions.specs.Forms.{Form}
-use Rattle.cip_compaction.specs.ColumnForms.{RowGives, IsSubstitute}
+use Rattle.cip_postsolve.specs.ColumnForms.{RowGives, IsSubstitute}
 use Rattle.cip_presolve.specs.declared.substituting.Substitution.{Substitution}
 use Rattle.cip_presolve.specs.Substitutions.{IsFound}
-use Rattle.cip_presolve.proofs.Chained.{stays, follows}
+use Rattle.cip_presolve.proofs.Chained.{stays, follows, open_ends}
 
 pub found_parts : (program : Program) (row column : ℕ) (form : Form) → row < length program.rows → RowGives program row column form → IsSubstitute program column form → IsFound program (record { row = row; column = column; form = form })
 found_parts program row column form there gives substitute = record { there = there; gives = gives; substitute = substitute }
@@ -38,4 +38,4 @@ found_still old new found f rows gives substitute = record {
 
 pub ruleset replacing = (stays, follows, found_still)
 
-pub ruleset taking = (stays, follows, found_later)
+pub ruleset taking = (stays, follows, found_later, open_ends)

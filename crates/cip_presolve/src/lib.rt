@@ -12,7 +12,7 @@ mod row_looks;
 mod spent;
 mod substituting;
 
-pub use cip_compaction::{PostsolveFault, Presolved, Steps, leaf_fits, postsolve, whole_part};
+pub use cip_postsolve::{PostsolveFault, Presolved, Steps, leaf_fits, postsolve, whole_part};
 use merging::try_merge;
 use moves::try_moves;
 pub use presolved::{PresolveEnd, presolve, presolve_all, presolved_leads_back};

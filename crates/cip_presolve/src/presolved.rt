@@ -4,8 +4,8 @@ ghost use Rattle.cip_presolve.specs.Presolving.{PresolveIsRight, PresolveAllIsRi
 
 use crate::rounds::{reduce, reduce_exactly};
 use crate::row_looks::{Place, RoundEnd};
-use cip_compaction::{Draft, Presolved, compacted};
 use cip_model::Program;
+use cip_postsolve::{Draft, Presolved, compacted};
 use std::alloc::{AllocError, Global};
 
 /// What presolve comes to.

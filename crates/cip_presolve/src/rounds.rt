@@ -9,7 +9,7 @@ use crate::queues::Work;
 use crate::row_looks::{Place, RoundEnd, look_at, merge_pair, open_after};
 use crate::substituting::substitute_all;
 use crate::try_moves;
-use cip_compaction::{Draft, Outcome, forms_out};
+use cip_postsolve::{Draft, Outcome, forms_out};
 use std::alloc::{AllocError, Global};
 
 /// The most looks at rows between two rounds over all rows or columns: each step lets no more rows wait than there are.

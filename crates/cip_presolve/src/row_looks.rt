@@ -1,15 +1,15 @@
 //! What looking at one row, or at two with equal terms, comes to.
 ghost use Rattle.std.specs.Prelude.{IfOk, length, ◌<◌, ◌≡◌};
 ghost use Rattle.cip_reductions.specs.NarrowedPrograms.{IsExactStep};
-ghost use Rattle.cip_compaction.specs.Taken.{IsEnclosed};
-ghost use Rattle.cip_problem.specs.Program.{Program};
+ghost use Rattle.cip_postsolve.specs.Taken.{IsEnclosed};
 ghost use Rattle.cip_presolve.specs.RoundEnds.{RoundEndsRightly};
+ghost use Rattle.cip_presolve.specs.declared.row_looks.RoundEnd.TheVariants.{Open};
 
 use crate::keys::{are_alike, row_of};
 use crate::queues::Work;
 use crate::try_merge;
-use cip_compaction::{Draft, Outcome, open_places, row_extent, says_nothing, try_implied};
 use cip_lin::Sides;
+use cip_postsolve::{Draft, Outcome, open_places, row_extent, says_nothing, try_implied};
 use std::alloc::{AllocError, Global};
 
 /// A row or a column at which no point is feasible.
@@ -32,7 +32,7 @@ pub enum RoundEnd {
 
 /// That all is open once the work was told of a step.
 pub(crate) fn open_after(told: Result<(), AllocError>) -> Result<RoundEnd, AllocError>
-    ensures { IfOk result (λ end. (program : Program) → RoundEndsRightly program end) }
+    ensures { IfOk result (λ end. end ≡ Open) }
 {
     match told {
         Ok(()) => Ok(RoundEnd::Open),
@@ -42,7 +42,7 @@ pub(crate) fn open_after(told: Result<(), AllocError>) -> Result<RoundEnd, Alloc
 
 /// Tells the work of a step, if one was taken; all is open then. `Err` comes where a growth was refused.
 pub(crate) fn tell(work: &mut Work, outcome: Outcome) -> Result<RoundEnd, AllocError>
-    ensures { IfOk result (λ end. (program : Program) → RoundEndsRightly program end) }
+    ensures { IfOk result (λ end. end ≡ Open) }
 {
     match outcome {
         Outcome::Tightened(column) => open_after(work.column_changed(column)),

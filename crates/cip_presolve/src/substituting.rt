@@ -2,16 +2,16 @@
 ghost use Rattle.std.specs.Prelude.{IfOk, IfSome, length, ◌<◌, ◌≤◌, ◌≡◌, ◌^◌};
 ghost use Rattle.cip_problem.specs.Limits.{most_rows};
 ghost use Rattle.cip_reductions.specs.NarrowedPrograms.{IsExactStep};
-ghost use Rattle.cip_compaction.specs.ColumnForms.{IsSubstitute};
+ghost use Rattle.cip_postsolve.specs.ColumnForms.{IsSubstitute};
 ghost use Rattle.cip_presolve.specs.RoundEnds.{RoundEndsRightly};
 ghost use Rattle.cip_presolve.specs.Substitutions.{IsFound};
 
 use crate::queues::Work;
 use crate::row_looks::{Place, RoundEnd, tell};
-use cip_compaction::{
+use cip_lin::Term;
+use cip_postsolve::{
     ColumnForm, Draft, Outcome, form_at, is_substitute, move_cost, take_sides, try_replace,
 };
-use cip_lin::Term;
 use std::alloc::{AllocError, Global};
 
 /// A column, and the form that a row gives it.

@@ -8,8 +8,8 @@ use Rattle.cip_pricing.specs.Decomposition.{Conditions, conditions_of}
 use Rattle.cip_pricing.proofs.Picked.{length_picked}
 use Rattle.cip_cert.specs.declared.pricing.BoundTree.{BoundTree}
 use Rattle.cip_cert.specs.Lent.{Fits}
-use Rattle.cip_decomposition.specs.declared.parts.Subproblem.{Subproblem}
-use Rattle.cip_decomposition.specs.Decompositions.{owners_in}
+use Rattle.cip_lagrange.specs.declared.parts.Subproblem.{Subproblem}
+use Rattle.cip_lagrange.specs.Decompositions.{owners_in}
 use Rattle.cip_lagrange.specs.TreeOutcomes.{tree_outcome}
 use Rattle.cip_lagrange.specs.TreeMeaning.{own_rows}
 use Rattle.cip_lagrange.proofs.Ready.{are_ready}

@@ -18,8 +18,8 @@ use Rattle.cip_pricing.proofs.Shown.{no_block_point}
 use Rattle.cip_pricing.proofs.Trees.{node_point}
 use Rattle.cip_cert.specs.declared.pricing.BoundTree.{BoundTree}
 use Rattle.cip_cert.specs.declared.pricing.Priced.{Priced}
-use Rattle.cip_decomposition.specs.Decompositions.{owners_in}
-use Rattle.cip_decomposition.proofs.Placing.{renumbered_rows}
+use Rattle.cip_lagrange.specs.Decompositions.{owners_in}
+use Rattle.cip_lagrange.proofs.Placing.{renumbered_rows}
 use Rattle.cip_lagrange.specs.declared.answers.TreeBound.{TreeBound}
 use Rattle.cip_lagrange.specs.declared.answers.TreeBound.TheVariants.{Finite, NoPoint}
 use Rattle.cip_lagrange.specs.declared.answers.TreeFault.{TreeFault}

@@ -16,11 +16,11 @@ use Rattle.cip_lin.specs.MetSides.{is_past}
 use Rattle.cip_price.specs.CrossedSides.{crosses_column, crosses_row, has_crossed}
 use Rattle.cip_price.specs.PriceAnswers.{EmptiesBox}
 
-or_false : (t : Bool) → (t || false) ≡ t
+pub or_false : (t : Bool) → (t || false) ≡ t
 or_false true = refl
 or_false false = refl
 
-or_from : (s t u : Bool) → (s || (t || u)) ≡ ((s || t) || u)
+pub or_from : (s t u : Bool) → (s || (t || u)) ≡ ((s || t) || u)
 or_from true t u = refl
 or_from false t u = refl
 

@@ -2,7 +2,7 @@
 use Rattle.std.proofs.Common.{◌≡◌, ◌≢◌, ℕ, zero, suc, ◌+◌, ◌<◌, ◌≤◌, Bool, true, false, cond, ◌||◌, List, [], ◌∷◌, ◌++◌, length, Option, None, Some, refl, sym, ap, ◌∙◌, subst, arith, true≢false}
 use Rattle.std.specs.Prelude.{Vec, IfSome, IsSome, Result, Ok, Err, OnOk, MatchResult}
 use Rattle.std.specs.Global.{Global}
-use Rattle.std.proofs.lemmas.List.{append-nil, length_push}
+use Rattle.std.proofs.lemmas.List.{length_push}
 use Rattle.cip_rational.specs.Rational.{ℚ}
 use Rattle.cip_problem.specs.Activity.{value_at}
 use Rattle.cip_cert.specs.declared.pricing.BoundTree.{BoundTree}
@@ -20,7 +20,8 @@ use Rattle.cip_price.specs.declared.offering.Growth.{Growth}
 use Rattle.cip_price.specs.declared.offering.Growth.TheVariants.{Same, Grown, Full}
 use Rattle.cip_price.specs.declared.block_rounds.Round.{Round}
 use Rattle.cip_price.proofs.Telling.{tells_none, tells_from, may_none, front_none, front_from, front_all, told_more}
-use Rattle.cip_price.proofs.Offered.{grows_by, all_grown}
+use Rattle.cip_price.proofs.Offered.{grows_by, all_grown, same_grows}
+use Rattle.cip_price.proofs.Crossed.{or_false, or_from}
 
 -- ---- asks
 
@@ -61,14 +62,6 @@ open_more task prices (b ∷ bs) a =
     gap_kept (closes (value_at prices b.block) (shown_in task b)) (first_open task prices bs)
     (first_open task prices (bs ++ a ∷ [])) b.block a.block
     (closes (value_at prices a.block) (shown_in task a)) (open_more task prices bs a)
-
-or_false : (t : Bool) → (t || false) ≡ t
-or_false true = refl
-or_false false = refl
-
-or_from : (s t u : Bool) → (s || (t || u)) ≡ ((s || t) || u)
-or_from true t u = refl
-or_from false t u = refl
 
 none_more : (task : Task) (asks : List Asked) (a : Asked)
     → shows_none task (asks ++ a ∷ []) ≡ (shows_none task asks || is_empty_bound (shown_in task a))
@@ -151,9 +144,6 @@ held_more : (task : Task) (points : List PoolPoint) (asks : List Asked) (a : Ask
     → AreIn task a.block points (points_in a.answer) → AreHeldOf task points (asks ++ a ∷ [])
 held_more task points [] a h k = (k, tt)
 held_more task points (b ∷ bs) a h k = (h.0, held_more task points bs a h.1 k)
-
-same_grows : (before after : List PoolPoint) → after ≡ before → Grows before after
-same_grows before after e = ([], e ∙ sym (append-nil before))
 
 pub grown_more : (task : Task) (asks : List Asked) (a : Asked) (first middle last : List PoolPoint)
     (growth next : Growth) → growth ≢ Full → IsGrown task asks first middle growth

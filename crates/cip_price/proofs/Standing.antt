@@ -12,7 +12,7 @@ use Rattle.cip_pricing.specs.LeastCosts.{ArePrices, IsLeastMixture}
 use Rattle.cip_pricing.proofs.Closing.{closed_least, closed_bound, closed_empty}
 use Rattle.cip_cert.specs.declared.pricing.BoundTree.{BoundTree}
 use Rattle.cip_columns.specs.PoolPoints.{PoolPoint}
-use Rattle.cip_decomposition.specs.Decompositions.{owners_in}
+use Rattle.cip_lagrange.specs.Decompositions.{owners_in}
 use Rattle.cip_lagrange.specs.declared.answers.TreeBound.{TreeBound}
 use Rattle.cip_lagrange.specs.Scratches.{FitsScratch}
 use Rattle.cip_master.specs.MasterTasks.{Task, IsTask, held_by}

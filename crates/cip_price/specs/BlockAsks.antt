@@ -8,7 +8,7 @@ use Rattle.cip_cert.specs.declared.pricing.BoundTree.{BoundTree}
 use Rattle.cip_cert.specs.declared.pricing.BlockPoint.{BlockPoint}
 use Rattle.cip_cert.specs.declared.pricing.Priced.{Priced}
 use Rattle.cip_columns.specs.PoolPoints.{PoolPoint}
-use Rattle.cip_decomposition.specs.Decompositions.{owners_in}
+use Rattle.cip_lagrange.specs.Decompositions.{owners_in}
 use Rattle.cip_lagrange.specs.declared.answers.TreeBound.{TreeBound}
 use Rattle.cip_lagrange.specs.declared.answers.TreeBound.TheVariants.{Finite, NoPoint}
 use Rattle.cip_lagrange.specs.declared.answers.TreeFault.{TreeFault}

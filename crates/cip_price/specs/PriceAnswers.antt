@@ -5,7 +5,7 @@ use Rattle.cip_problem.specs.Box.{IsInBox}
 use Rattle.cip_problem.specs.Points.{IsFeasible, cost_of}
 use Rattle.cip_pricing.specs.LeastCosts.{IsLeastMixture}
 use Rattle.cip_columns.specs.PoolPoints.{PoolPoint}
-use Rattle.cip_decomposition.specs.Decompositions.{owners_in}
+use Rattle.cip_lagrange.specs.Decompositions.{owners_in}
 use Rattle.cip_master.specs.MasterTasks.{Task, held_by}
 use Rattle.cip_master.specs.MasterAnswers.{point_of, IsMixedOf}
 use Rattle.cip_master.specs.declared.answers.Weights.{Weights}

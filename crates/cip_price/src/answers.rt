@@ -3,7 +3,7 @@ use cip_frac::Frac;
 use cip_master::{MasterCause, Weights};
 
 /// How much is done.
-#[derive(Clone, Copy, PartialEq, Eq)]
+#[derive(Clone, Copy)]
 pub struct PriceLimits {
     /// The most rounds that are asked.
     pub rounds: u32,

@@ -1,8 +1,8 @@
 //! The ask of one block.
 ghost use Rattle.std.specs.Prelude.{◌≡◌, ◌<◌, [], None, Some, length, All, IfOk, MatchResult};
 ghost use Rattle.cip_problem.specs.WellFormed.{columns};
-ghost use Rattle.cip_decomposition.specs.Decompositions.{IsDecompositionOf};
-ghost use Rattle.cip_decomposition.specs.Numbers.{found};
+ghost use Rattle.cip_lagrange.specs.Decompositions.{IsDecompositionOf};
+ghost use Rattle.cip_lagrange.specs.Numbers.{found};
 ghost use Rattle.cip_lagrange.specs.TreeOutcomes.{node_in};
 ghost use Rattle.cip_master.specs.MasterTasks.{IsTask};
 ghost use Rattle.cip_price.specs.PriceTasks.{task_at};
@@ -42,7 +42,10 @@ fn sides_at(alloc: Global, bounds: &Bounds, numbers: &[u32]) -> Result<Bounds, A
 {
     let mut kept = Bounds::new(alloc, 0)?;
     for number in numbers {
-        kept.push(bounds.sides(*number))?;
+        let Ok(()) = kept.push(bounds.sides(*number)) else {
+            drop(kept);
+            return Err(AllocError);
+        };
     }
     Ok(kept)
 }
@@ -74,9 +77,11 @@ fn block_region(alloc: Global, task: &PriceTask<'_>, block: u32) -> Result<TreeR
 {
     let numbers = task.blocks.blocks.columns(block as usize);
     let bounds = sides_at(alloc, task.bounds, numbers)?;
-    let choices = task.blocks.subproblems[block as usize]
-        .choices
-        .copied(alloc)?;
+    let part = &task.blocks.subproblems[block as usize];
+    let Ok(choices) = part.choices.copied(alloc) else {
+        drop(bounds);
+        return Err(AllocError);
+    };
     Ok(TreeRegion { bounds, choices })
 }
 
@@ -107,8 +112,12 @@ impl BlockAsk {
         ensures costs { IfOk result (λ ask. ask.costs.items ≡ costs_in (task_at task.entry.now []) rests.now block) }
     {
         let _columns = task.program.columns();
-        let region = block_region(alloc, task, block)?;
-        let costs = block_costs(alloc, task, rests, block)?;
+        let Ok(costs) = block_costs(alloc, task, rests, block) else {
+            return Err(AllocError);
+        };
+        let Ok(region) = block_region(alloc, task, block) else {
+            return Err(AllocError);
+        };
         Ok(BlockAsk {
             block,
             costs,
@@ -163,7 +172,10 @@ impl BlockAsk {
         };
         match self.bound_of(task, &tree, scratch) {
             Some(bound) => Some(Accepted { tree, bound }),
-            None => None,
+            None => {
+                drop(tree);
+                None
+            }
         }
     }
 
@@ -191,7 +203,11 @@ impl BlockAsk {
         ensures task { IsTask (task_at task.entry.now pool.new) }
         ensures room { length scratch.new.row.entries ≡ length scratch.old.row.entries }
     {
-        let growth = offer_points(task, pool, asker, self.block, priced.points.as_slice())?;
+        let Ok(growth) = offer_points(task, pool, asker, self.block, priced.points.as_slice())
+        else {
+            drop(priced);
+            return Err(AllocError);
+        };
         let accepted = self.accept(task, priced.tree, scratch);
         Ok(BlockAnswer { growth, accepted })
     }

@@ -93,6 +93,7 @@ fn put_tree(
     ensures { IfOk result (IsTreePut trees accepted) }
 {
     let Some(mut trees) = trees else {
+        drop(accepted);
         return Ok(None);
     };
     let Some(accepted) = accepted else {

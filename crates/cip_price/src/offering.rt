@@ -14,7 +14,7 @@ use cip_master::{Taken, take_point};
 use std::alloc::AllocError;
 
 /// What became of a pool as points were offered.
-#[derive(Clone, Copy, PartialEq, Eq)]
+#[derive(Clone, Copy)]
 pub enum Growth {
     /// It is as it was, and each point of the block was held.
     Same,

@@ -50,16 +50,31 @@ fn round_at_prices<A: AskPricer>(
     ensures task { IsTask (task_at task.entry.now pool.new) }
 {
     let _columns = task.program.columns();
-    let round = ask_blocks(alloc, task, pool, asker, &mixed.shown, &mut work.scratch)?;
+    let Ok(round) = ask_blocks(alloc, task, pool, asker, &mixed.shown, &mut work.scratch) else {
+        drop(mixed);
+        return Err(AllocError);
+    };
     let multipliers = mixed.shown.multipliers.as_slice();
-    let summed = sum_at_prices(alloc, task, multipliers, &round, &mut work.lagrange)?;
+    let Ok(summed) = sum_at_prices(alloc, task, multipliers, &round, &mut work.lagrange) else {
+        drop(round);
+        drop(mixed);
+        return Err(AllocError);
+    };
     let best = work.best;
     work.best = raised(&best, &summed);
+    let Mixed {
+        shown,
+        weights,
+        cost,
+    } = mixed;
+    drop(shown);
     let closed = PriceAnswer::Closed {
-        bound: mixed.cost,
-        weights: mixed.weights,
+        bound: cost,
+        weights,
     };
-    Ok(decided(&round, &summed, &best, closed))
+    let answer = decided(&round, &summed, &best, closed);
+    drop(round);
+    Ok(answer)
 }
 
 /// One round where there is no mixture of held points.
@@ -85,7 +100,9 @@ fn round_at_farkas<A: AskPricer>(
 {
     let _columns = task.program.columns();
     let round = ask_blocks(alloc, task, pool, asker, shown, &mut work.scratch)?;
-    Ok(decided(&round, &Summed::Nothing, &work.best, PriceAnswer::NoPoint))
+    let answer = decided(&round, &Summed::Nothing, &work.best, PriceAnswer::NoPoint);
+    drop(round);
+    Ok(answer)
 }
 
 /// One round: what is answered behind it, if no further one is to be asked.
@@ -122,7 +139,11 @@ fn one_round<A: AskPricer>(
             };
             round_at_prices(alloc, task, pool, asker, mixed, work)
         }
-        MasterAnswer::Farkas { shown } => round_at_farkas(alloc, task, pool, asker, &shown, work),
+        MasterAnswer::Farkas { shown } => {
+            let answer = round_at_farkas(alloc, task, pool, asker, &shown, work);
+            drop(shown);
+            answer
+        }
         MasterAnswer::Unsolved { cause } => {
             Ok(Some(with_cause(&work.best, PriceCause::Master { cause })))
         }

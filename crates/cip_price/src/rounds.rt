@@ -66,10 +66,14 @@ fn closed_answer(
         ≡ decision_unless round.now.is_empty round.now.gap round.now.growth summed.now best.now closed }
 {
     if round.is_empty {
+        drop(closed);
         return Some(PriceAnswer::NoPoint);
     }
     match round.gap {
-        Some(block) => open_answer(block, round.growth, summed, best),
+        Some(block) => {
+            drop(closed);
+            open_answer(block, round.growth, summed, best)
+        }
         None => Some(closed),
     }
 }
@@ -84,7 +88,10 @@ pub(crate) fn decided(
     ensures { result ≡ decision round.now summed.now best.now closed round.now.growth }
 {
     match round.growth {
-        Growth::Full => Some(with_cause(best, PriceCause::PoolFull)),
+        Growth::Full => {
+            drop(closed);
+            Some(with_cause(best, PriceCause::PoolFull))
+        }
         Growth::Same => closed_answer(round, summed, best, closed),
         Growth::Grown => closed_answer(round, summed, best, closed),
     }

@@ -1,5 +1,5 @@
 //! What pricing is asked of.
-use cip_decomposition::Decomposed;
+use cip_lagrange::Decomposed;
 use cip_lin::Bounds;
 use cip_model::Program;
 

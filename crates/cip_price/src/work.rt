@@ -39,9 +39,18 @@ impl PriceWork {
         ensures best { IfOk result (λ work. work.best ≡ None) }
     {
         let columns = task.program.columns();
-        let scratch = Scratch::new(alloc, columns)?;
-        let lagrange = LagrangeScratch::new(alloc, task.program, task.blocks)?;
-        let master = master_of(alloc, task, pool)?;
+        let Ok(scratch) = Scratch::new(alloc, columns) else {
+            return Err(AllocError);
+        };
+        let Ok(lagrange) = LagrangeScratch::new(alloc, task.program, task.blocks) else {
+            drop(scratch);
+            return Err(AllocError);
+        };
+        let Ok(master) = master_of(alloc, task, pool) else {
+            drop(scratch);
+            drop(lagrange);
+            return Err(AllocError);
+        };
         Ok(PriceWork {
             master,
             scratch,

@@ -69,11 +69,11 @@ picked_joined count who (o ∷ os) (b ∷ bs) values e each i =
 
 -- ---- lengths of combinations
 
-scale-long : (c : ℚ) (xs : List ℚ) → length (scale_list c xs) ≡ length xs
+pub scale-long : (c : ℚ) (xs : List ℚ) → length (scale_list c xs) ≡ length xs
 scale-long c [] = refl
 scale-long c (x ∷ xs) = ap suc (scale-long c xs)
 
-add-long : (n : ℕ) (xs ys : List ℚ) → length xs ≡ n → length ys ≡ n → length (add_lists xs ys) ≡ n
+pub add-long : (n : ℕ) (xs ys : List ℚ) → length xs ≡ n → length ys ≡ n → length (add_lists xs ys) ≡ n
 add-long n [] ys e f = f
 add-long n (x ∷ xs) [] e f = e
 add-long zero (x ∷ xs) (y ∷ ys) e f = absurd (omega (arith, e))

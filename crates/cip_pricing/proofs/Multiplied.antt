@@ -23,7 +23,7 @@ use Rattle.cip_pricing.specs.Mixtures.{Held, total}
 use Rattle.cip_pricing.specs.LeastCosts.{side_product, side_total, row_total, AreRests, sum_below, price_total, ShowsLeast}
 use Rattle.cip_pricing.specs.MasterForms.{master_form, weight_sides, master_box, reduced_cost, reduced_costs}
 use Rattle.cip_pricing.proofs.Picked.{length_picked}
-use Rattle.cip_pricing.proofs.Masters.{master_shows}
+use Rattle.cip_pricing.proofs.Masters.{master_shows, scale-long, add-long}
 use Rattle.cip_pricing.specs.MasterPrograms.{IsMasterRow, IsSumRow, AreSumRows, IsMasterProgram}
 use Rattle.cip_pricing.proofs.Spread.{unmixed, dot-master_form}
 use Rattle.cip_pricing.proofs.Sums.{masters_total, price_from, sums_total}
@@ -34,16 +34,6 @@ use Rattle.cip_pricing.proofs.Sums.{masters_total, price_from, sums_total}
 record HasRests (columns : ℕ) (costs ys : List ℚ) (rows : List Row) : Type 0 where
   pub rests : List ℚ
   pub are : AreRests columns costs ys rows rests
-
-add-long : (n : ℕ) (xs ys : List ℚ) → length xs ≡ n → length ys ≡ n → length (add_lists xs ys) ≡ n
-add-long n [] ys e f = f
-add-long n (x ∷ xs) [] e f = e
-add-long zero (x ∷ xs) (y ∷ ys) e f = absurd (omega (arith, e))
-add-long (suc n) (x ∷ xs) (y ∷ ys) e f = ap suc (add-long n xs ys (omega (arith, e)) (omega (arith, f)))
-
-scale-long : (c : ℚ) (xs : List ℚ) → length (scale_list c xs) ≡ length xs
-scale-long c [] = refl
-scale-long c (x ∷ xs) = ap suc (scale-long c xs)
 
 all_left : (columns : ℕ) (costs ys : List ℚ) (rows : List Row) → length costs ≡ columns
     → ((point : List ℚ) → row_total ys rows point ≡ zeroℚ) → HasRests columns costs ys rows

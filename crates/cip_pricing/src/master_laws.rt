@@ -1,6 +1,7 @@
 //! The master program of held points as a linear program, and what its points and its multipliers say of mixtures.
 //! `specs/` holds the definitions.
 // Each function here does nothing. Its contract is one of the laws of the definitions, so that the check proves it.
+
 ghost use Rattle.cip_pricing.specs.MasterExamples.{MasterExample};
 ghost use Rattle.cip_pricing.specs.MasterStatements.{MasterPointsComeToMixtures, MultipliersShow};
 

@@ -13,8 +13,8 @@ use Rattle.cip_tree.specs.Nodes.{TakenNode, Nodes, box_of, shown}
 use Rattle.cip_calls.specs.CoreStates.{CoreState, reduced_of, held_of, IsTakenUp, IsGivenBound}
 use Rattle.cip_calls.specs.Later.{IsLater, IsLaterAt}
 use Rattle.cip_calls.specs.Steps.{HasLeft, IsBack, aged}
-use Rattle.cip_calls.proofs.TurnsPassedOn.{with_tree}
-use Rattle.cip_calls.proofs.TurnsPassedOn.{later_further, narrower_itself, narrower_further}
+use Rattle.cip_calls.proofs.PassedOn.{with_tree}
+use Rattle.cip_calls.proofs.PassedOn.{later_further, narrower_itself, narrower_further}
 use Rattle.cip_calls.specs.Searched.{nodes_given}
 use Rattle.cip_problem.specs.Log.{node_of}
 use Rattle.cip_node.specs.Bounding.{IsMarkOf, IsAsGood, point_of}
@@ -23,13 +23,13 @@ use Rattle.cip_node.specs.declared.bounding.Found.{Found}
 use Rattle.cip_node.specs.declared.ends.NodeEnd.{NodeEnd}
 use Rattle.cip_node.specs.declared.ends.NodeEnd.TheVariants as by
 use Rattle.cip_node.proofs.EndLaws.{Leads, leads_looked, looked_core, entry_before, ended_led, back_led, emptied, none_kept, pruned_ended}
-use Rattle.cip_seats.specs.Seats.{State}
-use Rattle.cip_seats.proofs.Running.{Runs-append}
+use Rattle.cip_plugin.specs.Seats.{State}
+use Rattle.cip_plugin.proofs.Running.{Runs-append}
 use Rattle.cip_roster.specs.KeptRankings.{Room}
 use Rattle.cip_roster.specs.Turns.{IsSound}
 use Rattle.cip_roster.specs.Wished.{Ran}
 use Rattle.cip_calls.specs.ProposalsJudged.{HaveRoom}
-use Rattle.cip_calls.specs.Scratches.{Scratches}
+use Rattle.cip_calls.specs.declared.scratches.Scratches.{Scratches}
 use Rattle.cip_calls.specs.Noted.{HasMoreRows}
 use Rattle.cip_processing.specs.NodesDone.{HasParted, HasEndedBy, IsDone, HasAged}
 use Rattle.cip_processing.specs.NodesReached.{HasMoved, IsFoundAt}

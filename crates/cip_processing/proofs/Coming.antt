@@ -2,18 +2,18 @@
 use Rattle.std.proofs.Common.{◌≡◌, [], refl, sym, subst}
 use Rattle.cip_problem.specs.Program.{Program}
 use Rattle.cip_problem.specs.WellFormed.{columns}
-use Rattle.cip_seats.specs.Seats.{State}
+use Rattle.cip_plugin.specs.Seats.{State}
 use Rattle.cip_roster.specs.KeptRankings.{Room}
 use Rattle.cip_roster.specs.Turns.{IsSound}
 use Rattle.cip_roster.specs.Wished.{Ran}
 use Rattle.cip_tree.specs.Nodes.{TakenNode}
 use Rattle.cip_calls.specs.CoreStates.{CoreState, reduced_of}
 use Rattle.cip_calls.specs.Later.{IsLaterAt}
-use Rattle.cip_calls.proofs.TurnsPassedOn.{later_at_itself}
+use Rattle.cip_calls.proofs.PassedOn.{later_at_itself}
 use Rattle.cip_calls.specs.ProposalsJudged.{HaveRoom}
-use Rattle.cip_calls.specs.Scratches.{Scratches}
+use Rattle.cip_calls.specs.declared.scratches.Scratches.{Scratches}
 use Rattle.cip_calls.specs.Noted.{IsReady, HasCome}
-use Rattle.cip_calls.proofs.TurnsPassedOn.{more_none, more_same}
+use Rattle.cip_calls.proofs.PassedOn.{more_none, more_same}
 
 pub ran_none : (a : State) → Ran a a
 ran_none a = record { steps = []; run = refl }

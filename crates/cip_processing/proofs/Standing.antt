@@ -16,8 +16,8 @@ use Rattle.cip_calls.specs.CoreStates.{CoreState, reduced_of, held_of, rows_lent
 use Rattle.cip_calls.specs.StepsBack.{StepsTaken, point_back, FitsBack}
 use Rattle.cip_calls.specs.Later.{IsLater, IsLaterAt}
 use Rattle.cip_calls.specs.Steps.{IsTried, IsTriedBack}
-use Rattle.cip_calls.proofs.TurnsPassedOn.{work_long}
-use Rattle.cip_calls.proofs.TurnsPassedOn.{no_dearer_trans}
+use Rattle.cip_calls.proofs.PassedOn.{work_long}
+use Rattle.cip_calls.proofs.PassedOn.{no_dearer_trans}
 use Rattle.cip_node.specs.Bounding.{IsAsGood, HasTried, point_of, IsFound, IsBounded}
 use Rattle.cip_node_rules.specs.declared.looks.Looked.{Looked}
 use Rattle.cip_node_rules.specs.declared.looks.Looked.TheVariants as look

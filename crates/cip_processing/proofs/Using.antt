@@ -4,16 +4,16 @@ use Rattle.std.specs.Prelude.{IfOk, OnOk}
 use Rattle.cip_events.specs.Events.{event_at}
 use Rattle.cip_events.specs.declared.events.EventKind.TheVariants.{NodeFocused}
 use Rattle.cip_plugin.specs.Calls.{Ask, Branch, OnEvent}
-use Rattle.cip_seats.specs.Seats.{State, is_settled}
-use Rattle.cip_seats.specs.Steps.{calls_of}
-use Rattle.cip_calls.specs.Judged.{Judged}
+use Rattle.cip_plugin.specs.Seats.{State, is_settled}
+use Rattle.cip_plugin.specs.Steps.{calls_of}
+use Rattle.cip_calls.specs.declared.judged.Judged.{Judged}
 use Rattle.cip_plugin.specs.declared.proposals.Split.{Split}
 use Rattle.cip_node.specs.NodeEnds.{IsLeafEnd}
 use Rattle.cip_node.specs.declared.bounding.Found.{Found}
 use Rattle.cip_node.specs.declared.ends.NodeEnd.{NodeEnd}
 use Rattle.cip_node.specs.declared.ends.NodeEnd.TheVariants as by
 use Rattle.cip_calls.specs.Served.{handed_out, Used}
-use Rattle.cip_calls.proofs.TurnsPassedOn.{used_further, used_first}
+use Rattle.cip_calls.proofs.PassedOn.{used_further, used_first}
 use Rattle.cip_processing.specs.NodesReached.{asks_in_pass, IsUsedIn, IsUsedIf}
 use Rattle.cip_processing.specs.NodesDone.{asks_for_split, asks_until, IsUsedAt, IsEndUsed, IsDoneUsing}
 use Rattle.cip_processing.specs.declared.reached.Reached.{Reached}

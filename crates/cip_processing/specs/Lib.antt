@@ -4,7 +4,7 @@ pub use Rattle.cip_calls.specs.Beginning
 pub use Rattle.cip_node.specs.Bounding
 pub use Rattle.cip_calls.specs.CoreStates
 pub use Rattle.cip_calls.specs.Figures
-pub use Rattle.cip_calls.specs.Judged
+pub use Rattle.cip_calls.specs.declared.judged.Judged
 pub use Rattle.cip_node.specs.KeptNodes
 pub use Rattle.cip_node.specs.Later
 pub use Rattle.cip_node.specs.LeafAnswers

@@ -6,7 +6,7 @@ use Rattle.cip_problem.specs.WellFormed.{columns}
 use Rattle.cip_events.specs.Events.{event_at}
 use Rattle.cip_events.specs.declared.events.EventKind.TheVariants.{NodeFocused}
 use Rattle.cip_plugin.specs.Calls.{Ask, Branch, OnEvent}
-use Rattle.cip_seats.specs.Seats.{State}
+use Rattle.cip_plugin.specs.Seats.{State}
 use Rattle.cip_calls.specs.Mark.{Mark}
 use Rattle.cip_tree.specs.Nodes.{TakenNode, box_of, shown}
 use Rattle.cip_calls.specs.CoreStates.{CoreState, reduced_of, IsKeptIn}
@@ -20,8 +20,8 @@ use Rattle.cip_roster.specs.KeptRankings.{Room}
 use Rattle.cip_roster.specs.Turns.{IsSound}
 use Rattle.cip_roster.specs.Wished.{Ran}
 use Rattle.cip_calls.specs.ProposalsJudged.{HaveRoom}
-use Rattle.cip_calls.specs.Judged.{Judged}
-use Rattle.cip_calls.specs.Scratches.{Scratches}
+use Rattle.cip_calls.specs.declared.judged.Judged.{Judged}
+use Rattle.cip_calls.specs.declared.scratches.Scratches.{Scratches}
 use Rattle.cip_calls.specs.Noted.{HasMoreRows}
 use Rattle.cip_calls.specs.Served.{Used}
 use Rattle.cip_processing.specs.NodesReached.{asks_in_pass}

@@ -2,7 +2,7 @@
 use Rattle.std.specs.Prelude.{◌≡◌, ℕ, false, List, [], ◌∷◌, Option, None, Some}
 use Rattle.cip_tree.specs.Nodes.{TakenNode, region_of, box_of, shown}
 use Rattle.cip_plugin.specs.Calls.{Ask, Propagate, Separate, Search}
-use Rattle.cip_seats.specs.Seats.{State}
+use Rattle.cip_plugin.specs.Seats.{State}
 use Rattle.cip_calls.specs.CoreStates.{CoreState, IsTakenUp}
 use Rattle.cip_calls.specs.Later.{IsLater, IsNarrower}
 use Rattle.cip_node.specs.Bounding.{IsFound}
@@ -14,7 +14,7 @@ use Rattle.cip_node_rules.specs.declared.looks.Looked.{Looked}
 use Rattle.cip_node_rules.specs.declared.looks.Looked.TheVariants as look
 use Rattle.cip_calls.specs.ProposalsJudged.{IsShownEmpty}
 use Rattle.cip_calls.specs.SplitsJudged.{IsPlace}
-use Rattle.cip_calls.specs.Judged.{Judged}
+use Rattle.cip_calls.specs.declared.judged.Judged.{Judged}
 use Rattle.cip_calls.specs.Served.{Used}
 use Rattle.cip_calls.specs.declared.judging.Came.{Came}
 use Rattle.cip_calls.specs.declared.judging.Came.TheVariants as came

@@ -1,9 +1,11 @@
 pub mod Comparisons
 pub mod Fraction
 pub mod Gcd
+pub mod InRange
 pub mod Integers
 pub mod Linear
 pub mod LinearExamples
+pub mod NumberText
 pub mod OnFractions
 pub mod Range
 pub mod Rational

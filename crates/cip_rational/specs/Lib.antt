@@ -1,5 +1,11 @@
 pub mod Fraction
+pub mod FractionText
 pub mod Gcd
+pub mod NumberText
+pub mod Numeral
+pub mod NumeralExamples
+pub mod NumeralStatements
+pub mod NumeralTexts
 pub mod OnFractions
 pub mod Range
 pub mod Rational

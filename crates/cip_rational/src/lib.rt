@@ -1,6 +1,10 @@
-// The rational numbers: their definitions and laws stand in `specs/`, for the contracts of the other crates.
+//! The rational numbers, and the texts that say them: their definitions and laws stand in `specs/`, for the contracts of
+//! the other crates.
 // Each function here does nothing. Its contract is one of the main laws, so that the check proves it.
 #![tactic(auto)]
+
+pub mod number_laws;
+pub mod numerals;
 
 ghost use Rattle.cip_rational.specs.Statements.{OrderedField, RatiosAreFractions, LowestTerms, Rounding, ComparisonIsTotal, SumsStayInRange, ZeroNeverOverflows, CombinationsHold, Values};
 

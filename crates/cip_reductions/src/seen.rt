@@ -1,6 +1,7 @@
 //! The search over a reduced program, seen in the program: its log over the program's columns, and what it says of the
 //! program. `specs/` holds the definitions.
 // Each function here does nothing. Its contract is one of the laws of the definitions, so that the check proves it.
+
 ghost use Rattle.cip_reductions.specs.SeenExamples.{Examples};
 ghost use Rattle.cip_reductions.specs.SeenStatements.{LogsAreSeen, SearchesAreSeen};
 

@@ -4,7 +4,7 @@ use Rattle.std.specs.Prelude.{slice_get}
 use Rattle.std.proofs.lemmas.List.{length-map, take_all}
 use Rattle.std.proofs.lemmas.Option.{none-some, same_Some}
 use Rattle.cip_rational.specs.Rational.{ℚ}
-use Rattle.cip_number_text.specs.NumberText.{fraction_text}
+use Rattle.cip_rational.specs.NumberText.{fraction_text}
 use Rattle.cip_leaves.specs.Leaf.{at_wholes}
 use Rattle.cip_problem.specs.Program.{Choice}
 use Rattle.cip_problem.specs.Choices.{is_open}

@@ -1,7 +1,7 @@
 -- The line of `self` and the sizes, by what is written one after another.
 use Rattle.std.proofs.Common.{◌≡◌, ℕ, List, [], ◌∷◌, ◌++◌, append_assoc}
 use lib.Chars.{codes}
-use Rattle.cip_number_text.specs.NumberText.{natural_text}
+use Rattle.cip_rational.specs.NumberText.{natural_text}
 use Rattle.cip_answers.specs.Figures.{line}
 
 parts_of : (word a b c : List ℕ) → word ++ (a ++ 32 ∷ b ++ 32 ∷ c) ≡ (word ++ a) ++ 32 ∷ b ++ 32 ∷ c

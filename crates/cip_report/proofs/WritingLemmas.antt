@@ -9,14 +9,26 @@ use Rattle.cip_rational.specs.Rational.{ℚ}
 use Rattle.std.specs.Prelude.{pos}
 use Rattle.cip_rational.specs.Rational.{integer, denominator}
 use Rattle.cip_rational.proofs.Rational.Lowest.{numerator-integer, denominator-integer}
-use Rattle.cip_number_text.specs.NumberText.{natural_text, integer_text, denominator_text, fraction_text}
+use Rattle.cip_rational.specs.NumberText.{natural_text, integer_text, denominator_text, fraction_text}
 use Rattle.cip_answers.specs.Figures.{line, point_lines, ray_name, ray_lines}
 use Rattle.cip_report.specs.Writing.{Passes, Writes}
+
+-- the name of what has none
+abbrev pub no_name : List ℕ
+no_name = []
 
 -- two appended to what is known are one
 append_known-append : (old : Option (List ℕ)) (xs ys : List ℕ) → append_known (append_known old xs) ys ≡ append_known old (xs ++ ys)
 append_known-append None xs ys = refl
 append_known-append (Some bytes) xs ys = rw append_assoc refl
+
+none_more : (old : Option (List ℕ)) → old ≡ append_known old []
+none_more None = refl
+none_more (Some bytes) = ap Some (sym (append-nil bytes))
+
+-- a text that is buffered whole
+pub Passes-held : (tells : SinkTells) (text held : List ℕ) → held ≡ text → Passes tells tells text held
+Passes-held tells text held e = record { handed = []; taken = none_more tells.taken; whole = sym e }
 
 -- a text, and then one more, both written
 pub Passes-more : (old mid new : SinkTells) (text held more buffered : List ℕ) → Passes old mid text held → Passes mid new (held ++ more) buffered → Passes old new (text ++ more) buffered

@@ -1,7 +1,7 @@
 -- The lines of a trace as they are printed, with the name of the plugin in the place of its number.
 use lib.Chars.{codes}
 use Rattle.std.specs.Prelude.{ℕ, List, [], ◌∷◌, ◌++◌, map, Option, None, Some, slice_get}
-use Rattle.cip_number_text.specs.NumberText.{natural_text}
+use Rattle.cip_rational.specs.NumberText.{natural_text}
 use Rattle.cip_answers.specs.TraceTexts.{Traced}
 use Rattle.cip_events.specs.Words.{text_of_word}
 use Rattle.cip_events.specs.declared.words.Word.{Word}

@@ -4,7 +4,7 @@ ghost use Rattle.std.specs.Prelude.{◌≡◌, ◌<◌, ◌++◌, ◌∷◌, [],
 ghost use Rattle.cip_io.specs.Faults.{CountsFaults};
 ghost use Rattle.cip_io.specs.Sink.{TakesAll, PushesPart};
 ghost use Rattle.cip_rational.specs.Rational.{ℚ, le_test};
-ghost use Rattle.cip_number_text.specs.NumberText.{fraction_text};
+ghost use Rattle.cip_rational.specs.NumberText.{fraction_text};
 ghost use Rattle.cip_problem.specs.Program as problem;
 ghost use Rattle.cip_problem.specs.Box.{Between, sides_at};
 ghost use Rattle.cip_problem.specs.Choices.{choice_at};

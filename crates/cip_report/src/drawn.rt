@@ -2,7 +2,7 @@
 ghost use Rattle.std.specs.Prelude.{◌≡◌, ◌++◌, MatchResult};
 ghost use Rattle.cip_io.specs.Faults.{CountsFaults};
 ghost use Rattle.cip_io.specs.Sink.{TakesAll, PushesPart};
-ghost use Rattle.cip_number_text.specs.NumberText.{natural_text};
+ghost use Rattle.cip_rational.specs.NumberText.{natural_text};
 ghost use Rattle.cip_answers.specs.Figures.{line};
 ghost use Rattle.cip_answers.specs.SelfTexts.{sizes_text, drawn_lines, outcome_lines, self_text};
 ghost use Rattle.cip_report.specs.Answers.{figures_of};

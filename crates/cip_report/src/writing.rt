@@ -4,7 +4,7 @@ ghost use lib.Chars.{codes};
 ghost use Rattle.cip_leaves.specs.Leaf.{at_wholes};
 ghost use Rattle.cip_io.specs.Faults.{CountsFaults};
 ghost use Rattle.cip_io.specs.Sink.{TakesAll, PushesPart};
-ghost use Rattle.cip_number_text.specs.NumberText.{natural_text, fraction_text};
+ghost use Rattle.cip_rational.specs.NumberText.{natural_text, fraction_text};
 ghost use Rattle.cip_problem.specs.WellFormed.{columns};
 ghost use Rattle.cip_problem.specs.Points.{printed};
 ghost use Rattle.cip_problem.specs.Choices.{choice_at, is_open};

@@ -11,12 +11,12 @@ use Rattle.cip_plugin.specs.Calls.{Init, InitSolve}
 use Rattle.cip_events.specs.Names.{shown_name}
 use Rattle.cip_events.specs.declared.traces.TraceLine.{TraceLine}
 use Rattle.cip_plugin.specs.Who.{Who}
-use Rattle.cip_seats.specs.declared.stages.Stage.TheVariants.{Fresh, Playing}
-use Rattle.cip_seats.specs.Lives.{LivesAreTold, life, newborn, words_of}
-use Rattle.cip_seats.specs.Seats.{Seat, Standing, State, is_live, held_count}
-use Rattle.cip_seats.specs.Steps.{Step, IsSeated, Runs}
-use Rattle.cip_seats.specs.Wishing.{begins, begun_with}
-use Rattle.cip_seats.proofs.Running.{Runs-append, run_lives}
+use Rattle.cip_plugin.specs.declared.stages.Stage.TheVariants.{Fresh, Playing}
+use Rattle.cip_plugin.specs.Lives.{LivesAreTold, life, newborn, words_of}
+use Rattle.cip_plugin.specs.Seats.{Seat, Standing, State, is_live, held_count}
+use Rattle.cip_plugin.specs.Steps.{Step, IsSeated, Runs}
+use Rattle.cip_plugin.specs.Wishing.{begins, begun_with}
+use Rattle.cip_plugin.proofs.Running.{Runs-append, run_lives}
 use Rattle.cip_roster.specs.Begun.{AreSeated, IsBegun, IsFresh, IsPlaying, all_begin}
 use Rattle.cip_roster.specs.KeptRankings.{Room, no_rankings}
 use Rattle.cip_roster.specs.Shelves.{shown}

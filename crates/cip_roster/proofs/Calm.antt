@@ -9,11 +9,11 @@ use Rattle.cip_events.specs.declared.words.Word.TheVariants as say
 use Rattle.cip_plugin.specs.declared.kinds.Kind.{Kind}
 use Rattle.cip_plugin.specs.Calls.{Ask, Answer, Cuts, Reductions, Prices, Guesses, Splits, Says, Wishes, NoAnswer, Init, InitSolve, Asked, ExitSolve, Exit}
 use Rattle.cip_plugin.specs.Asking.{asks, count_past}
-use Rattle.cip_seats.specs.Seats.{Standing, Seat, State, is_alive, is_playing, is_settled, live_count}
-use Rattle.cip_seats.specs.Steps.{Step, Calls, Notes, Turns, Ranks, Takes, Steps, Runs, Sat, IsCalled, is_note}
-use Rattle.cip_seats.specs.Calling.{all_turns, dropped, turn_of}
-use Rattle.cip_seats.proofs.Lists.{set_self}
-use Rattle.cip_seats.proofs.Onward.{ask_stands}
+use Rattle.cip_plugin.specs.Seats.{Standing, Seat, State, is_alive, is_playing, is_settled, live_count}
+use Rattle.cip_plugin.specs.Steps.{Step, Calls, Notes, Turns, Ranks, Takes, Steps, Runs, Sat, IsCalled, is_note}
+use Rattle.cip_plugin.specs.Calling.{all_turns, dropped, turn_of}
+use Rattle.cip_plugin.proofs.Lists.{set_self}
+use Rattle.cip_plugin.proofs.Onward.{ask_stands}
 use Rattle.cip_roster.specs.Turns.{CanBeAsked}
 use Rattle.cip_roster.proofs.Keeping.{at_place}
 

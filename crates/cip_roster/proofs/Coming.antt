@@ -7,11 +7,11 @@ use Rattle.std.proofs.lemmas.List.Sums.{count_by-le-length}
 use Rattle.cip_events.specs.declared.traces.TraceLine.{TraceLine}
 use Rattle.cip_events.specs.Names.{shown_name}
 use Rattle.cip_plugin.specs.Who.{Who}
-use Rattle.cip_seats.specs.declared.stages.Stage.TheVariants.{Fresh}
-use Rattle.cip_seats.specs.Seats.{Seat, Standing, State, is_live, live_count}
-use Rattle.cip_seats.specs.Steps.{IsSeated, Runs, Takes}
-use Rattle.cip_seats.proofs.Lists.{get_last}
-use Rattle.cip_seats.specs.Wishing.{place_fault}
+use Rattle.cip_plugin.specs.declared.stages.Stage.TheVariants.{Fresh}
+use Rattle.cip_plugin.specs.Seats.{Seat, Standing, State, is_live, live_count}
+use Rattle.cip_plugin.specs.Steps.{IsSeated, Runs, Takes}
+use Rattle.cip_plugin.proofs.Lists.{get_last}
+use Rattle.cip_plugin.specs.Wishing.{place_fault}
 use Rattle.cip_roster.specs.Shelves.{shown}
 use Rattle.cip_roster.specs.Turns.{StandsAt}
 use Rattle.cip_roster.proofs.Wishes.{held_by}
@@ -65,6 +65,28 @@ came_shown {A = A} who xs place x r dest p a b shows fine read same is none late
     ∙ ap (λ (o : Option A). set (map (shown who) xs) place (shown who o)) none
     ∙ ap (λ (places : List (Option Who)). set places place None) (sym shows))
     seated.1 seated.2 names kept lines
+
+-- a place with which nothing is wrong is within the shelf that is shown
+pub place_within : {A : Type 0} (who : A → Who) (xs : List (Option A)) (place n : ℕ) → n ≡ length xs
+    → place_fault (slice_get (map (shown who) xs) place) ≡ None → place < n
+place_within who xs place n count fine =
+    let there = held_by (slice_get (map (shown who) xs) place) fine in
+    let far : place < length (map (shown who) xs) =
+    slice_get_within (map (shown who) xs) place (Some there.0) there.1 in
+    let many : length (map (shown who) xs) ≡ length xs = length-map xs (shown who) in
+    omega arith
+
+-- it holds a plugin
+pub place_holds : {A : Type 0} (who : A → Who) (xs : List (Option A)) (place : ℕ) (x r : Option A)
+    → place_fault (slice_get (map (shown who) xs) place) ≡ None → x ≡ get_or xs place x → r ≡ x → r ≡ None → ⊥
+place_holds {A = A} who xs place x r fine read same none =
+    let there = held_by (slice_get (map (shown who) xs) place) fine in
+    let far : place < length xs = place_within who xs place (length xs) refl fine in
+    let at : slice_get xs place ≡ Some x = slice_get_read xs (length xs) place x refl far read in
+    let clash : Some (Some there.0) ≡ Some None =
+    sym there.1 ∙ slice_get-map (shown who) xs place ∙ ap (option_map (shown who)) at
+    ∙ ap (λ (o : Option A). Some (shown who o)) (sym same ∙ none) in
+    cc
 
 -- it stands there uncalled
 pub came_fresh : (xs : List Seat) (b : State) (who : Who) (seat : Seat) → IsSeated who seat → b.seats ≡ xs ++ seat ∷ []

@@ -5,14 +5,14 @@ use Rattle.cip_events.specs.declared.events.Event.{Event}
 use Rattle.cip_plugin.specs.Calls.{Ask}
 use Rattle.cip_plugin.specs.declared.asking.Given.{Given}
 use Rattle.cip_plugin.specs.declared.kinds.Kind.{Kind}
-use Rattle.cip_seats.specs.Seats.{State}
-use Rattle.cip_seats.specs.Steps.{Step, Runs}
-use Rattle.cip_seats.specs.Calling.{turn_of}
-use Rattle.cip_seats.specs.Delivering.{Delivered}
-use Rattle.cip_seats.specs.Wishing.{raised_in}
-use Rattle.cip_seats.proofs.Counting.{left_over, run_measure}
-use Rattle.cip_seats.proofs.Running.{Runs-append}
-use Rattle.cip_seats.specs.Calling.{all_turns}
+use Rattle.cip_plugin.specs.Seats.{State}
+use Rattle.cip_plugin.specs.Steps.{Step, Runs}
+use Rattle.cip_plugin.specs.Calling.{turn_of}
+use Rattle.cip_plugin.specs.Delivering.{Delivered}
+use Rattle.cip_plugin.specs.Wishing.{raised_in}
+use Rattle.cip_plugin.proofs.Counting.{left_over, run_measure}
+use Rattle.cip_plugin.proofs.Running.{Runs-append}
+use Rattle.cip_plugin.specs.Calling.{all_turns}
 use Rattle.cip_roster.specs.Turns.{CalledKind, HadTurn}
 use Rattle.cip_roster.specs.Wished.{Ran, WasTold}
 use Rattle.cip_roster.proofs.Throughout.{ToldSoFar, told_all}

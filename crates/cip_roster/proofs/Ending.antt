@@ -7,11 +7,11 @@ use Rattle.std.proofs.lemmas.Option.{same_Some, slice_get_within}
 use Rattle.std.proofs.lemmas.List.{length-map, map-append, take_all}
 use Rattle.std.proofs.lemmas.List.Sums.{sum_by-cons}
 use Rattle.cip_plugin.specs.Who.{Who}
-use Rattle.cip_seats.specs.declared.stages.Stage.TheVariants.{Gone}
-use Rattle.cip_seats.specs.Seats.{Seat, State, held_count, is_alive, is_live, live_count}
-use Rattle.cip_seats.specs.Steps.{Step, Runs}
-use Rattle.cip_seats.specs.Wishing.{ends}
-use Rattle.cip_seats.proofs.Running.{Runs-append}
+use Rattle.cip_plugin.specs.declared.stages.Stage.TheVariants.{Gone}
+use Rattle.cip_plugin.specs.Seats.{Seat, State, held_count, is_alive, is_live, live_count}
+use Rattle.cip_plugin.specs.Steps.{Step, Runs}
+use Rattle.cip_plugin.specs.Wishing.{ends}
+use Rattle.cip_plugin.proofs.Running.{Runs-append}
 use Rattle.cip_roster.specs.KeptRankings.{Room}
 use Rattle.cip_roster.specs.Turns.{IsSound, StandsAt}
 use Rattle.cip_roster.specs.Closed.{Back, all_end, back, backs, lives_there, shelf_backs}

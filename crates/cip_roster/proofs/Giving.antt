@@ -10,10 +10,10 @@ use Rattle.cip_plugin.specs.Asking.{answer_of, first_part}
 use Rattle.cip_plugin.specs.declared.asking.Given.{Given}
 use Rattle.cip_plugin.specs.declared.kinds.Kind.{Kind}
 use Rattle.cip_plugin.specs.declared.kinds.Kind.TheVariants as kinds
-use Rattle.cip_seats.specs.declared.keys.Key.{Key}
-use Rattle.cip_seats.specs.Seats.{State}
-use Rattle.cip_seats.specs.Steps.{Step, Runs}
-use Rattle.cip_seats.specs.Calling.{all_turns, given_of, ids_of, is_answer, turn_of}
+use Rattle.cip_plugin.specs.declared.keys.Key.{Key}
+use Rattle.cip_plugin.specs.Seats.{State}
+use Rattle.cip_plugin.specs.Steps.{Step, Runs}
+use Rattle.cip_plugin.specs.Calling.{all_turns, given_of, ids_of, is_answer, turn_of}
 use Rattle.cip_roster.specs.Turns.{CalledBoth, CalledKind, HadTurn}
 use Rattle.cip_roster.specs.Nexts.{AskedNext, CalledNext, IsNext}
 use Rattle.cip_roster.proofs.Ranking.{next_seated, ranked_seated}

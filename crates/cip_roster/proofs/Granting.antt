@@ -8,15 +8,15 @@ use Rattle.cip_events.specs.declared.events.EventKind.TheVariants.{PluginInclude
 use Rattle.cip_plugin.specs.Calls.{Ask, Call, Init, InitSolve, ExitSolve, Exit}
 use Rattle.cip_plugin.specs.declared.proposals.Wish.{Wish}
 use Rattle.cip_plugin.specs.declared.proposals.Wish.TheVariants.{Include, Disable, Enable, Free, Priority}
-use Rattle.cip_seats.specs.Seats.{State}
-use Rattle.cip_seats.specs.Steps.{Step, Notes, Turns, Runs, calls_of, asks_in}
-use Rattle.cip_seats.specs.Wishing.{Grants, begun_with, begins, ends, fault_of, is_enabled, raised_by, raised_in}
-use Rattle.cip_seats.proofs.Counting.{raised_in-append}
-use Rattle.cip_seats.proofs.Hearing.{asks_in-append}
-use Rattle.cip_seats.proofs.Running.{Runs-append, calls_of-append}
-use Rattle.cip_seats.specs.declared.faults.WishFault.{WishFault}
-use Rattle.cip_seats.specs.Delivering.{IsTried, Names}
-use Rattle.cip_seats.specs.declared.faults.WishFault.TheVariants.{NoMemory}
+use Rattle.cip_plugin.specs.Seats.{State}
+use Rattle.cip_plugin.specs.Steps.{Step, Notes, Turns, Runs, calls_of, asks_in}
+use Rattle.cip_plugin.specs.Wishing.{Grants, begun_with, begins, ends, fault_of, is_enabled, raised_by, raised_in}
+use Rattle.cip_plugin.proofs.Counting.{raised_in-append}
+use Rattle.cip_plugin.proofs.Hearing.{asks_in-append}
+use Rattle.cip_plugin.proofs.Running.{Runs-append, calls_of-append}
+use Rattle.cip_plugin.specs.declared.faults.WishFault.{WishFault}
+use Rattle.cip_plugin.specs.Delivering.{IsTried, Names}
+use Rattle.cip_plugin.specs.declared.faults.WishFault.TheVariants.{NoMemory}
 use Rattle.cip_roster.specs.Wished.{IsNoted, TookQuietly, WasGranted, WasRefused}
 use Rattle.cip_roster.proofs.Trying.{in_turn_append, in_turn_one}
 

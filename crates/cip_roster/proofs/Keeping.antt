@@ -2,10 +2,10 @@
 use Rattle.std.proofs.Common.{◌≡◌, ℕ, List, [], ◌∷◌, ◌++◌, Option, None, Some, true, cond, subst, refl, All}
 use Rattle.std.specs.Prelude.{slice_get, IsSome}
 use Rattle.std.proofs.lemmas.Option.{slice_get_within, get_or_from_slice_get}
-use Rattle.cip_seats.specs.Seats.{State}
+use Rattle.cip_plugin.specs.Seats.{State}
 use Rattle.cip_events.specs.declared.words.Word.{Word}
-use Rattle.cip_seats.specs.Steps.{Notes, Runs, is_note, line}
-use Rattle.cip_seats.proofs.Joining.{noted_once}
+use Rattle.cip_plugin.specs.Steps.{Notes, Runs, is_note, line}
+use Rattle.cip_plugin.proofs.Joining.{noted_once}
 
 -- what holds of all holds of what stands at a place
 pub at_place : {A : Type 0} (P : A → Type 0) (xs : List A) (i : ℕ) (x : A) → slice_get xs i ≡ Some x → All P xs → P x

@@ -12,18 +12,18 @@ use Rattle.cip_plugin.specs.Asking.{answer_of, count_past, first_part}
 use Rattle.cip_events.specs.declared.words.Word.TheVariants as say
 use Rattle.cip_plugin.specs.declared.asking.Given.{Given}
 use Rattle.cip_plugin.specs.declared.kinds.Kind.TheVariants as kinds
-use Rattle.cip_seats.specs.declared.keys.Key.{Key}
-use Rattle.cip_seats.specs.Seats.{Seat, State, is_on, is_settled}
-use Rattle.cip_seats.specs.Steps.{Step, Notes, Runs, calls_of, asks_in}
-use Rattle.cip_seats.specs.Calling.{dropped, ids_of, is_ready, keys_from, same_kind, turn_of}
-use Rattle.cip_seats.specs.Wishing.{IsOnThroughout, hears, is_to_hear, raised_in}
-use Rattle.cip_seats.proofs.Counting.{count_pushed, raised_in-append}
-use Rattle.cip_seats.proofs.Hearing.{times, times_of_keys, turn_asks}
-use Rattle.cip_seats.proofs.Onward.{Later}
-use Rattle.cip_seats.proofs.Running.{Runs-append, run_follows}
+use Rattle.cip_plugin.specs.declared.keys.Key.{Key}
+use Rattle.cip_plugin.specs.Seats.{Seat, State, is_on, is_settled}
+use Rattle.cip_plugin.specs.Steps.{Step, Notes, Runs, calls_of, asks_in}
+use Rattle.cip_plugin.specs.Calling.{dropped, ids_of, is_ready, keys_from, same_kind, turn_of}
+use Rattle.cip_plugin.specs.Wishing.{IsOnThroughout, hears, is_to_hear, raised_in}
+use Rattle.cip_plugin.proofs.Counting.{count_pushed, raised_in-append}
+use Rattle.cip_plugin.proofs.Hearing.{times, times_of_keys, turn_asks}
+use Rattle.cip_plugin.proofs.Onward.{Later}
+use Rattle.cip_plugin.proofs.Running.{Runs-append, run_follows}
 use Rattle.cip_roster.specs.Turns.{HadTurn, HandsOn}
-use Rattle.cip_seats.specs.Delivering.{ComesTo, InTurn, IsTried, hears_there, wishes_in}
-use Rattle.cip_seats.specs.Ranks.{rank_order}
+use Rattle.cip_plugin.specs.Delivering.{ComesTo, InTurn, IsTried, hears_there, wishes_in}
+use Rattle.cip_plugin.specs.Ranks.{rank_order}
 use Rattle.cip_plugin.specs.declared.proposals.Wish.{Wish}
 use Rattle.cip_roster.specs.Wished.{TookQuietly, WasTold, WasToldOne}
 use Rattle.cip_roster.proofs.Granting.{steps_ask, took_none}

@@ -13,9 +13,9 @@ use Rattle.cip_plugin.specs.declared.kinds.Kind.{Kind}
 use Rattle.cip_plugin.specs.declared.kinds.Kind.TheVariants as kinds
 use Rattle.cip_plugin.specs.Calls.{Ask}
 use Rattle.cip_plugin.specs.Asking.{asks}
-use Rattle.cip_seats.specs.declared.keys.Key.{Key}
-use Rattle.cip_seats.specs.Seats.{Seat, State, is_on}
-use Rattle.cip_seats.specs.Calling.{is_ready, keys_from, same_kind}
+use Rattle.cip_plugin.specs.declared.keys.Key.{Key}
+use Rattle.cip_plugin.specs.Seats.{Seat, State, is_on}
+use Rattle.cip_plugin.specs.Calling.{is_ready, keys_from, same_kind}
 use Rattle.cip_roster.specs.Turns.{CanBeAsked, ready_key}
 use Rattle.cip_roster.proofs.Throughout.{both_of}
 

@@ -7,12 +7,12 @@ use Rattle.cip_plugin.specs.declared.kinds.Kind.{Kind}
 use Rattle.cip_plugin.specs.declared.kinds.Kind.TheVariants as kinds
 use Rattle.std.proofs.lemmas.Option.{same_Some, slice_get-map, slice_get_past, slice_get_read, slice_get_within}
 use Rattle.std.proofs.lemmas.List.{length-map, map-append, map-set}
-use Rattle.cip_seats.specs.declared.stages.Stage.{Stage}
-use Rattle.cip_seats.specs.Lives.{asked_at, plays, turn, word_of_ask}
-use Rattle.cip_seats.specs.Seats.{Seat, Standing, State, is_playing}
-use Rattle.cip_seats.specs.Steps.{IsCalled, Sat}
-use Rattle.cip_seats.specs.Wishing.{is_enabled}
-use Rattle.cip_seats.proofs.Lists.{get_set_same}
+use Rattle.cip_plugin.specs.declared.stages.Stage.{Stage}
+use Rattle.cip_plugin.specs.Lives.{asked_at, plays, turn, word_of_ask}
+use Rattle.cip_plugin.specs.Seats.{Seat, Standing, State, is_playing}
+use Rattle.cip_plugin.specs.Steps.{IsCalled, Sat}
+use Rattle.cip_plugin.specs.Wishing.{is_enabled}
+use Rattle.cip_plugin.proofs.Lists.{get_set_same}
 use Rattle.cip_roster.specs.Turns.{StandsAt}
 
 -- a place that is shown is there

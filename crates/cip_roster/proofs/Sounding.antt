@@ -3,13 +3,13 @@ use Rattle.std.proofs.Common.{◌≡◌, ℕ, zero, suc, ◌+◌, ◌*◌, ◌�
 use Rattle.std.specs.Prelude.{slice_get, is_some, not, ◌||◌}
 use Rattle.std.proofs.lemmas.Bool.{cases_eq}
 use Rattle.std.proofs.lemmas.Option.{same_Some}
-use Rattle.cip_seats.specs.declared.stages.Stage.{Stage}
-use Rattle.cip_seats.specs.declared.stages.Stage.TheVariants.{Playing, Gone}
-use Rattle.cip_seats.specs.Seats.{Seat, State, is_alive, is_live, is_playing, is_settled, live_count, held_count}
-use Rattle.cip_seats.specs.Steps.{Step, Calls, Notes, Turns, Ranks, Takes, Steps, Runs, Sat, IsCalled, IsTurned, Taken, is_note}
-use Rattle.cip_seats.specs.Wishing.{begins, ends, raised_in}
-use Rattle.cip_seats.proofs.Counting.{count_pushed, count_set, run_measure}
-use Rattle.cip_seats.proofs.Lists.{get_set_other}
+use Rattle.cip_plugin.specs.declared.stages.Stage.{Stage}
+use Rattle.cip_plugin.specs.declared.stages.Stage.TheVariants.{Playing, Gone}
+use Rattle.cip_plugin.specs.Seats.{Seat, State, is_alive, is_live, is_playing, is_settled, live_count, held_count}
+use Rattle.cip_plugin.specs.Steps.{Step, Calls, Notes, Turns, Ranks, Takes, Steps, Runs, Sat, IsCalled, IsTurned, Taken, is_note}
+use Rattle.cip_plugin.specs.Wishing.{begins, ends, raised_in}
+use Rattle.cip_plugin.proofs.Counting.{count_pushed, count_set, run_measure}
+use Rattle.cip_plugin.proofs.Lists.{get_set_other}
 use Rattle.cip_roster.specs.KeptRankings.{Room, no_rankings}
 use Rattle.cip_roster.specs.Turns.{IsSound, StandsAt}
 use Rattle.cip_roster.proofs.Calm.{all_at}

@@ -7,14 +7,14 @@ use Rattle.cip_events.specs.declared.events.Event.{Event}
 use Rattle.cip_events.specs.Events.{wants}
 use Rattle.cip_plugin.specs.Calls.{Ask, OnEvent}
 use Rattle.cip_plugin.specs.declared.kinds.Kind.TheVariants as kinds
-use Rattle.cip_seats.specs.Seats.{Seat, State, is_live, is_on, is_playing, is_settled}
-use Rattle.cip_seats.specs.Steps.{Step, Runs, calls_of, asks_in}
-use Rattle.cip_seats.specs.Calling.{same_kind}
-use Rattle.cip_seats.specs.Delivering.{ComesToAll, Delivered, InTurn}
-use Rattle.cip_seats.specs.Wishing.{IsOnThroughout, hears, raised_in, to_each}
-use Rattle.cip_seats.proofs.Counting.{raised_in-append}
-use Rattle.cip_seats.proofs.Onward.{Later, playing_alive}
-use Rattle.cip_seats.proofs.Running.{Runs-append, run_follows}
+use Rattle.cip_plugin.specs.Seats.{Seat, State, is_live, is_on, is_playing, is_settled}
+use Rattle.cip_plugin.specs.Steps.{Step, Runs, calls_of, asks_in}
+use Rattle.cip_plugin.specs.Calling.{same_kind}
+use Rattle.cip_plugin.specs.Delivering.{ComesToAll, Delivered, InTurn}
+use Rattle.cip_plugin.specs.Wishing.{IsOnThroughout, hears, raised_in, to_each}
+use Rattle.cip_plugin.proofs.Counting.{raised_in-append}
+use Rattle.cip_plugin.proofs.Onward.{Later, playing_alive}
+use Rattle.cip_plugin.proofs.Running.{Runs-append, run_follows}
 use Rattle.cip_roster.specs.Wished.{WasTold}
 use Rattle.cip_roster.proofs.Granting.{steps_ask}
 use Rattle.cip_roster.proofs.Keeping.{at_place}

@@ -1,8 +1,8 @@
 -- One after the other, put together.
 use Rattle.std.proofs.Common.{List, [], ◌∷◌, ◌++◌, sym, ◌∙◌, ap, subst, refl, append_assoc, append-nil}
-use Rattle.cip_seats.specs.Seats.{State}
-use Rattle.cip_seats.specs.Steps.{Step}
-use Rattle.cip_seats.specs.Delivering.{InTurn}
+use Rattle.cip_plugin.specs.Seats.{State}
+use Rattle.cip_plugin.specs.Steps.{Step}
+use Rattle.cip_plugin.specs.Delivering.{InTurn}
 
 -- one alone
 pub in_turn_one : {X : Type 0} (Does : X → State → List Step → State → Type 0) (x : X) (a b : State) (steps : List Step)

@@ -8,13 +8,13 @@ use Rattle.cip_plugin.specs.declared.asking.Given.{Given}
 use Rattle.cip_plugin.specs.declared.asking.Given.TheVariants as given
 use Rattle.std.specs.Prelude.{slice_get, IsSome}
 use Rattle.cip_plugin.specs.declared.kinds.Kind.{Kind}
-use Rattle.cip_seats.specs.declared.keys.Key.{Key}
-use Rattle.cip_seats.specs.declared.stages.Stage.{Stage}
-use Rattle.cip_seats.specs.Seats.{Seat, State, live_count}
-use Rattle.cip_seats.specs.Steps.{Step, Calls, Notes, Runs, is_note, line}
-use Rattle.cip_seats.specs.Wishing.{begun_with, ends}
-use Rattle.cip_seats.specs.Calling.{Called, all_turns, dropped, given_of, ids_of, is_answer, noted, turn_of}
-use Rattle.cip_seats.proofs.Running.{Runs-append, run_stays}
+use Rattle.cip_plugin.specs.declared.keys.Key.{Key}
+use Rattle.cip_plugin.specs.declared.stages.Stage.{Stage}
+use Rattle.cip_plugin.specs.Seats.{Seat, State, live_count}
+use Rattle.cip_plugin.specs.Steps.{Step, Calls, Notes, Runs, is_note, line}
+use Rattle.cip_plugin.specs.Wishing.{begun_with, ends}
+use Rattle.cip_plugin.specs.Calling.{Called, all_turns, dropped, given_of, ids_of, is_answer, noted, turn_of}
+use Rattle.cip_plugin.proofs.Running.{Runs-append, run_stays}
 use Rattle.cip_roster.specs.Turns.{CalledKind, CanBeAsked, HadTurn, HandsOn, IsSound, StandsAt, entries, handed}
 use Rattle.cip_roster.specs.KeptRankings.{AreRanked, IsRanking, Room}
 use Rattle.cip_roster.proofs.Calm.{asked_still, run_calm, turn_calm, turns_calm}

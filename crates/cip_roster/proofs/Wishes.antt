@@ -6,14 +6,14 @@ use Rattle.cip_plugin.specs.Who.{Who}
 use Rattle.cip_plugin.specs.Calls.{Init, InitSolve}
 use Rattle.cip_plugin.specs.declared.proposals.Wish.{Wish}
 use Rattle.cip_plugin.specs.declared.proposals.Wish.TheVariants.{Include, Disable, Enable, Free, Priority}
-use Rattle.cip_seats.specs.declared.faults.WishFault.TheVariants as faults
-use Rattle.cip_seats.specs.declared.stages.Stage.TheVariants.{Fresh, Begun, Playing, Left, Gone}
-use Rattle.cip_seats.specs.declared.stages.Stage.{Stage}
-use Rattle.cip_seats.specs.Seats.{Seat, State, held_count, is_live, is_playing, is_settled}
-use Rattle.cip_seats.specs.Steps.{Turns, Ranks, Takes, Runs}
-use Rattle.cip_seats.specs.Wishing.{Granted, begins, begun_with, ends, fault_of, is_enabled, place_fault, seat_fault}
-use Rattle.cip_seats.proofs.Counting.{count_set}
-use Rattle.cip_seats.proofs.Running.{Runs-append}
+use Rattle.cip_plugin.specs.declared.faults.WishFault.TheVariants as faults
+use Rattle.cip_plugin.specs.declared.stages.Stage.TheVariants.{Fresh, Begun, Playing, Left, Gone}
+use Rattle.cip_plugin.specs.declared.stages.Stage.{Stage}
+use Rattle.cip_plugin.specs.Seats.{Seat, State, held_count, is_live, is_playing, is_settled}
+use Rattle.cip_plugin.specs.Steps.{Turns, Ranks, Takes, Runs}
+use Rattle.cip_plugin.specs.Wishing.{Granted, begins, begun_with, ends, fault_of, is_enabled, place_fault, seat_fault}
+use Rattle.cip_plugin.proofs.Counting.{count_set}
+use Rattle.cip_plugin.proofs.Running.{Runs-append}
 use Rattle.cip_roster.specs.Closed.{lives_there}
 use Rattle.cip_roster.specs.KeptRankings.{Room}
 use Rattle.cip_roster.specs.Turns.{IsLiveAt, IsSound, StandsAt}

@@ -2,10 +2,10 @@
 use Rattle.std.specs.Prelude.{◌≡◌, ℕ, ◌+◌, List, [], ◌∷◌, ◌++◌, map, Some, Bool}
 use Rattle.cip_events.specs.Names.{shown_name}
 use Rattle.cip_plugin.specs.Who.{Who}
-use Rattle.cip_seats.specs.declared.stages.Stage.TheVariants.{Fresh, Playing}
-use Rattle.cip_seats.specs.Seats.{Seat, State}
-use Rattle.cip_seats.specs.Steps.{Step, IsSeated, Runs}
-use Rattle.cip_seats.specs.Wishing.{begins}
+use Rattle.cip_plugin.specs.declared.stages.Stage.TheVariants.{Fresh, Playing}
+use Rattle.cip_plugin.specs.Seats.{Seat, State}
+use Rattle.cip_plugin.specs.Steps.{Step, IsSeated, Runs}
+use Rattle.cip_plugin.specs.Wishing.{begins}
 
 -- plugins as they come to their seats
 abbrev pub AreSeated : List Who → List Seat → Type 0

@@ -1,9 +1,9 @@
 -- How a roster ends.
 use Rattle.std.specs.Prelude.{◌≡◌, ℕ, ◌+◌, List, [], ◌∷◌, ◌++◌, Option, None, Some, Bool, false, All, if◌then◌else◌}
 use Rattle.cip_plugin.specs.Who.{Who}
-use Rattle.cip_seats.specs.Seats.{Seat, State, is_live}
-use Rattle.cip_seats.specs.Steps.{Step, Runs}
-use Rattle.cip_seats.specs.Wishing.{ends}
+use Rattle.cip_plugin.specs.Seats.{Seat, State, is_live}
+use Rattle.cip_plugin.specs.Steps.{Step, Runs}
+use Rattle.cip_plugin.specs.Wishing.{ends}
 
 -- a plugin that is done with: its number, if it had one, and what it means
 pub record Back : Type 0 where

@@ -4,9 +4,9 @@ use Rattle.cip_plugin.specs.Calls.{Ask}
 use Rattle.cip_plugin.specs.Who.{Who}
 use Rattle.cip_plugin.specs.declared.asking.Given.{Given}
 use Rattle.cip_plugin.specs.declared.kinds.Kind.{Kind}
-use Rattle.cip_seats.specs.Lives.{LivesAreTold}
-use Rattle.cip_seats.specs.Seats.{State, held_count}
-use Rattle.cip_seats.specs.Steps.{Step, Runs}
+use Rattle.cip_plugin.specs.Lives.{LivesAreTold}
+use Rattle.cip_plugin.specs.Seats.{State, held_count}
+use Rattle.cip_plugin.specs.Steps.{Step, Runs}
 use Rattle.cip_roster.specs.Begun.{IsBegun}
 use Rattle.cip_roster.specs.Nexts.{CalledNext}
 use Rattle.cip_roster.specs.Turns.{CalledBoth, CalledKind}

@@ -4,10 +4,10 @@ use Rattle.std.specs.Global.{Global}
 use Rattle.std.specs.List.Sorted.{IsPermutation, IsSorted}
 use Rattle.cip_plugin.specs.declared.kinds.Kind.{Kind}
 use Rattle.cip_plugin.specs.declared.kinds.Kind.TheVariants as kinds
-use Rattle.cip_seats.specs.declared.keys.Key.{Key}
-use Rattle.cip_seats.specs.Calling.{is_ready, keys_from}
-use Rattle.cip_seats.specs.Ranks.{rank_order}
-use Rattle.cip_seats.specs.Seats.{Seat}
+use Rattle.cip_plugin.specs.declared.keys.Key.{Key}
+use Rattle.cip_plugin.specs.Calling.{is_ready, keys_from}
+use Rattle.cip_plugin.specs.Ranks.{rank_order}
+use Rattle.cip_plugin.specs.Seats.{Seat}
 use Rattle.cip_roster.specs.declared.rankings.Rankings.{Rankings}
 
 -- the live and enabled plugins of a kind, each once, by falling priority and rising number

@@ -7,4 +7,4 @@ pub mod Nexts
 pub mod Shelves
 pub mod Turns
 pub mod Wished
-pub use Rattle.cip_seats.specs.Seats
+pub use Rattle.cip_plugin.specs.Seats

@@ -6,10 +6,10 @@ use Rattle.std.specs.Ordering.{is_lt}
 use Rattle.cip_plugin.specs.Calls.{Ask}
 use Rattle.cip_plugin.specs.declared.asking.Given.{Given}
 use Rattle.cip_plugin.specs.declared.kinds.Kind.{Kind}
-use Rattle.cip_seats.specs.declared.keys.Key.{Key}
-use Rattle.cip_seats.specs.Seats.{Seat, State}
-use Rattle.cip_seats.specs.Calling.{is_ready, keys_from}
-use Rattle.cip_seats.specs.Ranks.{rank_order}
+use Rattle.cip_plugin.specs.declared.keys.Key.{Key}
+use Rattle.cip_plugin.specs.Seats.{Seat, State}
+use Rattle.cip_plugin.specs.Calling.{is_ready, keys_from}
+use Rattle.cip_plugin.specs.Ranks.{rank_order}
 use Rattle.cip_roster.specs.Turns.{HadTurn}
 
 -- the key of the plugin of a number, as its priority is now

@@ -6,12 +6,12 @@ use Rattle.cip_plugin.specs.Asking.{asks, first_part, answer_of}
 use Rattle.cip_plugin.specs.declared.asking.Given.{Given}
 use Rattle.cip_plugin.specs.declared.kinds.Kind.{Kind}
 use Rattle.cip_plugin.specs.declared.kinds.Kind.TheVariants as kinds
-use Rattle.cip_seats.specs.declared.keys.Key.{Key}
-use Rattle.cip_seats.specs.declared.stages.Stage.{Stage}
-use Rattle.cip_seats.specs.Seats.{Seat, State, is_live, is_on, is_settled, live_count, held_count}
-use Rattle.cip_seats.specs.Steps.{Runs}
-use Rattle.cip_seats.specs.Calling.{Called, is_ready, ids_of, keys_from, turn_of, is_answer}
-use Rattle.cip_seats.specs.Ranks.{rank_order}
+use Rattle.cip_plugin.specs.declared.keys.Key.{Key}
+use Rattle.cip_plugin.specs.declared.stages.Stage.{Stage}
+use Rattle.cip_plugin.specs.Seats.{Seat, State, is_live, is_on, is_settled, live_count, held_count}
+use Rattle.cip_plugin.specs.Steps.{Runs}
+use Rattle.cip_plugin.specs.Calling.{Called, is_ready, ids_of, keys_from, turn_of, is_answer}
+use Rattle.cip_plugin.specs.Ranks.{rank_order}
 use Rattle.cip_roster.specs.KeptRankings.{AreRanked, Room}
 
 -- each plugin may be asked or was closed, numbers are enough for all plugins, there is room for the two last lines of

@@ -4,12 +4,12 @@ use Rattle.cip_events.specs.declared.events.Event.{Event}
 use Rattle.cip_events.specs.declared.words.Word.{Word}
 use Rattle.cip_plugin.specs.Calls.{OnEvent}
 use Rattle.cip_plugin.specs.declared.proposals.Wish.{Wish}
-use Rattle.cip_seats.specs.declared.faults.WishFault.{WishFault}
-use Rattle.cip_seats.specs.declared.faults.WishFault.TheVariants.{NoMemory}
-use Rattle.cip_seats.specs.Seats.{Seat, State}
-use Rattle.cip_seats.specs.Steps.{Step, Notes, Runs, calls_of, asks_in}
-use Rattle.cip_seats.specs.Wishing.{Granted, IsOnThroughout, fault_of, hears, raised_in}
-use Rattle.cip_seats.specs.Delivering.{ComesTo, ComesToAll, InTurn, IsTried, Names}
+use Rattle.cip_plugin.specs.declared.faults.WishFault.{WishFault}
+use Rattle.cip_plugin.specs.declared.faults.WishFault.TheVariants.{NoMemory}
+use Rattle.cip_plugin.specs.Seats.{Seat, State}
+use Rattle.cip_plugin.specs.Steps.{Step, Notes, Runs, calls_of, asks_in}
+use Rattle.cip_plugin.specs.Wishing.{Granted, IsOnThroughout, fault_of, hears, raised_in}
+use Rattle.cip_plugin.specs.Delivering.{ComesTo, ComesToAll, InTurn, IsTried, Names}
 
 -- a wish was granted, and nothing was wrong with it
 pub record WasGranted (wish : Wish) (before after : State) : Type 0 where

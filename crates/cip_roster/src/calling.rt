@@ -3,8 +3,8 @@ ghost use Rattle.std.specs.Prelude.{◌≡◌, ◌+◌, ◌*◌, ◌^◌, ◌≤
 ghost use Rattle.std.specs.List.Sorted.{IsPermutation, IsSorted};
 ghost use Rattle.cip_plugin.specs.Asking.{asks, ask_of};
 ghost use Rattle.cip_plugin.specs.declared.kinds.Kind.TheVariants as kinds;
-ghost use Rattle.cip_seats.specs.Calling.{Called, ids_of, is_ready, keys_from};
-ghost use Rattle.cip_seats.specs.Ranks.{rank_order};
+ghost use Rattle.cip_plugin.specs.Calling.{Called, ids_of, is_ready, keys_from};
+ghost use Rattle.cip_plugin.specs.Ranks.{rank_order};
 ghost use Rattle.cip_roster.specs.KeptRankings.{IsRanking};
 ghost use Rattle.cip_roster.specs.Turns.{IsSound, CanBeAsked, CalledBoth, CalledKind, handed, ready_key};
 ghost use Rattle.cip_roster.specs.Wished.{Ran};
@@ -12,8 +12,7 @@ ghost use Rattle.cip_roster.specs.Wished.{Ran};
 use crate::rosters::Seated;
 use crate::steps::Steps;
 use crate::turns::turn_into;
-use cip_plugin::{Given, Kind, Question, View};
-use cip_seats::Key;
+use cip_plugin::{Given, Key, Kind, Question, View};
 use std::alloc::{AllocError, Global};
 
 /// The key of a plugin that is live, enabled, and of a kind.
@@ -151,9 +150,17 @@ pub(crate) fn call_both<R: Steps>(
     ensures err { OnErr result (Ran (R.state roster.old) (R.state roster.new)) }
 {
     let mut given = Vec::new(alloc);
-    call_kind(roster, alloc, kind, question, view, &mut given)?;
-    call_kind(roster, alloc, Kind::ConsHandler, question, view, &mut given)?;
-    Ok(given)
+    let Ok(()) = call_kind(roster, alloc, kind, question, view, &mut given) else {
+        drop(given);
+        return Err(AllocError);
+    };
+    match call_kind(roster, alloc, Kind::ConsHandler, question, view, &mut given) {
+        Ok(()) => Ok(given),
+        Err(fault) => {
+            drop(given);
+            Err(fault)
+        }
+    }
 }
 
 /// Asks all live and enabled plugins of one kind alone. `Err` comes where a growth was refused, and then nobody was
@@ -173,6 +180,11 @@ pub(crate) fn call_one<R: Steps>(
     ensures err { OnErr result (R.state roster.new ≡ R.state roster.old) }
 {
     let mut given = Vec::new(alloc);
-    call_kind(roster, alloc, kind, question, view, &mut given)?;
-    Ok(given)
+    match call_kind(roster, alloc, kind, question, view, &mut given) {
+        Ok(()) => Ok(given),
+        Err(fault) => {
+            drop(given);
+            Err(fault)
+        }
+    }
 }

@@ -3,9 +3,9 @@ ghost use Rattle.std.specs.Prelude.{◌≡◌, ◌++◌, [], ◌∷◌, IfOk, On
 ghost use Rattle.cip_events.specs.declared.words.Word.TheVariants as say;
 ghost use Rattle.cip_plugin.specs.declared.kinds.Kind.TheVariants as kinds;
 ghost use Rattle.cip_plugin.specs.Calls.{Separate, Propagate, Price, Search, Branch, Enforce};
-ghost use Rattle.cip_seats.specs.Steps.{Runs, Notes};
-ghost use Rattle.cip_seats.specs.Delivering.{Delivered};
-ghost use Rattle.cip_seats.specs.Wishing.{raised_by};
+ghost use Rattle.cip_plugin.specs.Steps.{Runs, Notes};
+ghost use Rattle.cip_plugin.specs.Delivering.{Delivered};
+ghost use Rattle.cip_plugin.specs.Wishing.{raised_by};
 ghost use Rattle.cip_roster.specs.Nexts.{CalledNext};
 ghost use Rattle.cip_roster.specs.Turns.{IsSound, CalledKind, CalledBoth};
 ghost use Rattle.cip_roster.specs.Wished.{Ran, WasGranted, WasRefused};
@@ -17,8 +17,7 @@ use crate::rosters::{Roster, Seated};
 use crate::wishing::{refused as note_refused, wish as try_wish};
 use cip_events::EventQueue;
 use cip_frac::Frac;
-use cip_plugin::{Given, Kind, Question, View, Wish};
-use cip_seats::WishFault;
+use cip_plugin::{Given, Kind, Question, View, Wish, WishFault};
 use std::alloc::{AllocError, Global};
 
 impl Roster {

@@ -1,8 +1,8 @@
 //! How a roster ends.
 ghost use Rattle.std.specs.Prelude.{◌≡◌, ◌+◌, ◌≤◌, [], All, false, length, map, slice_get, if◌then◌else◌, vec_len, vec_capacity};
-ghost use Rattle.cip_seats.specs.Seats.{held_count, is_live};
-ghost use Rattle.cip_seats.specs.Steps.{Runs};
-ghost use Rattle.cip_seats.specs.Wishing.{ends};
+ghost use Rattle.cip_plugin.specs.Seats.{held_count, is_live};
+ghost use Rattle.cip_plugin.specs.Steps.{Runs};
+ghost use Rattle.cip_plugin.specs.Wishing.{ends};
 ghost use Rattle.cip_roster.specs.Turns.{IsSound};
 ghost use Rattle.cip_roster.specs.Closed.{IsClosed, all_end, back, lives_there};
 

@@ -1,7 +1,7 @@
 //! Delivery of events.
 ghost use Rattle.std.specs.Prelude.{◌≡◌, [], ◌∷◌, OnOk, OnErr, IsSome, slice_get};
 ghost use Rattle.cip_plugin.specs.Asking.{answer_of};
-ghost use Rattle.cip_seats.specs.Delivering.{Delivered, wishes_in};
+ghost use Rattle.cip_plugin.specs.Delivering.{Delivered, wishes_in};
 ghost use Rattle.cip_plugin.specs.declared.kinds.Kind.TheVariants as kinds;
 ghost use Rattle.cip_roster.specs.KeptRankings.{IsRanking};
 ghost use Rattle.cip_roster.specs.Turns.{IsSound};
@@ -13,8 +13,7 @@ use crate::steps::Steps;
 use crate::turns::turn;
 use crate::wishing::{refused, wish as try_wish};
 use cip_events::{Event, EventQueue};
-use cip_plugin::{Given, Kind, Question, View, Wish};
-use cip_seats::{Key, WishFault};
+use cip_plugin::{Given, Key, Kind, Question, View, Wish, WishFault};
 use std::alloc::{AllocError, Global};
 
 /// The wishes of what was given.

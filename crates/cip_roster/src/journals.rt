@@ -1,6 +1,6 @@
 //! The lines of the trace as they are written, and the room for those to come.
 ghost use Rattle.std.specs.Prelude.{◌≡◌, ◌+◌, ◌<◌, ◌≤◌, [], ◌∷◌, ◌++◌, OnOk, vec_len, vec_capacity, if◌then◌else◌};
-ghost use Rattle.cip_seats.specs.Steps.{line};
+ghost use Rattle.cip_plugin.specs.Steps.{line};
 
 use cip_events::{TraceLine, Word};
 use std::alloc::{AllocError, Global};

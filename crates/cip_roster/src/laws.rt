@@ -7,7 +7,7 @@ pub fn plugins_are_kept()
     ensures { PluginsAreKept }
 {}
 
-/// Where lines are kept, the words of each plugin are those of a life as `start` answers; the laws of `cip_seats` say
+/// Where lines are kept, the words of each plugin are those of a life as `start` answers; the laws of `cip_plugin` say
 /// that they stay so.
 pub fn lives_begin_told()
     ensures { LivesBeginTold }

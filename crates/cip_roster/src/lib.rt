@@ -18,6 +18,6 @@ mod steps;
 mod turns;
 mod wishing;
 
-pub use cip_seats::WishFault;
+pub use cip_plugin::WishFault;
 pub use laws::{givers_are_seated, lives_begin_told, plugins_are_kept};
 pub use rosters::{Roster, Seated};

@@ -9,8 +9,7 @@ use crate::calling::ranked;
 use crate::rosters::Seated;
 use crate::steps::Steps;
 use crate::turns::turn;
-use cip_plugin::{Given, Kind, Question, View};
-use cip_seats::Key;
+use cip_plugin::{Given, Key, Kind, Question, View};
 use std::alloc::{AllocError, Global};
 
 /// Whether a key comes behind another one; each does where no other is named.

@@ -2,8 +2,7 @@
 ghost use Rattle.std.specs.Prelude.{◌≡◌};
 ghost use Rattle.cip_roster.specs.KeptRankings.{no_rankings, ranking_of, with_ranking, without_ranking};
 
-use cip_plugin::Kind;
-use cip_seats::Key;
+use cip_plugin::{Key, Kind};
 
 /// For each kind its live and enabled plugins in the order in which they are called, where that was made and still
 /// holds.

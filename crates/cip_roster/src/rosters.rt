@@ -1,6 +1,6 @@
 //! The roster and what is seen of it.
 ghost use Rattle.std.specs.Prelude.{◌≡◌, ◌-◌, map, vec_len, vec_capacity};
-ghost use Rattle.cip_seats.specs.Seats.{State};
+ghost use Rattle.cip_plugin.specs.Seats.{State};
 ghost use Rattle.cip_roster.specs.KeptRankings.{Room};
 ghost use Rattle.cip_roster.specs.Shelves.{shown};
 

@@ -2,16 +2,15 @@
 ghost use Rattle.std.specs.Prelude.{◌≡◌, ◌+◌, ◌-◌, ◌++◌, ◌<◌, [], ◌∷◌, min, OnOk, vec_len, vec_capacity};
 ghost use Rattle.cip_events.specs.Names.{shown_name};
 ghost use Rattle.cip_plugin.specs.Asking.{ask_of};
-ghost use Rattle.cip_seats.specs.Lives.{word_of_ask};
-ghost use Rattle.cip_seats.specs.Seats.{Seat};
-ghost use Rattle.cip_seats.specs.Steps.{IsSeated, switch_word};
+ghost use Rattle.cip_plugin.specs.Lives.{word_of_ask};
+ghost use Rattle.cip_plugin.specs.Seats.{Seat};
+ghost use Rattle.cip_plugin.specs.Steps.{IsSeated, switch_word};
 
 use crate::rosters::{Roster, Seated};
 use crate::slots::{Sits, Slot};
 use crate::steps::{Seats, Steps};
 use cip_events::{Event, Name, Word};
-use cip_plugin::{AnyPlugin, Given, Kind, Question, Tells, View};
-use cip_seats::{Key, WishFault};
+use cip_plugin::{AnyPlugin, Given, Key, Kind, Question, Tells, View, WishFault};
 use std::alloc::{AllocError, Global};
 use std::mem;
 

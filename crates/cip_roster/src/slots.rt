@@ -3,18 +3,17 @@ ghost use Rattle.std.specs.Prelude.{◌≡◌, Some, true, false, is_ok, if◌th
 ghost use Rattle.cip_plugin.specs.Calls.{Init, InitSolve, Asked, ExitSolve, Exit};
 ghost use Rattle.cip_plugin.specs.Answers.{answer};
 ghost use Rattle.cip_plugin.specs.Asking.{asks, ask_of, answer_of};
-ghost use Rattle.cip_seats.specs.Seats.{Seat, is_on, is_live};
-ghost use Rattle.cip_seats.specs.Calling.{is_ready};
-ghost use Rattle.cip_seats.specs.Wishing.{is_to_hear};
-ghost use Rattle.cip_seats.specs.Steps.{IsCalled, IsTurned, IsSeated};
+ghost use Rattle.cip_plugin.specs.Seats.{Seat, is_on, is_live};
+ghost use Rattle.cip_plugin.specs.Calling.{is_ready};
+ghost use Rattle.cip_plugin.specs.Wishing.{is_to_hear};
+ghost use Rattle.cip_plugin.specs.Steps.{IsCalled, IsTurned, IsSeated};
 ghost use Rattle.cip_roster.specs.Nexts.{key_of};
 
 use cip_events::{Event, EventMask};
 use cip_plugin::{
-    AnyPlugin, BranchRule, ConsHandler, EventHandler, Given, Heuristic, Kind, Pricer, Propagator,
-    Question, Separator, Tells, View,
+    AnyPlugin, BranchRule, ConsHandler, EventHandler, Given, Heuristic, Key, Kind, Pricer,
+    Propagator, Question, Separator, Stage, Tells, View,
 };
-use cip_seats::{Key, Stage};
 use std::alloc::{AllocError, Global};
 use std::cmp::Reverse;
 use std::marker::PhantomData;

@@ -2,8 +2,8 @@
 ghost use Rattle.std.specs.Prelude.{◌≡◌, ◌+◌, ◌-◌, ◌++◌, ◌^◌, ◌<◌, ◌≤◌, ◌*◌, List, [], Bool, Some, All, length, map, IfOk, OnOk, OnErr, vec_len, vec_capacity};
 ghost use Rattle.cip_events.specs.Names.{shown_name};
 ghost use Rattle.cip_plugin.specs.Who.{Who};
-ghost use Rattle.cip_seats.specs.Seats.{held_count};
-ghost use Rattle.cip_seats.specs.Steps.{Runs};
+ghost use Rattle.cip_plugin.specs.Seats.{held_count};
+ghost use Rattle.cip_plugin.specs.Steps.{Runs};
 ghost use Rattle.cip_roster.specs.KeptRankings.{no_rankings};
 ghost use Rattle.cip_roster.specs.Turns.{IsSound};
 ghost use Rattle.cip_roster.specs.Begun.{AreSeated, IsBegun, IsFresh, IsPlaying, all_begin};

@@ -4,21 +4,20 @@ ghost use Rattle.std.specs.Prelude.{◌≡◌, ℕ, ◌+◌, ◌*◌, ◌++◌, 
 ghost use Rattle.cip_plugin.specs.Answers.{answer};
 ghost use Rattle.cip_plugin.specs.Asking.{ask_of, answer_of};
 ghost use Rattle.cip_plugin.specs.Calls.{Init, InitSolve, Asked, ExitSolve, Exit};
-ghost use Rattle.cip_seats.specs.Calling.{is_ready};
+ghost use Rattle.cip_plugin.specs.Calling.{is_ready};
 ghost use Rattle.cip_events.specs.Names.{shown_name};
-ghost use Rattle.cip_seats.specs.Seats.{Seat, is_live, live_count};
-ghost use Rattle.cip_seats.specs.Steps.{IsSeated, Runs, Calls, Turns, Ranks, Takes, line};
-ghost use Rattle.cip_seats.specs.Delivering.{hears_there};
-ghost use Rattle.cip_seats.specs.Wishing.{is_enabled, place_fault};
-ghost use Rattle.cip_seats.specs.declared.stages.Stage.TheVariants as stages;
+ghost use Rattle.cip_plugin.specs.Seats.{Seat, is_live, live_count};
+ghost use Rattle.cip_plugin.specs.Steps.{IsSeated, Runs, Calls, Turns, Ranks, Takes, line};
+ghost use Rattle.cip_plugin.specs.Delivering.{hears_there};
+ghost use Rattle.cip_plugin.specs.Wishing.{is_enabled, place_fault};
+ghost use Rattle.cip_plugin.specs.declared.stages.Stage.TheVariants as stages;
 ghost use Rattle.cip_roster.specs.KeptRankings.{no_rankings, ranking_of, with_ranking, without_ranking};
 ghost use Rattle.cip_roster.specs.Nexts.{key_of};
 ghost use Rattle.cip_roster.specs.Turns.{CanBeAsked, StandsAt};
 
 use crate::rosters::Seated;
 use cip_events::{Event, Word};
-use cip_plugin::{Given, Kind, Question, Tells, View};
-use cip_seats::{Key, WishFault};
+use cip_plugin::{Given, Key, Kind, Question, Tells, View, WishFault};
 use std::alloc::{AllocError, Global};
 
 /// What a roster is asked for and does, one step at a time. Each step has its room.

@@ -4,10 +4,10 @@ ghost use Rattle.cip_events.specs.declared.words.Word.TheVariants as say;
 ghost use Rattle.cip_plugin.specs.Asking.{ask_of};
 ghost use Rattle.cip_plugin.specs.Calls.{Init, InitSolve};
 ghost use Rattle.cip_plugin.specs.declared.asking.Given.{Given as Brought};
-ghost use Rattle.cip_seats.specs.Calling.{dropped};
-ghost use Rattle.cip_seats.specs.Steps.{Runs, Notes};
-ghost use Rattle.cip_seats.specs.Wishing.{begun_with, ends};
-ghost use Rattle.cip_seats.specs.declared.stages.Stage.TheVariants as stages;
+ghost use Rattle.cip_plugin.specs.Calling.{dropped};
+ghost use Rattle.cip_plugin.specs.Steps.{Runs, Notes};
+ghost use Rattle.cip_plugin.specs.Wishing.{begun_with, ends};
+ghost use Rattle.cip_plugin.specs.declared.stages.Stage.TheVariants as stages;
 ghost use Rattle.cip_roster.specs.KeptRankings.{no_rankings};
 ghost use Rattle.cip_roster.specs.Turns.{CanBeAsked, HadTurn, StandsAt, entries};
 

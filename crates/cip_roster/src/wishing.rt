@@ -2,10 +2,10 @@
 ghost use Rattle.std.specs.Prelude.{◌≡◌, ◌++◌, ◌+◌, ◌*◌, ◌≤◌, ◌⊎◌, [], ◌∷◌, OnOk, OnErr, MatchResult, None, Some, IsSome, is_ok, slice_get, if◌then◌else◌};
 ghost use Rattle.cip_events.specs.declared.words.Word.TheVariants as say;
 ghost use Rattle.cip_plugin.specs.declared.proposals.Wish.TheVariants.{Include, Disable, Enable, Free, Priority};
-ghost use Rattle.cip_seats.specs.declared.faults.WishFault.TheVariants as faults;
-ghost use Rattle.cip_seats.specs.Seats.{live_count};
-ghost use Rattle.cip_seats.specs.Steps.{Runs, Notes};
-ghost use Rattle.cip_seats.specs.Wishing.{Granted, place_fault, seat_fault, raised_by};
+ghost use Rattle.cip_plugin.specs.declared.faults.WishFault.TheVariants as faults;
+ghost use Rattle.cip_plugin.specs.Seats.{live_count};
+ghost use Rattle.cip_plugin.specs.Steps.{Runs, Notes};
+ghost use Rattle.cip_plugin.specs.Wishing.{Granted, place_fault, seat_fault, raised_by};
 ghost use Rattle.cip_roster.specs.Turns.{IsSound, IsLiveAt};
 ghost use Rattle.cip_roster.specs.Wished.{WasGranted, WasRefused};
 
@@ -13,8 +13,7 @@ use crate::rosters::Seated;
 use crate::steps::Steps;
 use crate::turns::{begin, end, set_up};
 use cip_events::{Event, EventKind, EventQueue, Word};
-use cip_plugin::{View, Wish};
-use cip_seats::WishFault;
+use cip_plugin::{View, Wish, WishFault};
 use std::alloc::{AllocError, Global};
 
 /// Whether a plugin is live; else why not.

@@ -7,8 +7,8 @@ use crate::row::Row;
 use crate::setup::Setup;
 use cip_builtins::{Log, no_plugins, run, run_with_builtins};
 use cip_io::MemorySink;
-use cip_kits::is_few;
 use cip_plugin::{AnyPlugin, Kind, Kit};
+use cip_solve::is_few;
 use std::alloc::{AllocError, Global};
 
 /// What a call of `run` did.

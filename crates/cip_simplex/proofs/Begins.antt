@@ -4,14 +4,14 @@ use Rattle.std.proofs.lemmas.Bool.{and_parts, cases_eq}
 use Rattle.cip_rational.specs.Rational.{ℚ, is_zero}
 use Rattle.cip_problem.specs.Program.{Sides}
 use Rattle.cip_problem.specs.Box.{sides_at}
-use Rattle.cip_dictionary.specs.Tables.{least}
-use Rattle.cip_dictionary.specs.Dictionary.{Dictionary, size, stand, is_basic, entry, CanStand, IsConsistent}
-use Rattle.cip_dictionary.specs.Exchange.{CanExchange, CanFlip}
-use Rattle.cip_dictionary.specs.FirstState.{first_stand}
-use Rattle.cip_dictionary.specs.declared.moves.Stand.{Stand}
-use Rattle.cip_dictionary.specs.declared.moves.Stand.TheVariants.{Low, High, Zero}
-use Rattle.cip_dictionary.specs.declared.moves.Move.{Move}
-use Rattle.cip_dictionary.proofs.Zeros.{nonzero_of}
+use Rattle.cip_bland.specs.Tables.{least}
+use Rattle.cip_bland.specs.Dictionary.{Dictionary, size, stand, is_basic, entry, CanStand, IsConsistent}
+use Rattle.cip_bland.specs.Exchange.{CanExchange, CanFlip}
+use Rattle.cip_bland.specs.FirstState.{first_stand}
+use Rattle.cip_bland.specs.declared.moves.Stand.{Stand}
+use Rattle.cip_bland.specs.declared.moves.Stand.TheVariants.{Low, High, Zero}
+use Rattle.cip_bland.specs.declared.moves.Move.{Move}
+use Rattle.cip_bland.proofs.Zeros.{nonzero_of}
 use Rattle.cip_bland.proofs.Searches.{least_some}
 use Rattle.cip_bland.proofs.StateFacts.{nonbasic_at}
 use Rattle.cip_simplex.specs.Starts.{Stands, has_stand, stand_for, may_leave, leaving_stand, are_opposite, Begun, begun_by, begun_unless, begun_through}

@@ -1,13 +1,13 @@
 -- What is chosen can be made, and what is out of range is found.
 use Rattle.std.proofs.Common.{◌≡◌, ℕ, zero, suc, ◌<◌, ◌==◌, Bool, true, false, cond, Option, None, Some, refl, sym, ap, ◌∙◌, subst, arith}
 use Rattle.std.proofs.lemmas.Option.{none-some}
-use Rattle.cip_dictionary.specs.Tables.{least, first_of}
-use Rattle.cip_dictionary.specs.Dictionary.{Dictionary, size, is_basic, IsConsistent}
-use Rattle.cip_dictionary.specs.Exchange.{CanExchange, CanMove}
-use Rattle.cip_dictionary.specs.MoveOperations.{move_operations}
-use Rattle.cip_dictionary.specs.declared.moves.Stand.{Stand}
-use Rattle.cip_dictionary.specs.declared.moves.Move.{Move}
-use Rattle.cip_dictionary.specs.declared.moves.Move.TheVariants.{Exchange, Flip}
+use Rattle.cip_bland.specs.Tables.{least, first_of}
+use Rattle.cip_bland.specs.Dictionary.{Dictionary, size, is_basic, IsConsistent}
+use Rattle.cip_bland.specs.Exchange.{CanExchange, CanMove}
+use Rattle.cip_bland.specs.MoveOperations.{move_operations}
+use Rattle.cip_bland.specs.declared.moves.Stand.{Stand}
+use Rattle.cip_bland.specs.declared.moves.Move.{Move}
+use Rattle.cip_bland.specs.declared.moves.Move.TheVariants.{Exchange, Flip}
 use Rattle.cip_bland.specs.Headings.{stand_ahead}
 use Rattle.cip_bland.specs.Rule.{Way, is_crossed, is_outside, outside_heading, repairs, repairing, improves, improving, going, least_outside, step_inside, step_of, way_of, shortest, move_by}
 use Rattle.cip_bland.specs.MoveList.{is_out_of_range, wide_way, first_wide_way, mover, wide_way_of}

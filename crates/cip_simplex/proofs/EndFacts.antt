@@ -1,8 +1,8 @@
 -- What holds at the end of a list of moves.
 use Rattle.std.proofs.Common.{◌≡◌, ℕ, List, length, sym, ap, ◌∙◌, subst}
 use Rattle.cip_linear.specs.LinearProgram.{LinearProgram}
-use Rattle.cip_dictionary.specs.Dictionary.{Dictionary}
-use Rattle.cip_dictionary.specs.declared.moves.Move.{Move}
+use Rattle.cip_bland.specs.Dictionary.{Dictionary}
+use Rattle.cip_bland.specs.declared.moves.Move.{Move}
 use Rattle.cip_bland.specs.Rule.{next}
 use Rattle.cip_bland.specs.MoveList as list
 use Rattle.cip_bland.specs.NoRepeat.{enough_moves, whole_run}

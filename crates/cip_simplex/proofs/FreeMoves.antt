@@ -4,12 +4,12 @@ use Rattle.std.proofs.lemmas.Bool.{cases_eq}
 use Rattle.cip_problem.specs.Program.{Sides}
 use Rattle.cip_problem.specs.Box.{sides_at}
 use Rattle.cip_linear.specs.LinearProgram.{LinearProgram}
-use Rattle.cip_dictionary.specs.Tables.{least}
-use Rattle.cip_dictionary.specs.Dictionary.{Dictionary, size, stand, IsConsistent}
-use Rattle.cip_dictionary.specs.Exchange.{after, CanExchange, CanMove}
-use Rattle.cip_dictionary.specs.declared.moves.Move.{Move}
-use Rattle.cip_dictionary.specs.declared.moves.Stand.{Stand}
-use Rattle.cip_dictionary.proofs.Tables.{length-table}
+use Rattle.cip_bland.specs.Tables.{least}
+use Rattle.cip_bland.specs.Dictionary.{Dictionary, size, stand, IsConsistent}
+use Rattle.cip_bland.specs.Exchange.{after, CanExchange, CanMove}
+use Rattle.cip_bland.specs.declared.moves.Move.{Move}
+use Rattle.cip_bland.specs.declared.moves.Stand.{Stand}
+use Rattle.cip_bland.proofs.Tables.{length-table}
 use Rattle.cip_bland.specs.Headings.{stand_ahead}
 use Rattle.cip_bland.specs.Rule.{sides_cross, is_crossed, is_outside, outside_heading, repairs, Way, way_of, shortest, move_by}
 use Rattle.cip_bland.specs.Statements.{IsStateOf}

@@ -2,8 +2,8 @@
 use Rattle.std.proofs.Common.{◌≡◌, List, refl, sym, subst}
 use Rattle.cip_rational.specs.Rational.{ℚ}
 use Rattle.cip_linear.specs.LinearProgram.{LinearProgram, IsProper}
-use Rattle.cip_dictionary.specs.Dictionary.{Dictionary}
-use Rattle.cip_dictionary.specs.declared.moves.Move.{Move}
+use Rattle.cip_bland.specs.Dictionary.{Dictionary}
+use Rattle.cip_bland.specs.declared.moves.Move.{Move}
 use Rattle.cip_bland.specs.EndAnswers.{Certificate, Answer, Optimal, NoPoint, Unbounded, OutOfRange, LimitReached, answer_at}
 use Rattle.cip_bland.specs.Statements.{IsStateOf, IsRight}
 use Rattle.cip_bland.specs.StateEnds.{IsEndAt}

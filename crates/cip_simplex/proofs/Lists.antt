@@ -1,10 +1,10 @@
 -- Lists of moves, one move after another.
 use Rattle.std.proofs.Common.{◌≡◌, ℕ, suc, ◌+◌, ◌-◌, ◌<◌, ◌≤◌, List, [], ◌∷◌, ◌++◌, refl, sym, ap, ◌∙◌, arith}
 use Rattle.std.proofs.lemmas.List.{append_assoc, append-nil}
-use Rattle.cip_dictionary.specs.Dictionary.{Dictionary, size}
-use Rattle.cip_dictionary.specs.Exchange.{after, exchanged, flipped}
-use Rattle.cip_dictionary.specs.declared.moves.Move.{Move}
-use Rattle.cip_dictionary.specs.declared.moves.Move.TheVariants.{Exchange, Flip}
+use Rattle.cip_bland.specs.Dictionary.{Dictionary, size}
+use Rattle.cip_bland.specs.Exchange.{after, exchanged, flipped}
+use Rattle.cip_bland.specs.declared.moves.Move.{Move}
+use Rattle.cip_bland.specs.declared.moves.Move.TheVariants.{Exchange, Flip}
 use Rattle.cip_bland.specs.Rule.{next}
 use Rattle.cip_bland.specs.MoveList as list
 use Rattle.cip_bland.specs.declared.steps.Step.{Step}

@@ -2,9 +2,9 @@
 use Rattle.std.proofs.Common.{◌≡◌, ◌≢◌, ◌∷◌, [], cond, ap₂, ℕ, zero, suc, ◌+◌, ◌<◌, ◌≤◌, Bool, true, false, not, ◌&&◌, List, Option, None, Some, length, get_or, refl, sym, ap, ◌∙◌, inl, inr, arith, add-one}
 use Rattle.std.proofs.lemmas.Bool.{cases_lt}
 use Rattle.cip_rational.specs.Rational.{ℚ, zeroℚ, lt_test}
-use Rattle.cip_dictionary.specs.Tables.{least}
-use Rattle.cip_dictionary.specs.Dictionary.{Dictionary, size}
-use Rattle.cip_dictionary.proofs.Zeros.{is_zero_of, is_zero_false}
+use Rattle.cip_bland.specs.Tables.{least}
+use Rattle.cip_bland.specs.Dictionary.{Dictionary, size}
+use Rattle.cip_bland.proofs.Zeros.{is_zero_of, is_zero_false}
 use Rattle.cip_bland.specs.declared.steps.Heading.{Heading}
 use Rattle.cip_bland.specs.Headings.{back_of, heading_for}
 use Rattle.cip_bland.specs.Rule.{may_go, drives}

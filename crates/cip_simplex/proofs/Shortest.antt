@@ -1,17 +1,17 @@
 -- The ways of a variable, one after another.
 use Rattle.std.proofs.Common.{◌≡◌, ◌≢◌, ℕ, zero, suc, ◌+◌, ◌<◌, Bool, true, false, not, cond, ◌||◌, is_some, ap₂, Option, None, Some, refl, sym, ap, ◌∙◌, inl, inr, arith, add-one}
 use Rattle.std.proofs.lemmas.Bool.{ne_eqb, cases_eq, or_right}
-use Rattle.cip_dictionary.specs.Tables.{first_of}
-use Rattle.cip_dictionary.specs.Dictionary.{Dictionary}
-use Rattle.cip_dictionary.specs.declared.moves.Move.{Move}
+use Rattle.cip_bland.specs.Tables.{first_of}
+use Rattle.cip_bland.specs.Dictionary.{Dictionary}
+use Rattle.cip_bland.specs.declared.moves.Move.{Move}
 use Rattle.cip_rational.specs.Rational.{ℚ, zeroℚ, lt_test, is_zero}
 use Rattle.cip_problem.specs.Box.{sides_at}
-use Rattle.cip_dictionary.specs.Dictionary.{is_basic, entry}
-use Rattle.cip_dictionary.specs.Exchange.{step}
-use Rattle.cip_dictionary.specs.MoveOperations.{step_operations}
-use Rattle.cip_dictionary.specs.declared.moves.Stand.{Stand}
-use Rattle.cip_dictionary.specs.declared.moves.Move.TheVariants.{Exchange}
-use Rattle.cip_dictionary.proofs.Zeros.{zero_of, is_zero_of, nonzero_of, is_zero_false}
+use Rattle.cip_bland.specs.Dictionary.{is_basic, entry}
+use Rattle.cip_bland.specs.Exchange.{step}
+use Rattle.cip_bland.specs.MoveOperations.{step_operations}
+use Rattle.cip_bland.specs.declared.moves.Stand.{Stand}
+use Rattle.cip_bland.specs.declared.moves.Move.TheVariants.{Exchange}
+use Rattle.cip_bland.proofs.Zeros.{zero_of, is_zero_of, nonzero_of, is_zero_false}
 use Rattle.cip_bland.specs.Headings.{along, heading_for, goal_ahead}
 use Rattle.cip_bland.specs.Rule.{Way, way_of, way_with, falling_heading, shortest, shorter}
 use Rattle.cip_bland.specs.MoveList.{is_out_of_range, wide_way, first_wide_way}
@@ -72,7 +72,7 @@ module _ (d : Dictionary) (j v : ℕ) (apart : v ≢ j) (basic : is_basic d v �
   way_is : (to : Stand) → entry d v j ≢ zeroℚ → goal_ahead (heading_for (falling_heading d j) (entry d v j)) (sides_at d.sides v) ≡ Some to → way_of d j v ≡ Some (record { variable = v; to = to; length = along (falling_heading d j) (step d v j to) })
   way_is to ne e =
       goal_is ne ∙ ap (way_with d j v) e
-      ∙ ap (λ b. Some (record { variable = v; to = to; length = along (falling_heading d j) (cond b (Rattle.cip_dictionary.specs.Exchange.way d j) (step d v j to)) })) (ne_eqb v j apart)
+      ∙ ap (λ b. Some (record { variable = v; to = to; length = along (falling_heading d j) (cond b (Rattle.cip_bland.specs.Exchange.way d j) (step d v j to)) })) (ne_eqb v j apart)
 
   pub side_found : (to : Stand) → entry d v j ≢ zeroℚ → goal_ahead (heading_for (falling_heading d j) (entry d v j)) (sides_at d.sides v) ≡ Some to → is_out_of_range (step_operations d v j to) ≡ false
       → (wide_way d j (way_of d j v) ≡ None) × (Some (record { variable = v; to = to; length = along (falling_heading d j) (step d v j to) }) ≡ way_of d j v)

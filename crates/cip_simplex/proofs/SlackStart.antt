@@ -4,15 +4,15 @@ use Rattle.std.proofs.lemmas.Bool.{lt-ltb}
 use Rattle.cip_problem.specs.Program.{Sides}
 use Rattle.cip_problem.specs.Box.{sides_at}
 use Rattle.cip_linear.specs.LinearProgram.{LinearProgram}
-use Rattle.cip_dictionary.specs.Tables.{least}
-use Rattle.cip_dictionary.specs.Dictionary.{Dictionary, size, stand, is_basic, CanStand}
-use Rattle.cip_dictionary.specs.FirstState.{first_operations}
-use Rattle.cip_dictionary.specs.ProgramState.{system_of, first_of_program}
-use Rattle.cip_dictionary.specs.declared.moves.Stand.{Stand}
-use Rattle.cip_dictionary.specs.declared.moves.Stand.TheVariants.{Low, High, Zero}
-use Rattle.cip_dictionary.specs.declared.moves.Move.{Move}
-use Rattle.cip_dictionary.specs.declared.moves.Move.TheVariants.{Flip}
-use Rattle.cip_dictionary.proofs.Tables.{at_table}
+use Rattle.cip_bland.specs.Tables.{least}
+use Rattle.cip_bland.specs.Dictionary.{Dictionary, size, stand, is_basic, CanStand}
+use Rattle.cip_bland.specs.FirstState.{first_operations}
+use Rattle.cip_bland.specs.ProgramState.{system_of, first_of_program}
+use Rattle.cip_bland.specs.declared.moves.Stand.{Stand}
+use Rattle.cip_bland.specs.declared.moves.Stand.TheVariants.{Low, High, Zero}
+use Rattle.cip_bland.specs.declared.moves.Move.{Move}
+use Rattle.cip_bland.specs.declared.moves.Move.TheVariants.{Flip}
+use Rattle.cip_bland.proofs.Tables.{at_table}
 use Rattle.cip_dict.specs.FirstLists.{stand_in}
 use Rattle.cip_bland.specs.MoveList.{is_out_of_range}
 use Rattle.cip_bland.specs.EndAnswers.{OutOfRange, answer}
@@ -42,7 +42,7 @@ not_opposite Zero = refl
 stays : (v : ℕ) (sides : Sides) (o : Option Stand) → ((at : Stand) → o ≡ Some at → CanStand sides at) → flip_with v sides o o ≡ None
 stays v sides None h = refl
 stays v sides (Some at) h =
-    ap (λ b. cond (are_opposite at (cond b at (Rattle.cip_dictionary.specs.FirstState.first_stand sides))) (Some (Flip v)) None) (has_own sides at (h at refl))
+    ap (λ b. cond (are_opposite at (cond b at (Rattle.cip_bland.specs.FirstState.first_stand sides))) (Some (Flip v)) None) (has_own sides at (h at refl))
     ∙ ap (λ b. cond b (Some (Flip v)) None) (not_opposite at)
 
 module _ (program : LinearProgram) where
@@ -57,7 +57,7 @@ module _ (program : LinearProgram) where
   column_stands k l =
       ap (λ (s : Stands). is_some (wish s k)) (sym (slack_is program))
       ∙ ap is_some (at_table (variables program) (stand_in program.bounds) k None (omega (arith, l)))
-      ∙ ap (λ b. is_some (cond b (Some (Rattle.cip_dictionary.specs.FirstState.first_stand (sides_at program.bounds k))) None)) (lt-ltb k (length program.bounds) l)
+      ∙ ap (λ b. is_some (cond b (Some (Rattle.cip_bland.specs.FirstState.first_stand (sides_at program.bounds k))) None)) (lt-ltb k (length program.bounds) l)
 
   none_enters : (k : ℕ) → k < length program.bounds → entering_move (stands_of first_d) first_d k ≡ None
   none_enters k l =

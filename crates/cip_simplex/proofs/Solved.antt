@@ -3,21 +3,21 @@ use Rattle.std.proofs.Common.{◌≡◌, ℕ, ◌+◌, ◌^◌, List, [], length
 use Rattle.std.proofs.lemmas.List.{length-map}
 use Rattle.cip_linear.specs.LinearProgram.{LinearProgram}
 use Rattle.cip_linear.specs.Multipliers.{row_sides}
-use Rattle.cip_dictionary.specs.Dictionary.{Dictionary, size, stand}
-use Rattle.cip_dictionary.specs.Operations.{first_overflow}
-use Rattle.cip_dictionary.specs.FirstState.{is_column, variables_of, first_stand, first, first_operations}
-use Rattle.cip_dictionary.specs.ProgramState.{system_of, first_of_program}
-use Rattle.cip_dictionary.specs.declared.places.EntryPlace.{EntryPlace}
-use Rattle.cip_dictionary.specs.declared.moves.Move.{Move}
+use Rattle.cip_bland.specs.Dictionary.{Dictionary, size, stand}
+use Rattle.cip_bland.specs.Operations.{first_overflow}
+use Rattle.cip_bland.specs.FirstState.{is_column, variables_of, first_stand, first, first_operations}
+use Rattle.cip_bland.specs.ProgramState.{system_of, first_of_program}
+use Rattle.cip_bland.specs.declared.places.EntryPlace.{EntryPlace}
+use Rattle.cip_bland.specs.declared.moves.Move.{Move}
 use Rattle.cip_bland.specs.MoveList.{run}
 use Rattle.cip_bland.specs.NoRepeat.{whole_run, whole_answer}
 use Rattle.cip_bland.specs.EndAnswers.{OutOfRange, answer_of, answer}
 use Rattle.cip_bland.specs.EndAnswers as def
 use Rattle.cip_simplex.specs.Advances.{run_behind}
 use Rattle.cip_problem.specs.Box.{sides_at}
-use Rattle.cip_dictionary.specs.Tables.{table}
-use Rattle.cip_dictionary.specs.declared.moves.Stand.{Stand}
-use Rattle.cip_dictionary.proofs.Tables.{at_table, table_same}
+use Rattle.cip_bland.specs.Tables.{table}
+use Rattle.cip_bland.specs.declared.moves.Stand.{Stand}
+use Rattle.cip_bland.proofs.Tables.{at_table, table_same}
 use Rattle.cip_dict.specs.FirstLists.{stand_in}
 use Rattle.cip_simplex.specs.Starts.{Stands, stands_of, begun, answer_on, answer_from, last_on, last_from}
 use Rattle.cip_simplex.specs.LpShape.{variables}

@@ -2,14 +2,14 @@
 use Rattle.std.proofs.Common.{◌≡◌, ℕ, zero, suc, ◌<◌, Bool, true, false, cond, ◌||◌, is_some, List, [], ◌∷◌, ◌++◌, length, Option, None, Some, refl, sym, ap, ◌∙◌, arith}
 use Rattle.cip_problem.specs.Box.{sides_at}
 use Rattle.cip_linear.specs.LinearProgram.{LinearProgram, IsProper}
-use Rattle.cip_dictionary.specs.Tables.{least}
-use Rattle.cip_dictionary.specs.Dictionary.{Dictionary, size, stand, is_basic, IsConsistent}
-use Rattle.cip_dictionary.specs.Exchange.{after, CanMove}
-use Rattle.cip_dictionary.specs.MoveOperations.{move_operations}
-use Rattle.cip_dictionary.specs.FirstState.{first_operations}
-use Rattle.cip_dictionary.specs.ProgramState.{system_of, first_of_program}
-use Rattle.cip_dictionary.specs.declared.moves.Stand.{Stand}
-use Rattle.cip_dictionary.specs.declared.moves.Move.{Move}
+use Rattle.cip_bland.specs.Tables.{least}
+use Rattle.cip_bland.specs.Dictionary.{Dictionary, size, stand, is_basic, IsConsistent}
+use Rattle.cip_bland.specs.Exchange.{after, CanMove}
+use Rattle.cip_bland.specs.MoveOperations.{move_operations}
+use Rattle.cip_bland.specs.FirstState.{first_operations}
+use Rattle.cip_bland.specs.ProgramState.{system_of, first_of_program}
+use Rattle.cip_bland.specs.declared.moves.Stand.{Stand}
+use Rattle.cip_bland.specs.declared.moves.Move.{Move}
 use Rattle.cip_bland.specs.MoveList as list
 use Rattle.cip_bland.specs.EndAnswers.{Answer, OutOfRange, answer_after}
 use Rattle.cip_bland.specs.Statements.{IsStateOf, IsRight}
@@ -38,7 +38,7 @@ entering_by start d k false lk e = exchange_can start d k (least (size d) (may_l
 can_entering : (start : Stands) (d : Dictionary) (k : ℕ) → k < size d → CanMake d (entering_move start d k)
 can_entering start d k lk = entering_by start d k (is_some (wish start k) || is_basic d k) lk refl
 
-flip_can : (d : Dictionary) (v : ℕ) (at to : Stand) (b : Bool) → v < size d → IsConsistent d → stand d v ≡ Some at → are_opposite at (stand_for (sides_at d.sides v) to) ≡ b → CanMake d (cond b (Some (Rattle.cip_dictionary.specs.declared.moves.Move.TheVariants.Flip v)) None)
+flip_can : (d : Dictionary) (v : ℕ) (at to : Stand) (b : Bool) → v < size d → IsConsistent d → stand d v ≡ Some at → are_opposite at (stand_for (sides_at d.sides v) to) ≡ b → CanMake d (cond b (Some (Rattle.cip_bland.specs.declared.moves.Move.TheVariants.Flip v)) None)
 flip_can d v at to true l consistent e o = can_flip_over d v at to l consistent e o
 flip_can d v at to false l consistent e o = tt
 

@@ -11,8 +11,8 @@ use Rattle.cip_problem.specs.RowTerms.{column_at, AreTerms}
 use Rattle.cip_linear.specs.LinearProgram.{LinearProgram, IsProper}
 use Rattle.cip_linear.specs.Aggregate.{coefficient_on}
 use Rattle.cip_linear.specs.Multipliers.{row_sides}
-use Rattle.cip_dictionary.specs.Tables.{each}
-use Rattle.cip_dictionary.specs.ProgramState.{terms_at, system_of}
+use Rattle.cip_bland.specs.Tables.{each}
+use Rattle.cip_bland.specs.ProgramState.{terms_at, system_of}
 use Rattle.cip_dict.specs.Entries.{Entry, entry_from, AreWithin, system_in}
 use Rattle.cip_simplex.specs.LpEntries.{entry_of, row_entries, entries_in}
 

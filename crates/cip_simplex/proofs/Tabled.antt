@@ -2,8 +2,8 @@
 use Rattle.std.proofs.Common.{◌≡◌, ℕ, ◌+◌, ◌-◌, ◌<◌, List, length, ap, ◌∙◌, arith}
 use Rattle.cip_rational.specs.Rational.{ℚ, zeroℚ}
 use Rattle.cip_problem.specs.Activity.{value_at}
-use Rattle.cip_dictionary.specs.Tables.{table, each}
-use Rattle.cip_dictionary.proofs.Tables.{length-table, at_table}
+use Rattle.cip_bland.specs.Tables.{table, each}
+use Rattle.cip_bland.proofs.Tables.{length-table, at_table}
 use Rattle.cip_dict.proofs.Chains.{each_same}
 use Rattle.cip_bland.specs.EndAnswers.{any_multiple, low_multiple, high_multiple}
 use Rattle.cip_simplex.specs.Certificates.{certificate_on}

@@ -1,9 +1,9 @@
 -- What the code says of a step by Bland's rule.
 use Rattle.std.specs.Prelude.{◌≡◌, ◌≢◌, ℕ, ◌<◌, true, List, ◌++◌, None, Some}
-use Rattle.cip_dictionary.specs.Dictionary.{Dictionary, size}
-use Rattle.cip_dictionary.specs.Exchange.{after, CanExchange}
-use Rattle.cip_dictionary.specs.declared.moves.Move.{Move}
-use Rattle.cip_dictionary.specs.declared.moves.Move.TheVariants.{Exchange}
+use Rattle.cip_bland.specs.Dictionary.{Dictionary, size}
+use Rattle.cip_bland.specs.Exchange.{after, CanExchange}
+use Rattle.cip_bland.specs.declared.moves.Move.{Move}
+use Rattle.cip_bland.specs.declared.moves.Move.TheVariants.{Exchange}
 use Rattle.cip_bland.specs.Rule.{way_of, shortest, improves, least_outside, going, next}
 use Rattle.cip_bland.specs.MoveList as list
 use Rattle.cip_bland.specs.declared.steps.Step.{Step}

@@ -1,7 +1,7 @@
 -- Certificates on so many columns and, after them, so many rows.
 use Rattle.std.specs.Prelude.{ℕ, ◌+◌, ◌-◌, nat_lt, [], ◌∷◌, if◌then◌else◌}
 use Rattle.cip_rational.specs.Rational.{ℚ, negate, oneℚ}
-use Rattle.cip_dictionary.specs.Tables.{each}
+use Rattle.cip_bland.specs.Tables.{each}
 use Rattle.cip_bland.specs.EndAnswers.{Certificate, any_multiple, low_multiple, high_multiple}
 
 -- that of a multiplier for each variable

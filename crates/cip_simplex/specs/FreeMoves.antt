@@ -1,8 +1,8 @@
 -- What the code says of a step by a rule that may choose as it likes among the variables that may be chosen: each move
 -- can be made, and each end is one.
 use Rattle.std.specs.Prelude.{◌≡◌, ℕ, ◌<◌, Bool, true, false, Option, None, Some, ◌⊎◌}
-use Rattle.cip_dictionary.specs.Dictionary.{Dictionary}
-use Rattle.cip_dictionary.specs.Exchange.{after, CanExchange, CanMove}
+use Rattle.cip_bland.specs.Dictionary.{Dictionary}
+use Rattle.cip_bland.specs.Exchange.{after, CanExchange, CanMove}
 use Rattle.cip_bland.specs.Rule.{improves}
 use Rattle.cip_bland.specs.StateEnds.{Passes, NonePasses, IsInside, IsEndAt}
 use Rattle.cip_bland.specs.declared.steps.Step.TheVariants as step

@@ -1,8 +1,8 @@
 -- The entries of a linear program: of each row, by rising number, its terms.
 use Rattle.std.specs.Prelude.{ℕ, List, map, length}
 use Rattle.cip_problem.specs.Program.{Term, Row}
-use Rattle.cip_dictionary.specs.Tables.{each}
-use Rattle.cip_dictionary.specs.ProgramState.{terms_at}
+use Rattle.cip_bland.specs.Tables.{each}
+use Rattle.cip_bland.specs.ProgramState.{terms_at}
 use Rattle.cip_dict.specs.Entries.{Entry}
 
 -- a term of row r

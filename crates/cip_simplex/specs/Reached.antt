@@ -3,7 +3,7 @@ use Rattle.std.specs.Prelude.{◌≡◌, List, Option, length, IfSome}
 use Rattle.cip_rational.specs.Rational.{ℚ}
 use Rattle.cip_linear.specs.LinearProgram.{LinearProgram}
 use Rattle.cip_lin.specs.declared.combos.Combo.{Combo}
-use Rattle.cip_dictionary.specs.Dictionary.{Dictionary}
+use Rattle.cip_bland.specs.Dictionary.{Dictionary}
 use Rattle.cip_bland.specs.EndAnswers as def
 use Rattle.cip_bland.specs.EndAnswers.{Certificate, answer_at}
 use Rattle.cip_bland.specs.Statements.{IsStateOf, IsRight}

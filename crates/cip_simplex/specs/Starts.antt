@@ -10,17 +10,17 @@ use Rattle.std.specs.Prelude.{ℕ, zero, suc, Bool, true, false, ◌&&◌, ◌||
 use Rattle.cip_problem.specs.Program.{Sides}
 use Rattle.cip_problem.specs.Box.{sides_at}
 use Rattle.cip_linear.specs.LinearProgram.{LinearProgram}
-use Rattle.cip_dictionary.specs.Tables.{table, least}
-use Rattle.cip_dictionary.specs.Dictionary.{Dictionary, size, stand, is_basic, entry}
-use Rattle.cip_dictionary.specs.Exchange.{after, CanMove}
+use Rattle.cip_bland.specs.Tables.{table, least}
+use Rattle.cip_bland.specs.Dictionary.{Dictionary, size, stand, is_basic, entry}
+use Rattle.cip_bland.specs.Exchange.{after, CanMove}
 use Rattle.cip_rational.specs.Rational.{is_zero}
-use Rattle.cip_dictionary.specs.MoveOperations.{move_operations}
-use Rattle.cip_dictionary.specs.FirstState.{first_stand, first_operations}
-use Rattle.cip_dictionary.specs.ProgramState.{system_of, first_of_program}
-use Rattle.cip_dictionary.specs.declared.moves.Stand.{Stand}
-use Rattle.cip_dictionary.specs.declared.moves.Stand.TheVariants.{Low, High, Zero}
-use Rattle.cip_dictionary.specs.declared.moves.Move.{Move}
-use Rattle.cip_dictionary.specs.declared.moves.Move.TheVariants.{Exchange, Flip}
+use Rattle.cip_bland.specs.MoveOperations.{move_operations}
+use Rattle.cip_bland.specs.FirstState.{first_stand, first_operations}
+use Rattle.cip_bland.specs.ProgramState.{system_of, first_of_program}
+use Rattle.cip_bland.specs.declared.moves.Stand.{Stand}
+use Rattle.cip_bland.specs.declared.moves.Stand.TheVariants.{Low, High, Zero}
+use Rattle.cip_bland.specs.declared.moves.Move.{Move}
+use Rattle.cip_bland.specs.declared.moves.Move.TheVariants.{Exchange, Flip}
 use Rattle.cip_bland.specs.MoveList.{is_out_of_range, run}
 use Rattle.cip_bland.specs.EndAnswers.{Answer, OutOfRange, answer_of}
 use Rattle.cip_simplex.specs.Advances.{run_behind}

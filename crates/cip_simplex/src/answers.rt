@@ -1,6 +1,6 @@
 //! What the simplex method answers.
+use cip_bland::Move;
 use cip_dict::Frac;
-use cip_dictionary::Move;
 use cip_lin::Combo;
 
 /// What the simplex method answers on a linear program.

@@ -2,9 +2,9 @@
 ghost use Rattle.std.specs.Prelude.{◌≡◌, ℕ, ◌<◌, ◌^◌, ◌++◌, length, map, None, IfOk, MatchResult};
 ghost use Rattle.cip_problem.specs.RowTerms.{AreTerms};
 ghost use Rattle.cip_linear.specs.Multipliers.{row_sides};
-ghost use Rattle.cip_dictionary.specs.Operations.{first_overflow};
-ghost use Rattle.cip_dictionary.specs.FirstState.{first_operations};
-ghost use Rattle.cip_dictionary.specs.ProgramState.{terms_at, system_of, first_of_program};
+ghost use Rattle.cip_bland.specs.Operations.{first_overflow};
+ghost use Rattle.cip_bland.specs.FirstState.{first_operations};
+ghost use Rattle.cip_bland.specs.ProgramState.{terms_at, system_of, first_of_program};
 ghost use Rattle.cip_dict.specs.Entries.{IsFirstFault};
 ghost use Rattle.cip_simplex.specs.LpEntries.{entry_of, entries_in};
 

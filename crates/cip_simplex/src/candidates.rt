@@ -1,6 +1,6 @@
 //! Variables that may be chosen, and the best of them by a rule that makes few moves.
 ghost use Rattle.std.specs.Prelude.{◌≡◌, ◌<◌, ◌^◌, true, length};
-ghost use Rattle.cip_dictionary.specs.Dictionary as def;
+ghost use Rattle.cip_bland.specs.Dictionary as def;
 ghost use Rattle.cip_bland.specs.Rule as rule;
 ghost use Rattle.cip_bland.specs.StateEnds.{Passes};
 ghost use Rattle.cip_dict.specs.SparseLines.{kept_of};

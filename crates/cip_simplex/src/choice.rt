@@ -1,8 +1,8 @@
 //! Which variables are at fault, and which may mend that: the tests of Bland's rule, and the least that passes each.
 ghost use Rattle.std.specs.Prelude.{◌≡◌, ◌<◌, ◌^◌, true};
 ghost use Rattle.cip_rational.specs.Rational.{is_zero};
-ghost use Rattle.cip_dictionary.specs.Tables.{least};
-ghost use Rattle.cip_dictionary.specs.Dictionary as def;
+ghost use Rattle.cip_bland.specs.Tables.{least};
+ghost use Rattle.cip_bland.specs.Dictionary as def;
 ghost use Rattle.cip_bland.specs.Rule as rule;
 
 use crate::headings::{are_crossed, back_of, heading_if, is_ahead, lies_between, outside_way};

@@ -1,7 +1,7 @@
 //! Combinations by a multiplier for each variable.
 ghost use Rattle.std.specs.Prelude.{◌≡◌, ◌+◌, ◌-◌, ◌<◌, ◌≤◌, ◌^◌, ◌++◌, length, map, IfOk};
 ghost use Rattle.cip_problem.specs.Activity.{value_at};
-ghost use Rattle.cip_dictionary.specs.Tables.{each};
+ghost use Rattle.cip_bland.specs.Tables.{each};
 ghost use Rattle.cip_bland.specs.EndAnswers.{any_multiple, low_multiple, high_multiple};
 ghost use Rattle.cip_simplex.specs.LpAnswers.{row_multiple, column_multiple, IsCombo};
 ghost use Rattle.cip_simplex.specs.Certificates.{certificate_on};

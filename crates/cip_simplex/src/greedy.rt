@@ -1,6 +1,6 @@
 //! Linear programs, solved by a rule that makes few moves.
 ghost use Rattle.std.specs.Prelude.{◌≡◌, length, IfOk, IfSome};
-ghost use Rattle.cip_dictionary.specs.ProgramState.{first_of_program};
+ghost use Rattle.cip_bland.specs.ProgramState.{first_of_program};
 ghost use Rattle.cip_bland.specs.Statements.{IsStateOf};
 ghost use Rattle.cip_simplex.specs.LpShape.{variables};
 ghost use Rattle.cip_simplex.specs.Reached.{IsEndAnswer, IsReached};

@@ -1,7 +1,7 @@
 //! Steps by a rule that makes few moves.
 ghost use Rattle.std.specs.Prelude.{◌≡◌, ◌<◌, ◌^◌, IfOk, IfSome};
-ghost use Rattle.cip_dictionary.specs.Dictionary as def;
-ghost use Rattle.cip_dictionary.specs.Exchange.{CanMove};
+ghost use Rattle.cip_bland.specs.Dictionary as def;
+ghost use Rattle.cip_bland.specs.Exchange.{CanMove};
 ghost use Rattle.cip_bland.specs.Rule as rule;
 ghost use Rattle.cip_bland.specs.Statements.{IsStateOf};
 ghost use Rattle.cip_bland.specs.StateEnds.{Passes, NonePasses, IsInside, IsEndAt};
@@ -13,9 +13,8 @@ use crate::headings::stand_ahead;
 use crate::lp::Lp;
 use crate::steps::{Advance, Choice, make, move_by};
 use crate::ways::shortest_way;
-use cip_bland::Step;
+use cip_bland::{Move, Step};
 use cip_dict::Dict;
-use cip_dictionary::Move;
 use std::alloc::AllocError;
 
 /// What is chosen where the basic variable i is outside its sides and leaves.

@@ -5,9 +5,8 @@ ghost use Rattle.cip_problem.specs.Box.{at_least, at_most, is_between};
 ghost use Rattle.cip_bland.specs.Headings as def;
 ghost use Rattle.cip_bland.specs.Rule.{outside_with, sides_cross};
 
-use cip_bland::Heading;
+use cip_bland::{Heading, Stand};
 use cip_dict::Frac;
-use cip_dictionary::Stand;
 use cip_lin::Sides;
 
 /// The other way.

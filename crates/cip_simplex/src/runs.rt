@@ -1,6 +1,6 @@
 //! Moves by Bland's rule, one after another.
 ghost use Rattle.std.specs.Prelude.{◌≡◌, ◌<◌, ◌^◌, IfOk};
-ghost use Rattle.cip_dictionary.specs.Dictionary as def;
+ghost use Rattle.cip_bland.specs.Dictionary as def;
 ghost use Rattle.cip_bland.specs.MoveList.{run};
 ghost use Rattle.cip_bland.specs.NoRepeat.{whole_run};
 ghost use Rattle.cip_bland.specs.Statements.{IsStateOf};
@@ -8,8 +8,8 @@ ghost use Rattle.cip_simplex.specs.Advances.{ending_of, run_behind};
 
 use crate::lp::Lp;
 use crate::steps::{Advance, Ending, ending_here, take_step};
+use cip_bland::Move;
 use cip_dict::Dict;
-use cip_dictionary::Move;
 use std::alloc::AllocError;
 
 /// Makes the moves of the rule, at most so many, and puts each at the end of the list of moves. The state is then the

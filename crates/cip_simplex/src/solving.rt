@@ -1,7 +1,7 @@
 //! Linear programs, solved.
 ghost use Rattle.std.specs.Prelude.{◌≡◌, [], length, IfOk};
-ghost use Rattle.cip_dictionary.specs.ProgramState.{first_of_program};
-ghost use Rattle.cip_dictionary.specs.Dictionary as def;
+ghost use Rattle.cip_bland.specs.ProgramState.{first_of_program};
+ghost use Rattle.cip_bland.specs.Dictionary as def;
 ghost use Rattle.cip_bland.specs.MoveList.{run};
 ghost use Rattle.cip_bland.specs.EndAnswers.{answer_of, answer};
 ghost use Rattle.cip_bland.specs.NoRepeat.{whole_run, whole_answer, WholeAnswerHolds};
@@ -20,8 +20,8 @@ use crate::solver::Solver;
 use crate::start_moves::begin_at;
 use crate::starts::Start;
 use crate::steps::Ending;
+use cip_bland::Move;
 use cip_dict::{Dict, FirstFault};
-use cip_dictionary::Move;
 use std::alloc::{AllocError, Global};
 
 /// Makes the moves of the rule, at most so many, after those made so far, and answers what their end does; the state is

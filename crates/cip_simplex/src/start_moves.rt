@@ -1,17 +1,17 @@
 //! The moves that lead from the first state to where a start wants the variables.
 ghost use Rattle.std.specs.Prelude.{◌≡◌, ◌≢◌, ◌<◌, ◌≤◌, ◌^◌, [], true, None, IfOk, length};
 ghost use Rattle.cip_rational.specs.Rational.{zeroℚ};
-ghost use Rattle.cip_dictionary.specs.Tables.{least};
-ghost use Rattle.cip_dictionary.specs.Dictionary as def;
-ghost use Rattle.cip_dictionary.specs.ProgramState.{first_of_program};
+ghost use Rattle.cip_bland.specs.Tables.{least};
+ghost use Rattle.cip_bland.specs.Dictionary as def;
+ghost use Rattle.cip_bland.specs.ProgramState.{first_of_program};
 ghost use Rattle.cip_simplex.specs.LpShape.{variables};
 ghost use Rattle.cip_simplex.specs.Starts as starts;
 
 use crate::lp::Lp;
 use crate::starts::{Start, stand_first};
 use crate::steps::make;
+use cip_bland::{Move, Stand};
 use cip_dict::Dict;
-use cip_dictionary::{Move, Stand};
 use cip_lin::Sides;
 use std::alloc::AllocError;
 

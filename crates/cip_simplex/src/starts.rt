@@ -1,16 +1,16 @@
 //! Starts: where variables are to be as the moves of the rule begin.
 ghost use Rattle.std.specs.Prelude.{◌≡◌, ◌<◌, ◌^◌, length, IfOk};
-ghost use Rattle.cip_dictionary.specs.Tables.{table};
-ghost use Rattle.cip_dictionary.specs.Dictionary as def;
-ghost use Rattle.cip_dictionary.specs.FirstState.{first_stand};
-ghost use Rattle.cip_dictionary.specs.ProgramState.{first_of_program};
+ghost use Rattle.cip_bland.specs.Tables.{table};
+ghost use Rattle.cip_bland.specs.Dictionary as def;
+ghost use Rattle.cip_bland.specs.FirstState.{first_stand};
+ghost use Rattle.cip_bland.specs.ProgramState.{first_of_program};
 ghost use Rattle.cip_dict.specs.FirstLists.{stand_in};
 ghost use Rattle.cip_simplex.specs.LpShape.{variables};
 ghost use Rattle.cip_simplex.specs.Starts as definitions;
 
 use crate::lp::Lp;
+use cip_bland::Stand;
 use cip_dict::Dict;
-use cip_dictionary::Stand;
 use cip_lin::Sides;
 use std::alloc::{AllocError, Global};
 use std::marker::Model;

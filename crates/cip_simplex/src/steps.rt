@@ -1,9 +1,9 @@
 //! One step by Bland's rule: what is chosen, and the move that is made.
 ghost use Rattle.std.specs.Prelude.{◌≡◌, ◌<◌, ◌^◌, true, false, None, Some, IfOk, MatchBool};
-ghost use Rattle.cip_dictionary.specs.Tables.{least};
-ghost use Rattle.cip_dictionary.specs.Dictionary as def;
-ghost use Rattle.cip_dictionary.specs.Exchange.{after, CanMove};
-ghost use Rattle.cip_dictionary.specs.MoveOperations.{move_operations};
+ghost use Rattle.cip_bland.specs.Tables.{least};
+ghost use Rattle.cip_bland.specs.Dictionary as def;
+ghost use Rattle.cip_bland.specs.Exchange.{after, CanMove};
+ghost use Rattle.cip_bland.specs.MoveOperations.{move_operations};
 ghost use Rattle.cip_bland.specs.Rule as rule;
 ghost use Rattle.cip_bland.specs.MoveList.{is_out_of_range, wide_way_of, ending_at};
 ghost use Rattle.cip_simplex.specs.Advances.{IsChoice, Improves, IsAdvance, ending_of};
@@ -13,9 +13,8 @@ use crate::choice::{
 };
 use crate::headings::stand_ahead;
 use crate::ways::{Way, has_way, shortest_way};
-use cip_bland::Step;
+use cip_bland::{Move, Stand, Step};
 use cip_dict::{Dict, MoveFault};
-use cip_dictionary::{Move, Stand};
 use std::alloc::AllocError;
 
 /// What the rule says at a state before ways are formed.

@@ -1,18 +1,17 @@
 //! The ways of a variable that lets the cost fall, each to a side, and the shortest of them.
 ghost use Rattle.std.specs.Prelude.{◌≡◌, ◌≢◌, ◌<◌, ◌^◌, true, false, is_some, Some, None, MatchOption, MatchResult};
 ghost use Rattle.cip_rational.specs.Rational.{zeroℚ};
-ghost use Rattle.cip_dictionary.specs.Dictionary as def;
-ghost use Rattle.cip_dictionary.specs.Exchange.{other_stand, step, way};
-ghost use Rattle.cip_dictionary.specs.MoveOperations.{step_operations};
+ghost use Rattle.cip_bland.specs.Dictionary as def;
+ghost use Rattle.cip_bland.specs.Exchange.{other_stand, step, way};
+ghost use Rattle.cip_bland.specs.MoveOperations.{step_operations};
 ghost use Rattle.cip_problem.specs.Box.{sides_at};
 ghost use Rattle.cip_bland.specs.Headings as headings;
 ghost use Rattle.cip_bland.specs.Rule as rule;
 ghost use Rattle.cip_bland.specs.MoveList.{is_out_of_range, own_way_operations, wide_way, first_wide_way};
 
 use crate::headings::{change_along, goal_ahead, heading_for, heading_if, is_below};
-use cip_bland::Heading;
+use cip_bland::{Heading, Move, Stand};
 use cip_dict::{Dict, Frac};
-use cip_dictionary::{Move, Stand};
 use cip_lin::Sides;
 use std::marker::Model;
 

@@ -5,15 +5,15 @@ use Rattle.std.proofs.lemmas.List.{length-map}
 use Rattle.std.proofs.lemmas.Option.{none-some, same_Some}
 use Rattle.cip_rational.specs.Rational.{ℚ, ◌*ℚ◌, is_zero}
 use Rattle.cip_problem.specs.Program.{Program}
-use Rattle.cip_dictionary.specs.Tables.{each}
-use Rattle.cip_dictionary.specs.Operations.{Placed, Sum, Product, placed, overflows, first_overflow, value_place}
-use Rattle.cip_dictionary.specs.FirstState.{System, columns_of, first_value, form_operations, first_operations}
+use Rattle.cip_bland.specs.Tables.{each}
+use Rattle.cip_bland.specs.Operations.{Placed, Sum, Product, placed, overflows, first_overflow, value_place}
+use Rattle.cip_bland.specs.FirstState.{System, columns_of, first_value, form_operations, first_operations}
 use Rattle.cip_linear.specs.Multipliers.{row_sides}
-use Rattle.cip_dictionary.specs.ProgramState.{system_of}
-use Rattle.cip_dictionary.proofs.Overflow.{overflow-append, overflow-found}
-use Rattle.cip_dictionary.specs.declared.places.Line.{Line}
-use Rattle.cip_dictionary.specs.declared.places.Line.TheVariants as line
-use Rattle.cip_dictionary.specs.declared.places.EntryPlace as dictionary
+use Rattle.cip_bland.specs.ProgramState.{system_of}
+use Rattle.cip_bland.proofs.Overflow.{overflow-append, overflow-found}
+use Rattle.cip_bland.specs.declared.places.Line.{Line}
+use Rattle.cip_bland.specs.declared.places.Line.TheVariants as line
+use Rattle.cip_bland.specs.declared.places.EntryPlace as dictionary
 use Rattle.cip_leaves.specs.Wide.{InRow}
 use Rattle.cip_leaves.specs.LeafProgram.{row_of_leaf, program_of_leaf}
 use Rattle.cip_leaves.specs.WideLeaf.{FirstValueOverflows}

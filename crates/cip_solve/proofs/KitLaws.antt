@@ -2,9 +2,9 @@
 use Rattle.std.proofs.Common.{◌≡◌, inr, ℕ, ◌+◌, ◌≤◌, Bool, true, false, List, [], Option, None, refl, sym, subst}
 use Rattle.cip_events.specs.declared.traces.Trace.{Trace}
 use Rattle.cip_problem.specs.Log.{Entry}
-use Rattle.cip_seats.specs.Seats.{State}
+use Rattle.cip_plugin.specs.Seats.{State}
 use Rattle.cip_processing.proofs.PassedOn.{run_count}
-use Rattle.cip_kits.specs.Kits.{Stock, HasRoomFor}
+use Rattle.cip_solve.specs.Kits.{Stock, HasRoomFor}
 use Rattle.cip_solve.specs.KitsServed.{IsKitAfter}
 use Rattle.cip_solve.specs.SplitsServed.{HasServed}
 

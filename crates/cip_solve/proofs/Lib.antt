@@ -1,6 +1,7 @@
 pub mod AnswerLaws
 pub mod BegunLaws
 pub mod ComesTo
+pub mod Ending
 pub mod FinishLaws
 pub mod FirstLaws
 pub mod FirstRows
@@ -17,6 +18,7 @@ pub mod SameColumns
 pub mod SameSearches
 pub mod SeenLaws
 pub mod Serving
+pub mod SetAside
 pub mod SolvedLaws
 pub mod TurnLaws
 pub mod WorkedNodes

@@ -9,18 +9,18 @@ use Rattle.cip_plugin.specs.Calls.{Call}
 use Rattle.cip_plugin.specs.Telling.{Heard}
 use Rattle.cip_plugin.specs.Who.{Who}
 use Rattle.cip_plugin.specs.declared.kinds.Kind.{Kind}
-use Rattle.cip_seats.specs.declared.stages.Stage.{Stage}
-use Rattle.cip_seats.specs.declared.stages.Stage.TheVariants.{Fresh, Begun, Playing, Left, Gone}
-use Rattle.cip_seats.specs.Lives.{LivesAreTold, life, newborn, words_of, word_of, callbacks}
-use Rattle.cip_seats.specs.Seats.{Standing, Seat, State, is_alive, is_live}
-use Rattle.cip_seats.specs.Steps.{Step, IsSeated, Runs, calls_of}
-use Rattle.cip_seats.proofs.Running.{Runs-append, run_lives, run_told}
-use Rattle.cip_seats.proofs.Tracing.{run_tells}
+use Rattle.cip_plugin.specs.declared.stages.Stage.{Stage}
+use Rattle.cip_plugin.specs.declared.stages.Stage.TheVariants.{Fresh, Begun, Playing, Left, Gone}
+use Rattle.cip_plugin.specs.Lives.{LivesAreTold, life, newborn, words_of, word_of, callbacks}
+use Rattle.cip_plugin.specs.Seats.{Standing, Seat, State, is_alive, is_live}
+use Rattle.cip_plugin.specs.Steps.{Step, IsSeated, Runs, calls_of}
+use Rattle.cip_plugin.proofs.Running.{Runs-append, run_lives, run_told}
+use Rattle.cip_plugin.proofs.Tracing.{run_tells}
 use Rattle.cip_roster.specs.Begun.{AreSeated, all_begin}
 use Rattle.cip_roster.specs.Closed.{backs, shelf_backs, all_end}
 use Rattle.cip_roster.proofs.Beginning.{begun_lives}
 use Rattle.cip_roster.proofs.Keeping.{at_place}
-use Rattle.cip_kits.specs.Kits.{Stock}
+use Rattle.cip_solve.specs.Kits.{Stock}
 use Rattle.cip_solve.specs.KitsServed.{HasServedKit}
 use Rattle.cip_solve.specs.WholeLives.{IsWholeLife, HasTold, HaveLived, LivesAreWhole}
 

@@ -9,10 +9,10 @@ use Rattle.cip_events.specs.Events.{event_at}
 use Rattle.cip_events.specs.declared.events.EventKind.TheVariants.{NodeFocused}
 use Rattle.cip_plugin.specs.Asking.{asks}
 use Rattle.cip_plugin.specs.Calls.{Ask, Separate, Propagate, Search, OnEvent, Call}
-use Rattle.cip_seats.specs.Seats.{Seat, State, is_settled}
-use Rattle.cip_seats.specs.Steps.{Step, calls_of, asks_in}
-use Rattle.cip_seats.proofs.Hearing.{asks_in-append}
-use Rattle.cip_seats.proofs.Running.{calls_of-append, Runs-append}
+use Rattle.cip_plugin.specs.Seats.{Seat, State, is_settled}
+use Rattle.cip_plugin.specs.Steps.{Step, calls_of, asks_in}
+use Rattle.cip_plugin.proofs.Hearing.{asks_in-append}
+use Rattle.cip_plugin.proofs.Running.{calls_of-append, Runs-append}
 use Rattle.cip_processing.specs.Wished.{Ran}
 use Rattle.cip_processing.specs.Served.{is_wanted, IsServed}
 use Rattle.cip_processing.proofs.PassedOn.{between}

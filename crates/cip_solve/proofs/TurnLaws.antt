@@ -218,3 +218,7 @@ module _ (old mid new : CoreState) (node : TakenNode) (worst : Option Worst) (ta
 -- no node is open
 pub nothing_open : (program reduced : Program) (way : WayBack) (start : Option ℚ) (nodes : ℕ) (asked : Option ℚ) (old : Nodes) (holding : Holding) (worst : Option Worst) → old.open_ ≡ [] → IsStill program reduced way start old holding worst → StopsAs program reduced way start nodes asked old holding worst Still
 nothing_open program reduced way start nodes asked old holding worst o k = record { still = k; spent = λ n. absurd (n o) }
+
+-- no node was there
+pub longer_itself : (log : List Entry) → length log ≤ length log + 1
+longer_itself log = omega arith

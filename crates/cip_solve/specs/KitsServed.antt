@@ -2,8 +2,8 @@
 use Rattle.std.specs.Prelude.{◌≡◌, ◌⊎◌, Bool, true, false, ◌||◌, List, [], Option, None}
 use Rattle.cip_events.specs.declared.traces.Trace.{Trace}
 use Rattle.cip_problem.specs.Log.{Entry}
-use Rattle.cip_seats.specs.Seats.{State}
-use Rattle.cip_kits.specs.Kits.{Stock, is_bare, HasBegun, HasEnded}
+use Rattle.cip_plugin.specs.Seats.{State}
+use Rattle.cip_solve.specs.Kits.{Stock, is_bare, HasBegun, HasEnded}
 use Rattle.cip_solve.specs.SplitsServed.{splits_in, HasServed}
 
 -- nobody is asked in a search: it is to go without plugins, or there are none

@@ -1,5 +1,6 @@
 pub mod Answered
 pub mod FirstStops
+pub mod Kits
 pub mod KitsServed
 pub mod Logs
 pub mod NodesWorked
@@ -15,7 +16,6 @@ pub mod WholeLives
 pub use Rattle.cip_endings.specs.AnswerOf
 pub use Rattle.cip_processing.specs.Beginning
 pub use Rattle.cip_processing.specs.CoreStates
-pub use Rattle.cip_kits.specs.Kits
 pub use Rattle.cip_processing.specs.Later
 pub use Rattle.cip_processing.specs.LeafAnswers
 pub use Rattle.cip_processing.specs.Looking

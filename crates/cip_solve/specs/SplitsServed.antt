@@ -4,9 +4,9 @@ use Rattle.cip_problem.specs.Log.{End, Split, Closed, Parked, Entry}
 use Rattle.cip_plugin.specs.Asking.{asks}
 use Rattle.cip_plugin.specs.Calls.{Separate, Propagate, Search}
 use Rattle.cip_plugin.specs.declared.kinds.Kind.{Kind}
-use Rattle.cip_seats.specs.Seats.{Seat, State}
-use Rattle.cip_seats.specs.Steps.{Step, Runs, calls_of, asks_in}
-use Rattle.cip_seats.specs.Wishing.{IsOnThroughout}
+use Rattle.cip_plugin.specs.Seats.{Seat, State}
+use Rattle.cip_plugin.specs.Steps.{Step, Runs, calls_of, asks_in}
+use Rattle.cip_plugin.specs.Wishing.{IsOnThroughout}
 use Rattle.cip_processing.specs.NodeEnd.{NodeEnd}
 use Rattle.cip_processing.specs.NodeEnd.TheVariants as by
 

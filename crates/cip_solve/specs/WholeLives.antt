@@ -7,11 +7,11 @@ use Rattle.cip_plugin.specs.Calls.{Call}
 use Rattle.cip_plugin.specs.Telling.{Heard}
 use Rattle.cip_plugin.specs.Who.{Who}
 use Rattle.cip_plugin.specs.declared.kinds.Kind.{Kind}
-use Rattle.cip_seats.specs.declared.stages.Stage.TheVariants.{Gone}
-use Rattle.cip_seats.specs.Lives.{life, newborn, words_of, word_of, callbacks}
-use Rattle.cip_seats.specs.Seats.{Seat}
+use Rattle.cip_plugin.specs.declared.stages.Stage.TheVariants.{Gone}
+use Rattle.cip_plugin.specs.Lives.{life, newborn, words_of, word_of, callbacks}
+use Rattle.cip_plugin.specs.Seats.{Seat}
 use Rattle.cip_roster.specs.Closed.{backs, shelf_backs}
-use Rattle.cip_kits.specs.Kits.{Stock}
+use Rattle.cip_solve.specs.Kits.{Stock}
 use Rattle.cip_solve.specs.KitsServed.{HasServedKit}
 
 -- the words of a plugin of a kind are those of a whole life: behind the last one it is closed

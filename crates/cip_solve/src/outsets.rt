@@ -5,12 +5,12 @@ ghost use Rattle.cip_processing.specs.PresolvedPrograms.{IsPresolved};
 ghost use Rattle.cip_processing.specs.Beginning.{AreNearColumns};
 ghost use Rattle.cip_processing.specs.ProposalsJudged.{HaveRoom};
 ghost use Rattle.cip_processing.specs.Turns.{IsSound};
-ghost use Rattle.cip_kits.specs.Kits.{stock_of, IsFew, HasBegun, HasRoomFor};
+ghost use Rattle.cip_solve.specs.Kits.{stock_of, IsFew, HasBegun, HasRoomFor};
 ghost use Rattle.cip_solve.specs.Outsets.{HasBegunWith};
 
 use crate::asking::Asking;
+use crate::begin;
 use cip_frac::Frac;
-use cip_kits::begin;
 use cip_lin::Combo;
 use cip_model::{Blocks, Program};
 use cip_plugin::{AnyPlugin, Kit, Tells, View};

@@ -70,6 +70,7 @@ fn nearer(alloc: Global, program: &Program, presolved: Presolved) -> Result<Pres
     if has_near_columns(&presolved.reduced) {
         return Ok(presolved);
     }
+    drop(presolved);
     Presolved::same(alloc, program)
 }
 

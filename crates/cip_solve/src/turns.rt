@@ -3,7 +3,7 @@ ghost use Rattle.std.specs.Prelude.{◌≡◌, ℕ, ◌+◌, ◌<◌, ◌≤◌,
 ghost use Rattle.std.specs.Prelude.{vec_len, vec_capacity};
 ghost use Rattle.cip_rational.specs.Rational.{ℚ};
 ghost use Rattle.cip_problem.specs.WellFormed.{columns};
-ghost use Rattle.cip_seats.specs.Seats.{State};
+ghost use Rattle.cip_plugin.specs.Seats.{State};
 ghost use Rattle.cip_processing.specs.CoreStates.{reduced_of, way_of};
 ghost use Rattle.cip_solve.specs.FirstStops.{IsLongerLog};
 ghost use Rattle.cip_solve.specs.Logs.{marks_by};

@@ -1,7 +1,7 @@
 //! What works on the nodes of a search: with plugins or without.
 ghost use Rattle.std.specs.Prelude.{◌≡◌, ℕ, Bool, true, false, All, MatchResult};
 ghost use Rattle.cip_problem.specs.WellFormed.{columns};
-ghost use Rattle.cip_seats.specs.Seats.{State, is_settled};
+ghost use Rattle.cip_plugin.specs.Seats.{State, is_settled};
 ghost use Rattle.cip_processing.specs.CoreStates.{reduced_of};
 ghost use Rattle.cip_processing.specs.Steps.{IsBack};
 ghost use Rattle.cip_processing.specs.Looking.{CanWorkOn};

@@ -6,10 +6,10 @@ use Rattle.cip_plugin.specs.Calls.{Ask}
 use Rattle.cip_plugin.specs.declared.asking.Given.{Given}
 use Rattle.cip_plugin.specs.declared.kinds.Kind.{Kind}
 use Rattle.cip_plugin.specs.declared.proposals.Wish.{Wish}
-use Rattle.cip_seats.specs.declared.faults.WishFault.{WishFault}
-use Rattle.cip_seats.specs.Seats.{Seat, State, held_count}
-use Rattle.cip_seats.specs.Steps.{Step, Notes, Runs}
-use Rattle.cip_seats.specs.Calling.{all_turns}
+use Rattle.cip_plugin.specs.declared.faults.WishFault.{WishFault}
+use Rattle.cip_plugin.specs.Seats.{Seat, State, held_count}
+use Rattle.cip_plugin.specs.Steps.{Step, Notes, Runs}
+use Rattle.cip_plugin.specs.Calling.{all_turns}
 use Rattle.cip_roster.specs.Turns.{CalledKind}
 use Rattle.cip_roster.specs.Wished.{Ran, WasGranted, WasRefused}
 use Rattle.cip_roster.proofs.Delivery.{ran_more}

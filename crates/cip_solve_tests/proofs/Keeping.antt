@@ -2,7 +2,7 @@
 use Rattle.std.proofs.Common.{◌≡◌, ℕ, ◌+◌, List, [], ◌∷◌, ◌++◌, map, ap, ◌∙◌}
 use Rattle.std.proofs.lemmas.List.{map-append}
 use Rattle.cip_plugin.specs.Telling.{endings}
-use Rattle.cip_seats.proofs.Telling.{endings-append}
+use Rattle.cip_plugin.proofs.Telling.{endings-append}
 use Rattle.cip_solve_tests.specs.declared.told.Told.{Told}
 use Rattle.cip_solve_tests.specs.ToldCalls.{told_call}
 

@@ -2,11 +2,11 @@
 ghost use Rattle.std.specs.Prelude.{[], IsTrue};
 ghost use Rattle.cip_problem.specs.Wholes.{AllHaveWholes};
 ghost use Rattle.cip_problem.specs.WellFormed.{columns};
-ghost use Rattle.cip_judge.specs.CoreStates.{reduced_of, IsKeptIn, IsTakenUp, IsAtWork, IsGivenBound};
-ghost use Rattle.cip_judge.specs.ProposalsJudged.{HaveRoom};
+ghost use Rattle.cip_calls.specs.CoreStates.{reduced_of, IsKeptIn, IsTakenUp, IsAtWork, IsGivenBound};
+ghost use Rattle.cip_calls.specs.ProposalsJudged.{HaveRoom};
 
 use crate::programs::{MIXED_COLUMNS, TWO_COLUMNS, has_near_columns, program_of};
-use cip_judge::{Core, JudgeFault, Judged, NodeFault, Presolved, Ruled, Scratches, judge};
+use cip_calls::{Core, JudgeFault, Judged, NodeFault, Presolved, Ruled, Scratches, judge};
 use cip_model::Program;
 use cip_node_rules::{Looked, look_at};
 use cip_plugin::{Enforced, Proposal, Split};

@@ -1,12 +1,12 @@
 //! Texts of points that are read as a whole.
 use crate::text_programs::{JOINED, cost_at, program_of};
+use cip_input::point_of_text;
 use cip_model::Program;
-use cip_point::read_point;
 use std::alloc::Global;
 
 /// The cost of the point of a text, in the minimised form; none where it is not feasible.
 fn cost_of(alloc: Global, program: &Program, text: &str) -> Option<i128> {
-    match read_point(alloc, text.as_bytes(), program) {
+    match point_of_text(alloc, text.as_bytes(), program) {
         Ok(point) => cost_at(program, point.as_slice()),
         Err(_) => None,
     }

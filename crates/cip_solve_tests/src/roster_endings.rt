@@ -1,6 +1,6 @@
 //! How a roster ends, and what it leaves.
 ghost use Rattle.std.specs.Prelude.{◌+◌, ◌≤◌, All, IsSome, OnOk, length, slice_get, vec_len, vec_capacity};
-ghost use Rattle.cip_seats.specs.Seats.{held_count};
+ghost use Rattle.cip_plugin.specs.Seats.{held_count};
 ghost use Rattle.cip_roster.specs.Turns.{IsSound};
 ghost use Rattle.cip_roster.specs.Wished.{Ran};
 

@@ -13,7 +13,7 @@ use Rattle.cip_problem.proofs.Points.AtPlaces.{in_box_at}
 use Rattle.cip_reductions.specs.RowSteps.{side_less}
 use Rattle.cip_steps.specs.RowReading.{only_value, with_value, fixed_from, before_others, free_terms, IsLeftRow}
 
-and_parts : (a b : Bool) → (a && b) ≡ true → (a ≡ true) × (b ≡ true)
+pub and_parts : (a b : Bool) → (a && b) ≡ true → (a ≡ true) × (b ≡ true)
 and_parts true b h = (refl, h)
 and_parts false b h = absurd (true≢false (sym h))
 

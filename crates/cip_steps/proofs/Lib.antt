@@ -1,9 +1,16 @@
 pub mod Drafted
 pub mod Enclosing
 pub mod FixedColumns
+pub mod FormsKept
+pub mod FormsOfRows
+pub mod ImpliedSides
 pub mod PassedOn
 pub mod Recosted
+pub mod RestSums
 pub mod RowTermsKept
-pub mod RowsPassedOn
+pub mod RowsReplaced
 pub mod Ruled
 pub mod Singled
+pub mod SourceSides
+pub mod Substituting
+pub mod TermsPut

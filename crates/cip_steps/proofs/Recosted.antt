@@ -8,15 +8,12 @@ use Rattle.cip_problem.specs.Program.{Sides, Program}
 use Rattle.cip_problem.specs.Activity.{value_at}
 use Rattle.cip_problem.specs.Box.{sides_at, sides_equal}
 use Rattle.cip_steps.specs.Outcomes.{product_added}
-use Rattle.cip_steps.proofs.RowsPassedOn.{product_added-value}
+use Rattle.cip_lin.proofs.PassedOn.{product_added-value}
 use Rattle.cip_steps.specs.NarrowedPrograms.{IsExactStep, IsInfeasible, with_cost}
-use Rattle.cip_steps.proofs.RowsPassedOn.{recosted, not_whole}
+use Rattle.cip_reductions.proofs.RowSteps.{recosted, not_whole}
 use Rattle.cip_steps.specs.RowReading.{only_value}
 use Rattle.cip_steps.proofs.Ruled.{stays}
-
-and_parts : (a b : Bool) → (a && b) ≡ true → (a ≡ true) × (b ≡ true)
-and_parts true b h = (refl, h)
-and_parts false b h = absurd (true≢false (sym h))
+use Rattle.cip_steps.proofs.FixedColumns.{and_parts}
 
 both_of : (low high : Option ℚ) (value : ℚ) (t : Bool) → sides_equal low high ≡ t → (if t then low else None) ≡ Some value → (low ≡ Some value) × (high ≡ Some value)
 both_of None high value true e k = absurd (none-some value k)

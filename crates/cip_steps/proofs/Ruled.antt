@@ -5,8 +5,8 @@ use Rattle.cip_problem.specs.Program.{Sides, Row, Program}
 use Rattle.cip_steps.specs.NarrowedPrograms.{IsExactStep, IsInfeasible, with_row}
 use Rattle.cip_steps.specs.RowSteps.{HoldsInAll, HoldsNowhere}
 use Rattle.cip_problem.specs.Program.{no_row}
-use Rattle.cip_steps.proofs.RowsPassedOn.{exact_self, exact_after}
-use Rattle.cip_steps.proofs.RowsPassedOn.{dropped, broken, shifted}
+use Rattle.cip_reductions.proofs.Pairing.{exact_self, exact_after}
+use Rattle.cip_reductions.proofs.RowSteps.{dropped, broken, shifted}
 use Rattle.cip_steps.specs.RowReading.{IsLeftRow}
 use Rattle.cip_steps.specs.RuleEnds.{IsCleaned}
 

@@ -19,7 +19,7 @@ use Rattle.cip_steps.specs.MetSides.{is_past}
 use Rattle.cip_steps.specs.NarrowedPrograms.{IsExactStep, IsInfeasible, with_row, with_sides}
 use Rattle.cip_steps.specs.RowSteps.{divided_sides}
 use Rattle.cip_problem.specs.Program.{no_row}
-use Rattle.cip_steps.proofs.RowsPassedOn.{single_taken, divided, multiplied}
+use Rattle.cip_reductions.proofs.RowSteps.{single_taken, divided, multiplied}
 use Rattle.cip_steps.specs.SingleRows.{HasOneTerm, inward_if, single_sides}
 use Rattle.cip_steps.specs.RuleEnds.{IsSingled}
 use Rattle.cip_steps.proofs.Enclosing.{past_below}

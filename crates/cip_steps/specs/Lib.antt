@@ -1,8 +1,13 @@
+pub mod ColumnForms
 pub mod DraftInside
 pub mod DraftParts
+pub mod FormEnds
+pub mod PutTerms
+pub mod Rests
 pub mod RowReading
 pub mod RuleEnds
 pub mod SingleRows
+pub mod Taken
 pub use Rattle.cip_model.specs.Programs
 pub use Rattle.cip_linear.specs.Reduced
 pub use Rattle.cip_reductions.specs.Compacting

@@ -7,12 +7,12 @@ use Rattle.cip_rational.specs.Rational.{integer, absolute, ratio, whole, negate,
 use Rattle.cip_problem.specs.Program.{Program}
 use Rattle.cip_problem.specs.NearSides.{HasNearSides}
 use Rattle.cip_problem.specs.WellFormed.{IsWellFormed}
-use Rattle.cip_generator.specs.Generated.{most_drawn, natural, zero_to_three, generated, entries_of}
-use Rattle.cip_generator.specs.Statements.{GeneratedAreFormed}
+use Rattle.cip_tasks.specs.Generated.{most_drawn, natural, zero_to_three, generated, entries_of}
+use Rattle.cip_tasks.specs.Statements.{GeneratedAreFormed}
 use Rattle.cip_input.specs.LimitedModels.{IsLimited}
 use Rattle.cip_input.proofs.NearSides.{zero_near}
 use Rattle.cip_io.specs.Store.{StoreTells}
-use Rattle.cip_words.specs.Jobs.{Job, Generate}
+use Rattle.cip_tasks.specs.Jobs.{Job, Generate}
 use Rattle.cip_tasks.specs.Tasks.{IsDrawn}
 
 -- ---- its sides are near

@@ -1,4 +1,14 @@
+pub mod Commands
+pub mod DrawLaws
+pub mod EntryLaws
+pub mod Examples
+pub mod FeasibleOnes
+pub mod FormedPrograms
 pub mod Generated
+pub mod LeafCounts
 pub mod Names
+pub mod Naturals
+pub mod Numbers
+pub mod Plus
 pub mod Readings
 pub mod RefusalTexts

@@ -5,10 +5,10 @@ use Rattle.std.specs.Str.{bytes_eq}
 use Rattle.std.specs.Result.{IsErrAnd}
 use Rattle.std.proofs.Common.{sym, ap, ap₂, ◌∙◌, subst, Bor}
 use Rattle.cip_plugin.specs.Who.{Who}
-use Rattle.cip_words.specs.Jobs.{Job, are_among, off_in, job_for}
-use Rattle.cip_words.specs.WordsRead.{WordsCause}
-use Rattle.cip_words.specs.declared.words.WordsFault.{WordsFault}
-use Rattle.cip_words.specs.declared.words.WordsFault.TheVariants.{Refused, NoMemory}
+use Rattle.cip_tasks.specs.Jobs.{Job, are_among, off_in, job_for}
+use Rattle.cip_tasks.specs.WordsRead.{WordsCause}
+use Rattle.cip_tasks.specs.declared.words.WordsFault.{WordsFault}
+use Rattle.cip_tasks.specs.declared.words.WordsFault.TheVariants.{Refused, NoMemory}
 use Rattle.cip_tasks.specs.Tasks.{labels_of}
 
 any_named : {P : Type 0} (who : P → Who) (name : List ℕ) (plugins : List P) → list_any (λ plugin. bytes_eq (who plugin).label name) plugins ≡ list_any (λ label. bytes_eq label name) (labels_of (map who plugins))

@@ -20,7 +20,7 @@ use Rattle.cip_input.specs.BlocksRead.{ReadsBlocks, BlocksCause}
 use Rattle.cip_input.specs.PointsRead.{ReadsPoint, PointCause}
 use Rattle.cip_input.specs.declared.model_kinds.ModelKind.{ModelKind}
 use Rattle.cip_input.specs.BlockKind.{BlockKind}
-use Rattle.cip_input.specs.PointKind.{PointKind}
+use Rattle.cip_input.specs.declared.kinds.PointKind.{PointKind}
 use Rattle.cip_input.specs.declared.unread.Unread.{Unread}
 use Rattle.cip_input.specs.declared.unread.Unread.TheVariants.{StoreFailed, Faulty, NoMemory}
 use Rattle.cip_input.specs.TextFault.{TextFault}
@@ -28,8 +28,8 @@ use Rattle.cip_tasks.specs.declared.refusals.FaultyText.{FaultyText}
 use Rattle.cip_tasks.specs.declared.refusals.FaultyText.TheVariants as text
 use Rattle.cip_tasks.specs.declared.plain.Plain.TheVariants as plain
 use Rattle.cip_io.specs.Store.{StoreTells}
-use Rattle.cip_words.specs.Jobs.{Limits, Job, Solve, Check, Generate, AsksForSome}
-use Rattle.cip_generator.specs.Generated.{most_drawn}
+use Rattle.cip_tasks.specs.Jobs.{Limits, Job, Solve, Check, Generate, AsksForSome}
+use Rattle.cip_tasks.specs.Generated.{most_drawn}
 use Rattle.cip_tasks.specs.declared.plain.Plain.{Plain}
 use Rattle.cip_problem.specs.BlockParts.{Blocks as Parts}
 use Rattle.cip_tasks.specs.Tasks.{IsPlain, model_of, model_in, TakesBlocks, IsSolve, IsCheck, TaskCause}

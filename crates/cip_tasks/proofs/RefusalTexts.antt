@@ -8,8 +8,8 @@ use Rattle.std.proofs.lemmas.Bool.{eqb-true}
 use Rattle.std.proofs.lemmas.List.Elements.{recursion_from_All}
 use Rattle.cip_rational.specs.Rational.{integer, denominator}
 use Rattle.cip_rational.proofs.Rational.Lowest.{numerator-integer, denominator-integer}
-use Rattle.cip_number_text.specs.NumberText.{natural_text, integer_text, denominator_text, fraction_text}
-use Rattle.cip_number_text.proofs.NumberText.{IsFractionByte, fraction_text_plain, natural_text_decimal, natural_text_injective}
+use Rattle.cip_rational.specs.NumberText.{natural_text, integer_text, denominator_text, fraction_text}
+use Rattle.cip_rational.proofs.NumberText.{IsFractionByte, fraction_text_plain, natural_text_decimal, natural_text_injective}
 use Rattle.cip_answers.specs.Figures.{end_line, line, refusal_text}
 use Rattle.cip_input.specs.MpsKindTexts.{kind_texts as mps_texts}
 use Rattle.cip_input.specs.LpKindTexts.{kind_texts as lp_texts}

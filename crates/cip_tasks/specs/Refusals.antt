@@ -4,7 +4,7 @@
 --     RefusalsTell      it determines which text is faulty, the line and the number of the kind
 use lib.Chars.{codes}
 use Rattle.std.specs.Prelude.{◌≡◌, ℕ, List}
-use Rattle.cip_number_text.specs.NumberText.{natural_text}
+use Rattle.cip_rational.specs.NumberText.{natural_text}
 use Rattle.cip_answers.specs.Figures.{refusal_text}
 use Rattle.cip_input.specs.BlockKindTexts.{kind_number as block_kind_number, kind_text as block_kind_text}
 use Rattle.cip_input.specs.PointKindTexts.{kind_number as point_kind_number, kind_text as point_kind_text}

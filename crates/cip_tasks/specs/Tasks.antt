@@ -13,12 +13,12 @@ use Rattle.cip_block_rules.specs.BlockRules.{block_reading}
 use Rattle.cip_point_rules.specs.PointRules.{point_reading}
 use Rattle.cip_input.specs.BlockKindTexts.{kind_number as block_kind_number}
 use Rattle.cip_input.specs.PointKindTexts.{kind_number as point_kind_number}
-use Rattle.cip_generator.specs.Generated.{generated, entries_of}
+use Rattle.cip_tasks.specs.Generated.{generated, entries_of}
 use Rattle.cip_plugin.specs.Who.{Who}
-use Rattle.cip_words.specs.Jobs.{Limits, Job, Solve, Check, Generate}
-use Rattle.cip_words.specs.WordsRead.{limits_of}
-use Rattle.cip_words.specs.declared.words.WordsFault.{WordsFault}
-use Rattle.cip_words.specs.declared.words.WordsFault.TheVariants as words
+use Rattle.cip_tasks.specs.Jobs.{Limits, Job, Solve, Check, Generate}
+use Rattle.cip_tasks.specs.WordsRead.{limits_of}
+use Rattle.cip_tasks.specs.declared.words.WordsFault.{WordsFault}
+use Rattle.cip_tasks.specs.declared.words.WordsFault.TheVariants as words
 use Rattle.cip_input.specs.LimitedModels.{IsLimited}
 use Rattle.cip_input.specs.TextsRead.{RefusesText}
 use Rattle.cip_input.specs.ModelsRead.{Reads, Refuses}

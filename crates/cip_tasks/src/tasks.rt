@@ -2,23 +2,22 @@
 ghost use Rattle.std.specs.Prelude.{◌≡◌, ◌<◌, ◌≤◌, ℕ, List, Option, Some, IfOk, MatchResult, map, option_map};
 ghost use Rattle.std.specs.List.{list_all, list_any};
 ghost use Rattle.std.specs.Str.{bytes_eq};
-ghost use Rattle.cip_words.specs.Jobs.{Job as Asked, Limits as Wanted, Solve, Check, Generate, AsksForSome, are_among, off_in, job_of, job_for};
-ghost use Rattle.cip_words.specs.WordsRead.{meant, WordsCause};
-ghost use Rattle.cip_generator.specs.Generated.{most_drawn};
+ghost use Rattle.cip_tasks.specs.Jobs.{Job as Asked, Limits as Wanted, Solve, Check, Generate, AsksForSome, are_among, off_in, job_of, job_for};
+ghost use Rattle.cip_tasks.specs.WordsRead.{meant, WordsCause};
+ghost use Rattle.cip_tasks.specs.Generated.{most_drawn};
 ghost use Rattle.cip_io.specs.Store.{StoreTells};
 ghost use Rattle.cip_input.specs.ModelsRead.{Reads};
 ghost use Rattle.cip_tasks.specs.Tasks.{labels_of, TakesBlocks, IsSolve, IsTask, TaskCause};
 
 use crate::plain::Plain;
 use crate::refusals::FaultyText;
+use crate::{Job, Limits, Words, WordsFault, entries, generate, generated_are_formed};
 use cip_frac::Frac;
-use cip_generator::{entries, generate, generated_are_formed};
 use cip_input::{TextFault, Unread, programs_are_limited, read_blocks, read_point, read_program};
 use cip_io::Store;
 use cip_model::Program;
 use cip_plugin::Tells;
 use cip_point_rules::points::points_are_of_lines;
-use cip_words::{Job, Limits, Words, WordsFault};
 use std::alloc::Global;
 
 /// What is to be done.

@@ -7,7 +7,7 @@ use Rattle.std.proofs.lemmas.Bool.{le-leb, lt-leb}
 use Rattle.std.proofs.lemmas.List.{length-take-le, get_or-take}
 use Rattle.std.proofs.Math.Nat.{pow-le-pow_right, le-mul_of_pos_right, mul-le-mul_right}
 use Rattle.cip_rational.specs.Range.{largest}
-use Rattle.cip_number_text.specs.Numeral.{Exact, Huge, TooFine, scaled, whole_numeral, decimal_numeral, digits_value, size_of, zeros_at_end, is_zero_digit}
+use Rattle.cip_rational.specs.Numeral.{Exact, Huge, TooFine, scaled, whole_numeral, decimal_numeral, digits_value, size_of, zeros_at_end, is_zero_digit}
 use Rattle.cip_text.specs.Amounts.{capped}
 use Rattle.cip_text.proofs.Amounts.{capped_value, capped_over, power_over, power_small, power_some, product_over, product_far}
 use Rattle.cip_text.proofs.DigitLists.{IsCut, cut_digits, value_below, value_some, digits_take, last_kept}

@@ -9,7 +9,7 @@ use Rattle.std.proofs.lemmas.List.Folds.{list_all-append}
 use Rattle.std.proofs.lemmas.List.Sums.{prefix_len_stops, AllPass-from_list_all}
 use Rattle.std.proofs.lemmas.Int.Digits.{number_after_append, number_after_ge, number_lt}
 use Rattle.std.proofs.Math.Nat.{pow-suc}
-use Rattle.cip_number_text.specs.Numeral.{digits_value, zeros_at_end, is_zero_digit}
+use Rattle.cip_rational.specs.Numeral.{digits_value, zeros_at_end, is_zero_digit}
 
 abbrev pub digit : ℕ → ℕ
 digit byte = byte - 48

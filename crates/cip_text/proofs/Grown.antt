@@ -9,7 +9,7 @@ use Rattle.std.proofs.lemmas.Int.Digits.{number_after_ge}
 use Rattle.std.proofs.lemmas.Nat.{pow-add}
 use Rattle.std.proofs.Math.Nat.{pow-le-pow_right, mul-le-mul_left}
 use Rattle.cip_rational.specs.Range.{largest}
-use Rattle.cip_number_text.specs.Numeral.{digits_value, zeros_at_end, is_zero_digit}
+use Rattle.cip_rational.specs.Numeral.{digits_value, zeros_at_end, is_zero_digit}
 use Rattle.cip_text.specs.Amounts.{capped}
 use Rattle.cip_text.proofs.Amounts.{capped_none, capped_value, capped_over}
 use Rattle.cip_text.proofs.DigitLists.{digit, after_more, after_part, after_split, first_both}

@@ -12,8 +12,8 @@ use Rattle.cip_frac.specs.declared.fraction.FracFault.{FracFault}
 use Rattle.cip_frac.specs.declared.fraction.FracFault.TheVariants.{ZeroBelow, Wide}
 use Rattle.cip_frac.specs.FractionFault.{quotient_of, IsFaultOf}
 use Rattle.cip_frac.proofs.Casts.{kept}
-use Rattle.cip_number_text.specs.Numeral.{signed}
-use Rattle.cip_number_text.proofs.InRange.{IsSound}
+use Rattle.cip_rational.specs.Numeral.{signed}
+use Rattle.cip_rational.proofs.InRange.{IsSound}
 use Rattle.cip_text.specs.declared.reading.Reading.{Reading}
 use Rattle.cip_text.specs.declared.reading.Reading.TheVariants.{Fits, NoNumber, Large, Fine}
 use Rattle.cip_text.specs.Readings.{said, FitsRange}

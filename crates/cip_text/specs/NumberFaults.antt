@@ -1,5 +1,5 @@
 -- Why a text has no value, as what it says.
-use Rattle.cip_number_text.specs.Numeral as text
+use Rattle.cip_rational.specs.Numeral as text
 use Rattle.cip_text.specs.declared.number_text.NumberFault.{NumberFault}
 use Rattle.cip_text.specs.declared.number_text.NumberFault.TheVariants.{NotANumber, Huge, TooFine}
 

@@ -1,7 +1,7 @@
 -- What the code reads in a text, as the number that the text says.
 use Rattle.std.specs.Prelude.{◌<◌, ◌≤◌}
 use Rattle.cip_rational.specs.Range.{largest}
-use Rattle.cip_number_text.specs.Numeral.{Numeral, Exact, NotANumber, Huge, TooFine}
+use Rattle.cip_rational.specs.Numeral.{Numeral, Exact, NotANumber, Huge, TooFine}
 use Rattle.cip_text.specs.declared.reading.Reading.{Reading}
 use Rattle.cip_text.specs.declared.reading.Reading.TheVariants.{Fits, NoNumber, Large, Fine}
 

@@ -3,7 +3,7 @@ ghost use Rattle.std.specs.Prelude.{◌≡◌, ◌*◌, ◌^◌, ◌+◌, ◌-�
 ghost use Rattle.std.specs.Char.{is_ascii_digit};
 ghost use Rattle.std.specs.List.{list_all};
 ghost use Rattle.cip_rational.specs.Range.{largest};
-ghost use Rattle.cip_number_text.specs.Numeral as text;
+ghost use Rattle.cip_rational.specs.Numeral as text;
 ghost use Rattle.cip_text.specs.Readings.{said};
 
 use crate::digits::{LARGEST, grow, number_of_first, with_zeros, zeros_at_both_ends};

@@ -4,7 +4,7 @@ ghost use Rattle.std.specs.Char.{is_ascii_digit};
 ghost use Rattle.std.specs.Int.Digits.{number_from_digits_after};
 ghost use Rattle.std.specs.List.{list_all};
 ghost use Rattle.cip_rational.specs.Range.{largest};
-ghost use Rattle.cip_number_text.specs.Numeral as text;
+ghost use Rattle.cip_rational.specs.Numeral as text;
 ghost use Rattle.cip_text.specs.Amounts.{capped};
 
 /// 2^127-1, the greatest number that is kept.

@@ -1,7 +1,7 @@
 //! Texts of fractions.
 ghost use Rattle.std.specs.Prelude.{◌≡◌, MatchResult, Some, true};
-ghost use Rattle.cip_number_text.specs.Numeral as text;
-ghost use Rattle.cip_number_text.specs.FractionText as fraction_text;
+ghost use Rattle.cip_rational.specs.Numeral as text;
+ghost use Rattle.cip_rational.specs.FractionText as fraction_text;
 ghost use Rattle.cip_text.specs.NumberFaults.{faulty};
 ghost use Rattle.cip_text.specs.Readings.{said};
 
@@ -58,7 +58,7 @@ fn slashed(negative: bool, body: &[u8]) -> Reading
 }
 
 /// The number that a text of a fraction says, or why it says none.
-#[tactic(auto, unfolding(cip_number_text::specs::FractionText::fraction_of))]
+#[tactic(auto, unfolding(cip_rational::specs::FractionText::fraction_of))]
 fn fraction_numeral(bytes: &[u8]) -> Reading
     ensures { said result ≡ fraction_text.fraction_of bytes.now }
 {

@@ -2,7 +2,7 @@
 ghost use Rattle.std.specs.Prelude.{◌≡◌, ◌<◌, ◌≤◌, MatchResult, Some, if◌then◌else◌};
 ghost use Rattle.cip_rational.specs.Rational.{ratio};
 ghost use Rattle.cip_rational.specs.Range.{largest};
-ghost use Rattle.cip_number_text.specs.Numeral as text;
+ghost use Rattle.cip_rational.specs.Numeral as text;
 ghost use Rattle.cip_text.specs.NumberFaults.{faulty};
 ghost use Rattle.cip_text.specs.Readings.{said, FitsRange};
 
@@ -39,7 +39,7 @@ fn unsigned_numeral(negative: bool, body: &[u8]) -> Reading
 }
 
 /// The number that a text says, or why it says none.
-#[tactic(auto, unfolding(cip_number_text::specs::Numeral::numeral_of))]
+#[tactic(auto, unfolding(cip_rational::specs::Numeral::numeral_of))]
 pub(crate) fn numeral(bytes: &[u8]) -> Reading
     ensures { said result ≡ text.numeral_of bytes.now }
 {

@@ -2,7 +2,7 @@
 ghost use Rattle.std.specs.Prelude.{◌≡◌, ◌==◌, ◌+◌, ◌≤◌, ◌++◌, ◌&&◌, length, take, drop, true, if◌then◌else◌};
 ghost use Rattle.std.specs.Char.{is_ascii_digit};
 ghost use Rattle.std.specs.List.{list_all, list_any, before_first, after_first, position_or_len};
-ghost use Rattle.cip_number_text.specs.Numeral as text;
+ghost use Rattle.cip_rational.specs.Numeral as text;
 
 /// `+` or `-`.
 fn is_sign(byte: u8) -> bool

@@ -83,11 +83,17 @@ impl<T: PieceText + Drop> PieceReader<T> {
             (T.is_told subject (bytes ++ piece.now)) result }
         ensures spent { IsSpent self.old → (result ≡ Err ReadFault.NoMemory) × IsSpent self.new }
     {
-        let mut text = self.text.take().ok_or(AllocError)?;
-        text.take(piece)?;
-        let known = text.known();
-        self.text = Some(text);
-        Ok(known?)
+        let Some(text) = &mut self.text else {
+            return Err(ReadFault::NoMemory);
+        };
+        let Ok(()) = text.take(piece) else {
+            drop(self.text.take());
+            return Err(ReadFault::NoMemory);
+        };
+        match text.known() {
+            Ok(()) => Ok(()),
+            Err(fault) => Err(ReadFault::Faulty(fault)),
+        }
     }
 
     /// What the text gives, where it has ended, or its first fault. `NoMemory` comes after any `NoMemory`, too.
@@ -97,6 +103,9 @@ impl<T: PieceText + Drop> PieceReader<T> {
         ensures spent { IsSpent self → result ≡ Err ReadFault.NoMemory }
     {
         let PieceReader { text } = self;
-        text.ok_or(AllocError)?.finish()
+        match text {
+            Some(text) => text.finish(),
+            None => Err(ReadFault::NoMemory),
+        }
     }
 }

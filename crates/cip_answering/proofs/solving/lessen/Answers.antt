@@ -1,6 +1,6 @@
 use Rattle.std.proofs.Common.{ap, map}
 use Rattle.std.proofs.lemmas.Result.{IfOk-weaker}
-use Rattle.cip_words.specs.WordsRead.{limits_of}
+use Rattle.cip_tasks.specs.WordsRead.{limits_of}
 use Rattle.cip_answering.proofs.Searches.{kit_less, kit_plain}
 use Rattle.cip_answering.proofs.solving.lessen.Goals as goal
 

@@ -1,6 +1,6 @@
 use Rattle.std.proofs.Common.{◌≡◌, take}
 use Rattle.std.specs.Prelude.{min}
-use Rattle.cip_number_text.specs.Numeral.{digits_value}
+use Rattle.cip_rational.specs.Numeral.{digits_value}
 use Rattle.cip_blocks.proofs.words.value_of.Given as goal
 
 abbrev pub invariant-loop-digit : goal.invariant-loop-digit

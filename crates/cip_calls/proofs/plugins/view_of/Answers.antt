@@ -1,5 +1,5 @@
 use Rattle.std.proofs.Common.{ap}
-use Rattle.cip_judge.specs.Lent.{Lent}
+use Rattle.cip_calls.specs.Lent.{Lent}
 use Rattle.cip_calls.proofs.plugins.view_of.Goals as goal
 
 pub returns-clause-own : goal.returns-clause-own

@@ -2,7 +2,7 @@ use Rattle.std.proofs.Common.{◌≡◌, ◌∙◌, ap, sym}
 use Rattle.cip_rational.specs.Rational.{inverse}
 use Rattle.cip_problem.specs.Activity.{value_at}
 use Rattle.cip_rational.proofs.Rational.Inverse.{inverse_nonzero}
-use Rattle.cip_dictionary.proofs.Zeros.{is_zero_false}
+use Rattle.cip_bland.proofs.Zeros.{is_zero_false}
 use Rattle.cip_dict.specs.Lists.{entry_in}
 use Rattle.cip_dict.specs.Row.{row_in}
 use Rattle.cip_dict.proofs.RowLists.{row_read}

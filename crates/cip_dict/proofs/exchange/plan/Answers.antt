@@ -1,7 +1,7 @@
 use Rattle.std.proofs.Common.{◌≡◌, ◌∙◌, ap, arith}
-use Rattle.cip_dictionary.specs.Exchange.{pivot}
-use Rattle.cip_dictionary.specs.Operations.{first_overflow}
-use Rattle.cip_dictionary.proofs.Overflow.{overflow-append}
+use Rattle.cip_bland.specs.Exchange.{pivot}
+use Rattle.cip_bland.specs.Operations.{first_overflow}
+use Rattle.cip_bland.proofs.Overflow.{overflow-append}
 use Rattle.cip_dict.specs.State.{state}
 use Rattle.cip_dict.proofs.MoveFaults.{fault_found, fault_same}
 use Rattle.cip_dict.proofs.Exchanged.{exchange_split, planned}

@@ -1,5 +1,5 @@
 use Rattle.std.proofs.Common.{◌∙◌, ap, refl, length, arith}
-use Rattle.cip_dictionary.proofs.Tables.{length-table}
+use Rattle.cip_bland.proofs.Tables.{length-table}
 use Rattle.cip_dict.specs.Values.{taken_value}
 use Rattle.cip_dict.proofs.RowLists.{written_back}
 use Rattle.cip_dict.proofs.exchange.take_over.Goals as goal

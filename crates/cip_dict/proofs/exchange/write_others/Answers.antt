@@ -1,7 +1,7 @@
 use Rattle.std.proofs.Common.{◌∙◌, sym, ap, length, refl, arith}
 use Rattle.cip_problem.specs.Activity.{value_at}
-use Rattle.cip_dictionary.specs.Operations.{first_overflow}
-use Rattle.cip_dictionary.specs.declared.places.Line.TheVariants.{Cost}
+use Rattle.cip_bland.specs.Operations.{first_overflow}
+use Rattle.cip_bland.specs.declared.places.Line.TheVariants.{Cost}
 use Rattle.cip_dict.specs.Lists.{basic_in, entry_in}
 use Rattle.cip_dict.specs.Row.{row_in}
 use Rattle.cip_dict.specs.Written.{entering_in}

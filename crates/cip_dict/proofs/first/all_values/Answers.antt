@@ -1,6 +1,6 @@
 use Rattle.std.proofs.Common.{◌≡◌, ◌∙◌, ◌++◌, length, ap, arith}
-use Rattle.cip_dictionary.specs.Tables.{table}
-use Rattle.cip_dictionary.proofs.Tables.{length-table}
+use Rattle.cip_bland.specs.Tables.{table}
+use Rattle.cip_bland.proofs.Tables.{length-table}
 use Rattle.cip_dict.specs.FirstLists.{column_values_of, column_value, row_form}
 use Rattle.cip_dict.proofs.first.all_values.Goals as goal
 

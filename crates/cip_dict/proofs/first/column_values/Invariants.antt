@@ -1,5 +1,5 @@
 use Rattle.std.proofs.Common.{◌≡◌}
-use Rattle.cip_dictionary.specs.Tables.{table}
+use Rattle.cip_bland.specs.Tables.{table}
 use Rattle.cip_dict.specs.FirstLists.{column_value}
 use Rattle.cip_dict.proofs.first.column_values.Given as goal
 

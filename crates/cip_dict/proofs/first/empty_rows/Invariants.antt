@@ -1,6 +1,6 @@
 use Rattle.std.proofs.Common.{◌≡◌, replicate}
 use Rattle.cip_rational.specs.Rational.{zeroℚ}
-use Rattle.cip_dictionary.specs.Tables.{table}
+use Rattle.cip_bland.specs.Tables.{table}
 use Rattle.cip_dict.specs.Row.{row_length}
 use Rattle.cip_dict.proofs.first.empty_rows.Given as goal
 

@@ -1,6 +1,6 @@
 use Rattle.std.proofs.Common.{◌≡◌, ◌∙◌, sym, ap, length, arith, replicate}
 use Rattle.cip_rational.specs.Rational.{zeroℚ}
-use Rattle.cip_dictionary.specs.Tables.{table}
+use Rattle.cip_bland.specs.Tables.{table}
 use Rattle.cip_dict.specs.Row.{row_length}
 use Rattle.cip_dict.proofs.Begun.{begun_count, begun_long, filled}
 use Rattle.cip_dict.proofs.RowLists.{written_back}

@@ -1,5 +1,5 @@
 use Rattle.std.proofs.Common.{◌≡◌}
-use Rattle.cip_dictionary.specs.Tables.{table}
+use Rattle.cip_bland.specs.Tables.{table}
 use Rattle.cip_dict.specs.FirstLists.{stand_in}
 use Rattle.cip_dict.proofs.first.first_stands.Given as goal
 

@@ -1,7 +1,7 @@
 use Rattle.std.proofs.Common.{◌≡◌, ◌∙◌, ◌+◌, refl, ap, ap₂, sym, subst, length, length-append, arith}
-use Rattle.cip_dictionary.specs.Tables.{table}
-use Rattle.cip_dictionary.specs.Operations.{first_overflow}
-use Rattle.cip_dictionary.proofs.Tables.{length-table}
+use Rattle.cip_bland.specs.Tables.{table}
+use Rattle.cip_bland.specs.Operations.{first_overflow}
+use Rattle.cip_bland.proofs.Tables.{length-table}
 use Rattle.cip_dict.specs.declared.lists.Lists.{Lists}
 use Rattle.cip_dict.specs.Entries.{IsRowFault}
 use Rattle.cip_dict.specs.FirstLists.{row_of_entries, cost_in, column_value, column_values_of, row_form}

@@ -1,6 +1,6 @@
 use Rattle.std.proofs.Common.{◌∙◌, ◌++◌, ◌∷◌, [], refl, sym, ap, ap₂, append_assoc, append-nil}
-use Rattle.cip_dictionary.specs.Tables.{table}
-use Rattle.cip_dictionary.proofs.Overflow.{first_more, first_at}
+use Rattle.cip_bland.specs.Tables.{table}
+use Rattle.cip_bland.proofs.Overflow.{first_more, first_at}
 use Rattle.cip_dict.specs.FirstLists.{row_form}
 use Rattle.cip_dict.proofs.Grown.{table_none, table_more}
 use Rattle.cip_dict.proofs.first.row_values.Goals as goal

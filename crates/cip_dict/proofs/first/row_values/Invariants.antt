@@ -1,6 +1,6 @@
 use Rattle.std.proofs.Common.{◌≡◌, ◌++◌, None}
-use Rattle.cip_dictionary.specs.Tables.{table, each}
-use Rattle.cip_dictionary.specs.Operations.{first_overflow}
+use Rattle.cip_bland.specs.Tables.{table, each}
+use Rattle.cip_bland.specs.Operations.{first_overflow}
 use Rattle.cip_dict.specs.FirstLists.{row_form, row_operations}
 use Rattle.cip_dict.proofs.first.row_values.Given as goal
 

@@ -1,5 +1,5 @@
 use Rattle.std.proofs.Common.{◌∙◌}
-use Rattle.cip_dictionary.proofs.Overflow.{overflow-append}
+use Rattle.cip_bland.proofs.Overflow.{overflow-append}
 use Rattle.cip_dict.proofs.Begun.{row_fault_more}
 use Rattle.cip_dict.proofs.first.rows_and_cost.Goals as goal
 

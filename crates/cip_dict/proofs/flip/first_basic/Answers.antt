@@ -1,5 +1,5 @@
 use Rattle.std.proofs.Common.{◌≡◌, sym, ap, length, arith}
-use Rattle.cip_dictionary.specs.MoveOperations.{first_line}
+use Rattle.cip_bland.specs.MoveOperations.{first_line}
 use Rattle.cip_dict.specs.Lists.{basic_in}
 use Rattle.cip_dict.proofs.LeastBasic.{least_more, least_at}
 use Rattle.cip_dict.proofs.flip.first_basic.Goals as goal

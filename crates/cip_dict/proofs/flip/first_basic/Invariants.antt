@@ -1,5 +1,5 @@
 use Rattle.std.proofs.Common.{◌≡◌, None}
-use Rattle.cip_dictionary.specs.Tables.{least}
+use Rattle.cip_bland.specs.Tables.{least}
 use Rattle.cip_dict.specs.Lists.{basic_in}
 use Rattle.cip_dict.proofs.flip.first_basic.Given as goal
 

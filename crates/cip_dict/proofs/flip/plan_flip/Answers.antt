@@ -1,11 +1,11 @@
-use Rattle.std.proofs.Common.{◌≡◌, ◌∙◌, ap, length, [], ◌∷◌}
+use Rattle.std.proofs.Common.{◌≡◌, ◌∙◌, ap, length, [], ◌∷◌, arith}
 use Rattle.cip_problem.specs.Activity.{value_at}
 use Rattle.cip_problem.specs.Box.{sides_at}
-use Rattle.cip_dictionary.specs.Dictionary.{stand, standing_value}
-use Rattle.cip_dictionary.specs.Exchange.{way, other_stand}
-use Rattle.cip_dictionary.specs.Tables.{least}
-use Rattle.cip_dictionary.specs.Operations.{placed, Difference, value_place}
-use Rattle.cip_dictionary.specs.MoveOperations.{first_line, flip_operations}
+use Rattle.cip_bland.specs.Dictionary.{stand, standing_value}
+use Rattle.cip_bland.specs.Exchange.{way, other_stand}
+use Rattle.cip_bland.specs.Tables.{least}
+use Rattle.cip_bland.specs.Operations.{placed, Difference, value_place}
+use Rattle.cip_bland.specs.MoveOperations.{first_line, flip_operations}
 use Rattle.cip_dict.specs.Lists.{basic_in}
 use Rattle.cip_dict.specs.State.{state}
 use Rattle.cip_dict.specs.Written.{MovesWritten, flips_operations}
@@ -33,3 +33,18 @@ returns-in-Ok-clause-written c =
     (flip_split c.args.sides.now c.args.standing.now c.args.lists.now c.args.j c.requires.sides_long)
     (difference_fits place from (value_at c.args.lists.now.values.items c.args.j) fits) last
     (λ cost p. flip_planned c.args.sides.now c.args.standing.now c.args.lists.now c.args.j c.args.room.now c.write_flips.new.room cost c.requires.sides_long p)
+
+pub write_flips-requires-clause-few : goal.write_flips-requires-clause-few
+write_flips-requires-clause-few c = c.requires.few
+
+pub write_flips-requires-clause-flips : goal.write_flips-requires-clause-flips
+write_flips-requires-clause-flips c = omega (arith, c.requires.can.within, c.requires.sides_long)
+
+pub write_flips-requires-clause-nonbasic : goal.write_flips-requires-clause-nonbasic
+write_flips-requires-clause-nonbasic c = c.requires.can.nonbasic
+
+pub write_flips-requires-clause-lists_long : goal.write_flips-requires-clause-lists_long
+write_flips-requires-clause-lists_long c = c.requires.lists_long
+
+pub write_flips-requires-clause-room_long : goal.write_flips-requires-clause-room_long
+write_flips-requires-clause-room_long c = c.requires.room_long

@@ -1,8 +1,8 @@
 use Rattle.std.proofs.Common.{◌≡◌, ◌∙◌, ap, length, refl, arith}
 use Rattle.cip_rational.specs.Rational.{◌+ℚ◌, ◌*ℚ◌}
 use Rattle.cip_problem.specs.Activity.{value_at}
-use Rattle.cip_dictionary.proofs.Overflow.{overflow-found}
-use Rattle.cip_dictionary.specs.Tables.{table}
+use Rattle.cip_bland.proofs.Overflow.{overflow-found}
+use Rattle.cip_bland.specs.Tables.{table}
 use Rattle.cip_dict.specs.Values.{taken_value}
 use Rattle.cip_dict.proofs.Chains.{then_rest}
 use Rattle.cip_dict.proofs.RowLists.{written_back}

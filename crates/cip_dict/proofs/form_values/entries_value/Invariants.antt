@@ -1,8 +1,8 @@
 use Rattle.std.proofs.Common.{◌≡◌, ℕ, ◌≤◌, ◌-◌, None, length}
 use Rattle.cip_problem.specs.Activity.{value_at}
-use Rattle.cip_dictionary.specs.Tables.{form}
-use Rattle.cip_dictionary.specs.FirstState.{form_operations}
-use Rattle.cip_dictionary.specs.Operations.{first_overflow}
+use Rattle.cip_bland.specs.Tables.{form}
+use Rattle.cip_bland.specs.FirstState.{form_operations}
+use Rattle.cip_bland.specs.Operations.{first_overflow}
 use Rattle.cip_dict.specs.SparseLines.{entry_on, IsPlace}
 use Rattle.cip_dict.proofs.form_values.entries_value.Given as goal
 

@@ -1,5 +1,5 @@
 use Rattle.std.proofs.Common.{arith, length, ◌≤◌}
-use Rattle.cip_dictionary.proofs.Zeros.{nonzero_of}
+use Rattle.cip_bland.proofs.Zeros.{nonzero_of}
 use Rattle.cip_dict.proofs.Places.{place_within}
 use Rattle.cip_dict.proofs.PutEntries.{set_entry, set_kept, insert_entry, insert_kept}
 use Rattle.cip_dict.proofs.kept.put_at.Goals as goal

@@ -1,6 +1,6 @@
 use Rattle.std.proofs.Common.{◌≡◌, sym}
 use Rattle.cip_rational.specs.Rational.{zeroℚ}
-use Rattle.cip_dictionary.proofs.Zeros.{zero_of}
+use Rattle.cip_bland.proofs.Zeros.{zero_of}
 use Rattle.cip_dict.proofs.PutBehind.{end_entry, end_kept}
 use Rattle.cip_dict.proofs.Places.{rising_kept}
 use Rattle.cip_dict.proofs.kept.put_entry.Goals as goal

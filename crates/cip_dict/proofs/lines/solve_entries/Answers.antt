@@ -1,7 +1,7 @@
 use Rattle.std.proofs.Common.{◌∙◌, refl, length, arith, suc}
-use Rattle.cip_dictionary.specs.Exchange.{solved}
-use Rattle.cip_dictionary.specs.MoveOperations.{solved_operations}
-use Rattle.cip_dictionary.specs.declared.places.Line.TheVariants.{Row}
+use Rattle.cip_bland.specs.Exchange.{solved}
+use Rattle.cip_bland.specs.MoveOperations.{solved_operations}
+use Rattle.cip_bland.specs.declared.places.Line.TheVariants.{Row}
 use Rattle.cip_dict.specs.Lists.{basic_in}
 use Rattle.cip_dict.specs.SparseLines.{entry_on, IsNext}
 use Rattle.cip_dict.proofs.Places.{place_zero}
@@ -41,3 +41,33 @@ returns-in-Err-clause-kept c = are_kept c.loop-k.k (length c.args.pivot.now.stan
 
 pub returns-clause-kept : goal.returns-clause-kept
 returns-clause-kept c = are_kept c.loop-k.k (length c.args.pivot.now.standing.now) _ _ c.loop-k.invariant.written c.loop-k.invariant.within
+
+pub next_variable-k-requires-clause-row_kept : goal.next_variable-k-requires-clause-row_kept
+next_variable-k-requires-clause-row_kept c = c.requires.row_kept
+
+pub entry_from-a-requires-clause-kept : goal.entry_from-a-requires-clause-kept
+entry_from-a-requires-clause-kept c = (length c.args.pivot.now.standing.now, c.requires.row_kept)
+
+pub entry_from-a-requires-clause-at : goal.entry_from-a-requires-clause-at
+entry_from-a-requires-clause-at c = c.loop-k.invariant.row_place
+
+pub place_past-here-requires-clause-kept : goal.place_past-here-requires-clause-kept
+place_past-here-requires-clause-kept c = (length c.args.pivot.now.standing.now, c.requires.row_kept)
+
+pub place_past-here-requires-clause-at : goal.place_past-here-requires-clause-at
+place_past-here-requires-clause-at c = c.loop-k.invariant.row_place
+
+pub place_past-there-requires-clause-kept : goal.place_past-there-requires-clause-kept
+place_past-there-requires-clause-kept c = (length c.args.pivot.now.standing.now, c.requires.leaving_kept)
+
+pub next_variable-k-requires-in-loop-k-clause-row_kept : goal.next_variable-k-requires-in-loop-k-clause-row_kept
+next_variable-k-requires-in-loop-k-clause-row_kept c = c.requires.row_kept
+
+pub next_variable-k-requires-clause-new_kept : goal.next_variable-k-requires-clause-new_kept
+next_variable-k-requires-clause-new_kept c = c.requires.leaving_kept
+
+pub next_variable-k-requires-in-loop-k-clause-new_kept : goal.next_variable-k-requires-in-loop-k-clause-new_kept
+next_variable-k-requires-in-loop-k-clause-new_kept c = c.requires.leaving_kept
+
+pub place_past-there-requires-clause-at : goal.place_past-there-requires-clause-at
+place_past-there-requires-clause-at c = c.loop-k.invariant.leaving_place

@@ -1,9 +1,9 @@
 use Rattle.std.proofs.Common.{◌≡◌, ◌≤◌, ◌-◌, None, length}
-use Rattle.cip_dictionary.specs.Tables.{each}
-use Rattle.cip_dictionary.specs.Operations.{first_overflow}
-use Rattle.cip_dictionary.specs.Exchange.{solved}
-use Rattle.cip_dictionary.specs.MoveOperations.{solved_operations}
-use Rattle.cip_dictionary.specs.declared.places.Line.TheVariants.{Row}
+use Rattle.cip_bland.specs.Tables.{each}
+use Rattle.cip_bland.specs.Operations.{first_overflow}
+use Rattle.cip_bland.specs.Exchange.{solved}
+use Rattle.cip_bland.specs.MoveOperations.{solved_operations}
+use Rattle.cip_bland.specs.declared.places.Line.TheVariants.{Row}
 use Rattle.cip_dict.specs.Lists.{basic_in}
 use Rattle.cip_dict.specs.SparseLines.{entry_on, kept_of, IsPlace}
 use Rattle.cip_dict.proofs.lines.solve_entries.Given as goal

@@ -1,6 +1,6 @@
 use Rattle.std.proofs.Common.{◌∙◌, refl, length, arith, suc}
-use Rattle.cip_dictionary.specs.Exchange.{substituted}
-use Rattle.cip_dictionary.specs.MoveOperations.{substituted_operations}
+use Rattle.cip_bland.specs.Exchange.{substituted}
+use Rattle.cip_bland.specs.MoveOperations.{substituted_operations}
 use Rattle.cip_dict.specs.Lists.{basic_in}
 use Rattle.cip_dict.specs.SparseLines.{entry_on, IsNext}
 use Rattle.cip_dict.proofs.Places.{place_zero}

@@ -1,8 +1,8 @@
 use Rattle.std.proofs.Common.{◌≡◌, ◌≤◌, ◌-◌, None, length}
-use Rattle.cip_dictionary.specs.Tables.{each}
-use Rattle.cip_dictionary.specs.Operations.{first_overflow}
-use Rattle.cip_dictionary.specs.Exchange.{substituted}
-use Rattle.cip_dictionary.specs.MoveOperations.{substituted_operations}
+use Rattle.cip_bland.specs.Tables.{each}
+use Rattle.cip_bland.specs.Operations.{first_overflow}
+use Rattle.cip_bland.specs.Exchange.{substituted}
+use Rattle.cip_bland.specs.MoveOperations.{substituted_operations}
 use Rattle.cip_dict.specs.Lists.{basic_in}
 use Rattle.cip_dict.specs.SparseLines.{entry_on, kept_of, IsPlace}
 use Rattle.cip_dict.proofs.lines.substitute_entries.Given as goal

@@ -1,7 +1,7 @@
 use Rattle.std.proofs.Common.{◌≡◌, pos, neg_ℤ, to_z, of_z, cond, length, sym, ap, ◌∙◌, arith, ◌<◌, unsigned_abs, Bool, true, false, ℕ, lit<}
 use Rattle.std.specs.Int.{w64}
 use Rattle.std.proofs.lemmas.Int.{ints}
-use Rattle.cip_dictionary.specs.declared.places.Line.TheVariants.{Row}
+use Rattle.cip_bland.specs.declared.places.Line.TheVariants.{Row}
 use Rattle.cip_dict.specs.Lists.{basic_in}
 use Rattle.cip_dict.proofs.WholeParts.{read_small, none_ratio}
 use Rattle.cip_dict.proofs.WholePuts.{turned_whole}

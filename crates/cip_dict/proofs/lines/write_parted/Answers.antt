@@ -1,7 +1,7 @@
 use Rattle.std.proofs.Common.{length, refl}
 use Rattle.cip_problem.specs.Activity.{value_at}
-use Rattle.cip_dictionary.specs.Exchange.{substituted}
-use Rattle.cip_dictionary.specs.MoveOperations.{substituted_operations}
+use Rattle.cip_bland.specs.Exchange.{substituted}
+use Rattle.cip_bland.specs.MoveOperations.{substituted_operations}
 use Rattle.cip_dict.specs.Lists.{basic_in}
 use Rattle.cip_dict.specs.SparseLines.{entry_on}
 use Rattle.cip_dict.proofs.Dense.{dense_long, dense_written}

@@ -1,7 +1,7 @@
 use Rattle.std.proofs.Common.{length, arith, sym, ap, ◌∙◌}
 use Rattle.cip_rational.specs.Rational.{inverse}
-use Rattle.cip_dictionary.specs.declared.places.Line.TheVariants.{Row}
-use Rattle.cip_dictionary.proofs.Zeros.{nonzero_of}
+use Rattle.cip_bland.specs.declared.places.Line.TheVariants.{Row}
+use Rattle.cip_bland.proofs.Zeros.{nonzero_of}
 use Rattle.cip_dict.specs.Lists.{basic_in}
 use Rattle.cip_dict.specs.WholeLines.{over}
 use Rattle.cip_dict.proofs.Dense.{solved_written, dense_kept, dense_long}

@@ -1,7 +1,7 @@
 use Rattle.std.proofs.Common.{◌≡◌, ◌∙◌, pos, ap, arith}
 use Rattle.std.proofs.lemmas.Int.{ints}
 use Rattle.cip_rational.specs.Rational.{ratio}
-use Rattle.cip_dictionary.proofs.Zeros.{is_zero_of}
+use Rattle.cip_bland.proofs.Zeros.{is_zero_of}
 use Rattle.cip_dict.proofs.Added.{zero_left}
 use Rattle.cip_dict.proofs.WholeParts.{ratio_none}
 use Rattle.cip_dict.proofs.moved.add_over.Goals as goal

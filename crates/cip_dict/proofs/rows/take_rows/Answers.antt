@@ -1,5 +1,5 @@
 use Rattle.std.proofs.Common.{arith, length, ◌≡◌, []}
-use Rattle.cip_dictionary.proofs.Tables.{same_table}
+use Rattle.cip_bland.proofs.Tables.{same_table}
 use Rattle.cip_dict.proofs.rows.take_rows.Goals as goal
 
 pub returns-clause-taken : goal.returns-clause-taken

@@ -1,6 +1,6 @@
 use Rattle.std.proofs.Common.{arith, length, ◌<◌, ◌≡◌, [], get_or, false, length-set, ◌∙◌, ap, sym}
 use Rattle.std.proofs.lemmas.List.{get_or-set_other}
-use Rattle.cip_dictionary.proofs.Overflow.{first_more}
+use Rattle.cip_bland.proofs.Overflow.{first_more}
 use Rattle.cip_dict.specs.Row.{row_in}
 use Rattle.cip_dict.proofs.Loops.{written_more, loop_end}
 use Rattle.cip_dict.proofs.MoveFaults.{fault_at}

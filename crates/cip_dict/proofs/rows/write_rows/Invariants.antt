@@ -1,7 +1,7 @@
 use Rattle.std.proofs.Common.{◌≡◌, ℕ, ◌<◌, ◌≤◌, None, false, length, get_or, []}
 use Rattle.cip_problem.specs.Activity.{value_at}
-use Rattle.cip_dictionary.specs.Tables.{each}
-use Rattle.cip_dictionary.specs.Operations.{first_overflow}
+use Rattle.cip_bland.specs.Tables.{each}
+use Rattle.cip_bland.specs.Operations.{first_overflow}
 use Rattle.cip_dict.specs.Row.{form_changes, form_operations_in, written_form, row_in, HasRows, HasSpelled}
 use Rattle.cip_dict.proofs.rows.write_rows.Given as goal
 

@@ -1,6 +1,6 @@
 use Rattle.std.proofs.Common.{◌≡◌, length, arith}
 use Rattle.cip_rational.specs.Rational.{zeroℚ}
-use Rattle.cip_dictionary.proofs.Tables.{same_table}
+use Rattle.cip_bland.proofs.Tables.{same_table}
 use Rattle.cip_dict.proofs.values.take_values.Goals as goal
 
 pub returns : goal.returns

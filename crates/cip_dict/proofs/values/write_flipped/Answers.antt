@@ -1,5 +1,5 @@
 use Rattle.std.proofs.Common.{arith, length, length-set, Some, ap, sym, ◌∙◌}
-use Rattle.cip_dictionary.proofs.Overflow.{first_more, first_at}
+use Rattle.cip_bland.proofs.Overflow.{first_more, first_at}
 use Rattle.cip_dict.proofs.TakenValues.{taken_more, taken_end}
 use Rattle.cip_dict.proofs.values.write_flipped.Goals as goal
 

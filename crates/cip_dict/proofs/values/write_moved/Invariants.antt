@@ -1,6 +1,6 @@
 use Rattle.std.proofs.Common.{◌≡◌, ℕ, ◌<◌, None, length}
-use Rattle.cip_dictionary.specs.Tables.{each}
-use Rattle.cip_dictionary.specs.Operations.{first_overflow}
+use Rattle.cip_bland.specs.Tables.{each}
+use Rattle.cip_bland.specs.Operations.{first_overflow}
 use Rattle.cip_dict.specs.Values.{moved_in, moved_operations_in, taken_value}
 use Rattle.cip_dict.proofs.values.write_moved.Given as goal
 

@@ -1,7 +1,7 @@
 use Rattle.std.proofs.Common.{sym, ap, ◌∙◌}
 use Rattle.cip_rational.specs.Rational.{ratio, is_zero}
 use Rattle.cip_problem.specs.Activity.{value_at}
-use Rattle.cip_dictionary.specs.Operations.{value_place}
+use Rattle.cip_bland.specs.Operations.{value_place}
 use Rattle.cip_dict.proofs.Formed.{sum_zero_right}
 use Rattle.cip_dict.proofs.whole_entries.whole_step.Goals as goal
 

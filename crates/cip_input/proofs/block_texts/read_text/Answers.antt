@@ -9,18 +9,18 @@ use Rattle.cip_input.proofs.block_texts.read_text.Goals as goal
 
 pub returns-in_err-finish-clause-answer : goal.returns-in_err-finish-clause-answer
 returns-in_err-finish-clause-answer g c = λ program fresh.
-    let all = c.in_ok-read_pieces.ensures.read program fresh in
+    let all = c.in-Ok.ensures.read program fresh in
     let fault = c.in_err-finish.field-0.0 in
     let refused : IsFaultOf program all.bytes fault =
     elim all.has_read [
       | inl read ↦ c.in_err-finish.ensures.reads program all.bytes read
       | inr spent ↦ no_fault kind_number (HasFault (block_reading program) all.bytes) fault (c.in_err-finish.ensures.spent spent)
     ] in
-    passed_on _ _ _ (unread (block_reading program) kind_number _ (g.S.Store.tells c.args.store.now) (g.S.Store.tells c.read_pieces.new.store) all fault refused) c.from_residual-in_err-finish.result c.from_residual-in_err-finish.ensures
+    passed_on _ _ _ (unread (block_reading program) kind_number _ (g.S.Store.tells c.args.store.now) (g.S.Store.tells c.read_pieces.new.store) all fault refused) c.from_residual.result c.from_residual.ensures
 
 pub returns-clause-answer : goal.returns-clause-answer
 returns-clause-answer g c = λ program fresh.
-    let all = c.in_ok-read_pieces.ensures.read program fresh in
+    let all = c.in-Ok.ensures.read program fresh in
     let value = c.in_ok-finish.field-0 in
     let has : HasResult (block_reading program) all.bytes value =
     elim all.has_read [

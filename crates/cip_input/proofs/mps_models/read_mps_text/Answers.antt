@@ -11,7 +11,7 @@ use Rattle.cip_input.proofs.mps_models.read_mps_text.Goals as goal
 
 pub returns-in_err-finish-clause-answer : goal.returns-in_err-finish-clause-answer
 returns-in_err-finish-clause-answer g c = λ name e.
-    let all = c.in_ok-read_pieces.ensures.read tt (inl (begun HasCome (λ text. tt) c.new-reader.result tt (λ text. refl) c.new-reader.ensures)) in
+    let all = c.in-Ok.ensures.read tt (inl (begun HasCome (λ text. tt) c.new-reader.result tt (λ text. refl) c.new-reader.ensures)) in
     let fault = c.in_err-finish.field-0.0 in
     let refused : IsFaultOf all.bytes fault =
     elim all.has_read [
@@ -20,11 +20,11 @@ returns-in_err-finish-clause-answer g c = λ name e.
     ] in
     passed_on _ _ _
     (model_unread kind_number false name e (λ kind made. made ≡ Mps kind) (λ kind made is. (ap model_kind_number is, ap is_lp_kind is)) _ (g.S.Store.tells c.args.store.now) (g.S.Store.tells c.read_pieces.new.store) all fault refused)
-    c.from_residual-in_err-finish.result c.from_residual-in_err-finish.ensures
+    c.from_residual.result c.from_residual.ensures
 
 pub returns-clause-answer : goal.returns-clause-answer
 returns-clause-answer g c = λ name e.
-    let all = c.in_ok-read_pieces.ensures.read tt (inl (begun HasCome (λ text. tt) c.new-reader.result tt (λ text. refl) c.new-reader.ensures)) in
+    let all = c.in-Ok.ensures.read tt (inl (begun HasCome (λ text. tt) c.new-reader.result tt (λ text. refl) c.new-reader.ensures)) in
     let has : HasProgram all.bytes c.in_ok-finish.field-0 =
     elim all.has_read [
       | inl read ↦ c.in_ok-finish.ensures.reads tt all.bytes read

@@ -1,9 +1,9 @@
 use Rattle.cip_line_texts.specs.LineTexts.{HasResult, HasFault}
 use Rattle.cip_blocks.proofs.PassedOn.{begun_or_spent}
-use Rattle.cip_point.specs.PointRules.{point_reading}
-use Rattle.cip_point.specs.PointKindTexts.{kind_number}
-use Rattle.cip_point.specs.PointTexts.{program_of}
-use Rattle.cip_point.specs.PointReaders.{HasCome}
+use Rattle.cip_input.specs.PointRules.{point_reading}
+use Rattle.cip_input.specs.PointKindTexts.{kind_number}
+use Rattle.cip_input.specs.PointTexts.{program_of}
+use Rattle.cip_input.specs.PointReaders.{HasCome}
 use Rattle.cip_input.proofs.TextsTold.{later}
 use Rattle.cip_input.proofs.points.read_point.Goals as goal
 

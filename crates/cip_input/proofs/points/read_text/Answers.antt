@@ -1,26 +1,26 @@
 use Rattle.std.proofs.Common.{refl, inl, inr}
 use Rattle.cip_line_texts.specs.LineTexts.{HasResult, HasFault}
-use Rattle.cip_point.specs.PointRules.{point_reading}
-use Rattle.cip_point.specs.PointKindTexts.{kind_number}
-use Rattle.cip_point.specs.PointReaders.{IsFaultOf}
+use Rattle.cip_input.specs.PointRules.{point_reading}
+use Rattle.cip_input.specs.PointKindTexts.{kind_number}
+use Rattle.cip_input.specs.PointReaders.{IsFaultOf}
 use Rattle.cip_input.proofs.LineTextsRead.{reads_text}
 use Rattle.cip_input.proofs.TextsTold.{passed_on, unread, no_fault}
 use Rattle.cip_input.proofs.points.read_text.Goals as goal
 
 pub returns-in_err-finish-clause-answer : goal.returns-in_err-finish-clause-answer
 returns-in_err-finish-clause-answer g c = λ program fresh.
-    let all = c.in_ok-read_pieces.ensures.read program fresh in
+    let all = c.in-Ok.ensures.read program fresh in
     let fault = c.in_err-finish.field-0.0 in
     let refused : IsFaultOf program all.bytes fault =
     elim all.has_read [
       | inl read ↦ c.in_err-finish.ensures.reads program all.bytes read
       | inr spent ↦ no_fault kind_number (HasFault (point_reading program) all.bytes) fault (c.in_err-finish.ensures.spent spent)
     ] in
-    passed_on _ _ _ (unread (point_reading program) kind_number _ (g.S.Store.tells c.args.store.now) (g.S.Store.tells c.read_pieces.new.store) all fault refused) c.from_residual-in_err-finish.result c.from_residual-in_err-finish.ensures
+    passed_on _ _ _ (unread (point_reading program) kind_number _ (g.S.Store.tells c.args.store.now) (g.S.Store.tells c.read_pieces.new.store) all fault refused) c.from_residual.result c.from_residual.ensures
 
 pub returns-clause-answer : goal.returns-clause-answer
 returns-clause-answer g c = λ program fresh.
-    let all = c.in_ok-read_pieces.ensures.read program fresh in
+    let all = c.in-Ok.ensures.read program fresh in
     let value = c.in_ok-finish.field-0.items in
     let has : HasResult (point_reading program) all.bytes value =
     elim all.has_read [

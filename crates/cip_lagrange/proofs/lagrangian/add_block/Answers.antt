@@ -3,8 +3,8 @@ use Rattle.std.specs.Prelude.{All}
 use Rattle.std.proofs.lemmas.Option.{same_Some, slice_get_read}
 use Rattle.cip_rational.specs.Rational.{ℚ}
 use Rattle.cip_problem.specs.BlockMeaning.{part_at}
-use Rattle.cip_decomposition.specs.Numbers.{found}
-use Rattle.cip_decomposition.specs.declared.parts.Subproblem.{Subproblem}
+use Rattle.cip_lagrange.specs.Numbers.{found}
+use Rattle.cip_lagrange.specs.declared.parts.Subproblem.{Subproblem}
 use Rattle.cip_lagrange.specs.LagrangeOutcomes.{block_outcome, block_added}
 use Rattle.cip_lagrange.proofs.Ready.{filled_fits, filled_outcome, fitting_set}
 use Rattle.cip_lagrange.proofs.lagrangian.add_block.Goals as goal

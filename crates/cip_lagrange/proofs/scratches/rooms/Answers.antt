@@ -1,4 +1,4 @@
-use Rattle.std.proofs.Common.{◌<◌, ◌+◌, List, length, refl, sym, subst, arith}
+use Rattle.std.proofs.Common.{◌<◌, ◌+◌, List, ◌++◌, ◌∷◌, [], length, refl, sym, ap, subst, ◌∙◌, arith}
 use Rattle.std.proofs.lemmas.Option.{slice_get_read}
 use Rattle.cip_lagrange.specs.declared.scratches.BlockScratch.{BlockScratch}
 use Rattle.cip_lagrange.proofs.Ready.{AreFittingTo, fitting_more}
@@ -8,9 +8,13 @@ pub loop-part-preserved : goal.loop-part-preserved
 loop-part-preserved c =
     let inside : c.loop-part.part-index < length c.args.parts.now = omega arith in
     subst (λ (works : List BlockScratch). AreFittingTo (c.loop-part.part-index + 1) c.args.parts.now works)
-    (sym c.in_ok-push.ensures.items)
-    (fitting_more c.loop-part.part-index c.args.parts.now c.loop-part.rooms.items c.part-item.result c.in_ok-new.field-0
+    (sym (c.push_reserved.ensures.items
+    ∙ ap (λ (works : List BlockScratch). works ++ c.in-Ok-new.room ∷ []) c.in-Ok.ensures.items))
+    (fitting_more c.loop-part.part-index c.args.parts.now c.loop-part.rooms.items c.part-item.result c.in-Ok-new.room
     c.loop-part.invariant
     (slice_get_read c.args.parts.now (length c.args.parts.now) c.loop-part.part-index c.part-item.result refl inside
     c.part-item.is)
-    c.in_ok-new.ensures)
+    c.in-Ok-new.ensures)
+
+pub push_reserved-requires : goal.push_reserved-requires
+push_reserved-requires c = omega (arith, c.in-Ok.ensures.ok)

@@ -1,5 +1,5 @@
 use Rattle.std.proofs.Common.{◌≡◌, length, take}
-use Rattle.cip_decomposition.specs.Numbers.{found}
+use Rattle.cip_lagrange.specs.Numbers.{found}
 use Rattle.cip_lagrange.proofs.scratches.set_box.Given as goal
 
 abbrev pub invariant-loop-at : goal.invariant-loop-at

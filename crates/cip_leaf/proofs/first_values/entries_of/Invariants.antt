@@ -1,7 +1,7 @@
 use Rattle.std.proofs.Common.{◌≡◌, ℕ, ◌<◌}
 use Rattle.cip_problem.specs.RowTerms.{AreTerms}
-use Rattle.cip_dictionary.specs.Tables.{each}
-use Rattle.cip_dictionary.specs.ProgramState.{terms_at}
+use Rattle.cip_bland.specs.Tables.{each}
+use Rattle.cip_bland.specs.ProgramState.{terms_at}
 use Rattle.cip_simplex.specs.LpEntries.{row_entries}
 use Rattle.cip_leaf.proofs.first_values.entries_of.Given as goal
 

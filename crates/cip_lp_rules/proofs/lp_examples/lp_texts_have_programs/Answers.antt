@@ -1,5 +1,5 @@
 use Rattle.std.proofs.Common.{refl}
-use Rattle.cip_number_text.specs.Numeral.{numeral_of}
+use Rattle.cip_rational.specs.Numeral.{numeral_of}
 use Rattle.cip_line_texts.specs.LineTexts.{outcome_of}
 use Rattle.cip_lp_rules.proofs.lp_examples.lp_texts_have_programs.Goals as goal
 

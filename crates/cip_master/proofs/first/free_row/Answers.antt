@@ -11,4 +11,4 @@ loop-term-preserved c =
     (subst (λ (ts : List Term). c.loop-term.term-index < length ts) c.terms-terms.ensures.terms inside)
     (c.term-item.is
     ∙ ap (λ (ts : List Term). get_or ts c.loop-term.term-index c.term-item.result) c.terms-terms.ensures.terms)
-    c.loop-term.invariant c.in_ok-put_free.ensures
+    c.loop-term.invariant c.in-Ok.ensures

@@ -3,7 +3,7 @@ use Rattle.std.specs.Prelude.{All}
 use Rattle.cip_rational.specs.Rational.{zeroℚ}
 use Rattle.cip_frac.specs.Outcomes.{dot_from}
 use Rattle.cip_pricing.specs.Decomposition.{picked}
-use Rattle.cip_decomposition.specs.Numbers.{found}
+use Rattle.cip_lagrange.specs.Numbers.{found}
 use Rattle.cip_lagrange.specs.LagrangeOutcomes.{in_range}
 use Rattle.cip_master.proofs.Numbers.{count_is, block_inside, block_found}
 use Rattle.cip_master.proofs.lowering.rest_at.Goals as goal

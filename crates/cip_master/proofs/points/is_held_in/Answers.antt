@@ -2,7 +2,7 @@ use Rattle.std.proofs.Common.{◌<◌, length, sym, ap, ap₂, ◌∙◌, subst,
 use Rattle.std.specs.Prelude.{All}
 use Rattle.cip_pricing.specs.Decomposition.{picked}
 use Rattle.cip_columns.specs.ColumnPools.{is_inside}
-use Rattle.cip_decomposition.specs.Numbers.{found}
+use Rattle.cip_lagrange.specs.Numbers.{found}
 use Rattle.cip_master.proofs.Numbers.{count_is, block_inside, block_found}
 use Rattle.cip_master.proofs.points.is_held_in.Goals as goal
 

@@ -1,6 +1,6 @@
 use Rattle.std.proofs.Common.{◌≡◌, drop, length}
 use Rattle.cip_columns.specs.ColumnPools.{is_inside}
-use Rattle.cip_decomposition.specs.Numbers.{found}
+use Rattle.cip_lagrange.specs.Numbers.{found}
 use Rattle.cip_master.proofs.points.is_in_part.Given as goal
 
 abbrev pub invariant-loop-at : goal.invariant-loop-at

@@ -68,10 +68,10 @@ returns c = λ limit.
     let total_is : c.in-Ok.total ≡ task.program.constant +ℚ c.args.cost =
     c.in-Ok.ensures.1 ∙ ap (λ q. q +ℚ c.args.cost) c.constant.ensures in
     is_priced task c.args.master.now point c.args.combo.now c.args.cost c.in-Ok.total c.in-Ok-show.sum
-    c.constant-2.result c.show.new.shown c.in_ok-weights.weights c.in_ok-shown.shown.rests.items c.requires.task
+    c.constant-2.result c.show.new.shown c.in-Ok-weights_of.weights c.in_ok-shown.shown.rests.items c.requires.task
     c.requires.whole c.requires.optimum total_is (c.if-not-is_same.ensures.0 refl) c.constant-2.ensures given
-    c.in-Ok-show.ensures.shows (c.in_ok-weights.ensures.ids ∙ c.as_slice.ensures.value)
-    (c.in_ok-weights.ensures.free
+    c.in-Ok-show.ensures.shows (c.in-Ok-weights_of.ensures.ids ∙ c.as_slice.ensures.value)
+    (c.in-Ok-weights_of.ensures.free
     ∙ ap (λ (ids : List ℕ). take (length point - length ids) point) c.as_slice.ensures.value)
-    (c.in_ok-weights.ensures.points
+    (c.in-Ok-weights_of.ensures.points
     ∙ ap (λ (ids : List ℕ). drop (length point - length ids) point) c.as_slice.ensures.value)

@@ -1,7 +1,7 @@
 use Rattle.std.proofs.Common.{◌≡◌, drop}
 use Rattle.cip_rational.specs.Rational.{zeroℚ}
 use Rattle.cip_frac.specs.Outcomes.{dot_from}
-use Rattle.cip_decomposition.specs.Numbers.{found}
+use Rattle.cip_lagrange.specs.Numbers.{found}
 use Rattle.cip_master.proofs.sums.numbers_sum.Given as goal
 
 abbrev pub invariant-loop-at : goal.invariant-loop-at

@@ -8,7 +8,7 @@ loop-column-init c = c.in_ok-bounds.ensures
 pub loop-column-preserved : goal.loop-column-preserved
 loop-column-preserved c =
     mapped_more (λ (column : Bounded). column_sides (settled column)) c.args.columns.now c.loop-column.column-index c.column-item.result c.sides.result c.loop-column.bounds c.push.new.self
-    c.loop-column-test.true c.column-item.is c.loop-column.invariant c.sides.ensures c.in_ok-push.ensures.ok
+    c.loop-column-test.true c.column-item.is c.loop-column.invariant c.sides.ensures c.in-Ok.ensures.ok
 
 pub returns : goal.returns
 returns c = mapped_all (λ (column : Bounded). column_sides (settled column)) c.args.columns.now c.loop-column.column-index c.loop-column.bounds c.loop-column-test.false c.loop-column.invariant

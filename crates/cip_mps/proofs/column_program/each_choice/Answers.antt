@@ -8,7 +8,7 @@ loop-column-init c = c.new-choices.ensures
 pub loop-column-preserved : goal.loop-column-preserved
 loop-column-preserved c =
     mapped_more (λ (column : Bounded). choice_of (settled column)) c.args.columns.now c.loop-column.column-index c.column-item.result c.choice.result c.loop-column.choices c.push.new.self
-    c.loop-column-test.true c.column-item.is c.loop-column.invariant c.choice.ensures c.in_ok-push.ensures.ok
+    c.loop-column-test.true c.column-item.is c.loop-column.invariant c.choice.ensures c.in-Ok.ensures.ok
 
 pub returns : goal.returns
 returns c = mapped_all (λ (column : Bounded). choice_of (settled column)) c.args.columns.now c.loop-column.column-index c.loop-column.choices c.loop-column-test.false c.loop-column.invariant

@@ -1,6 +1,6 @@
 use Rattle.std.proofs.Common.{refl}
 use Rattle.cip_mps_rules.proofs.Tried as tried
-use Rattle.cip_number_text.specs.Numeral.{numeral_of}
+use Rattle.cip_rational.specs.Numeral.{numeral_of}
 use Rattle.cip_line_texts.specs.LineTexts.{outcome_of}
 use Rattle.cip_mps_rules.proofs.text_examples.sides_are_read.Goals as goal
 

@@ -1,6 +1,6 @@
 use Rattle.std.proofs.Common.{refl}
-use Rattle.cip_number_text.specs.Numeral.{numeral_of}
-use Rattle.cip_number_text.specs.FractionText.{fraction_of}
+use Rattle.cip_rational.specs.Numeral.{numeral_of}
+use Rattle.cip_rational.specs.FractionText.{fraction_of}
 use Rattle.cip_line_texts.specs.LineTexts.{outcome_of}
 use Rattle.cip_point_rules.proofs.point_examples.point_faults_are_told.Goals as goal
 

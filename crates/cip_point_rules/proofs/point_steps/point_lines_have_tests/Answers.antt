@@ -1,6 +1,6 @@
 use Rattle.std.proofs.Common.{◌≡◌, ℕ, not, Option, None, Some, refl, ap}
 use Rattle.std.specs.Prelude.{is_none, is_some, if◌then◌else◌}
-use Rattle.cip_number_text.specs.Numeral.{value_of}
+use Rattle.cip_rational.specs.Numeral.{value_of}
 use Rattle.cip_mps_rules.specs.MpsWords.{number_in}
 use Rattle.cip_point_rules.specs.PointSteps.{value_held}
 use Rattle.cip_point_rules.proofs.point_steps.point_lines_have_tests.Goals as goal

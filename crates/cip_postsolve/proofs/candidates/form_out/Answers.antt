@@ -1,5 +1,5 @@
 use Rattle.std.proofs.Common.{◌≡◌, sym, ap, ◌∙◌, true≢false}
-use Rattle.cip_equalities.specs.Forms.{Form}
+use Rattle.cip_steps.specs.Forms.{Form}
 use Rattle.cip_postsolve.proofs.MayLeave.{goes_by_form}
 use Rattle.cip_postsolve.proofs.candidates.form_out.Goals as goal
 

@@ -4,8 +4,8 @@ use Rattle.cip_rational.specs.Rational.{ℚ}
 use Rattle.cip_rational.specs.Range.{fits_range}
 use Rattle.cip_problem.specs.Program.{Sides}
 use Rattle.cip_problem.specs.Box.{sides_at}
-use Rattle.cip_equalities.specs.Forms.{Form}
-use Rattle.cip_equalities.specs.FormEnds.{FormAssigns}
+use Rattle.cip_steps.specs.Forms.{Form}
+use Rattle.cip_steps.specs.FormEnds.{FormAssigns}
 use Rattle.cip_postsolve.proofs.MayLeave.{fits_by}
 use Rattle.cip_postsolve.proofs.candidates.lets_whole_go.Goals as goal
 

@@ -1,7 +1,7 @@
 use Rattle.std.proofs.Common.{◌≡◌, List, Some, sym, ap, ◌∙◌}
 use Rattle.cip_problem.specs.Program.{Sides}
 use Rattle.cip_problem.specs.Box.{sides_at}
-use Rattle.cip_equalities.specs.RowReading.{only_value}
+use Rattle.cip_steps.specs.RowReading.{only_value}
 use Rattle.cip_postsolve.proofs.MayLeave.{goes_at_value}
 use Rattle.cip_postsolve.proofs.candidates.value_out.Goals as goal
 

@@ -1,5 +1,5 @@
 use Rattle.std.proofs.Common.{◌++◌, ◌∷◌, [], false, get_or, refl, arith, ap, ◌∙◌}
-use Rattle.cip_equalities.specs.WholeParts.{with_wholes}
+use Rattle.cip_steps.specs.WholeParts.{with_wholes}
 use Rattle.cip_postsolve.proofs.Placed.{one_placed, all_placed, few_behind}
 use Rattle.cip_postsolve.proofs.places.placed.Goals as goal
 

@@ -1,5 +1,5 @@
 use Rattle.std.proofs.Common.{◌≡◌, ◌++◌, ◌≤◌, drop}
-use Rattle.cip_equalities.specs.WholeParts.{with_wholes}
+use Rattle.cip_steps.specs.WholeParts.{with_wholes}
 use Rattle.cip_postsolve.proofs.places.placed.Given as goal
 
 abbrev pub invariant-loop-column : goal.invariant-loop-column

@@ -2,8 +2,8 @@ use Rattle.std.proofs.Common.{◌≡◌, Bool, List, Option, ap, ◌∙◌, subs
 use Rattle.std.specs.Prelude.{map, is_none}
 use Rattle.std.proofs.lemmas.Result.{IfOk-weaker}
 use Rattle.cip_rational.specs.Rational.{ℚ}
-use Rattle.cip_equalities.specs.Forms.{Form}
-use Rattle.cip_equalities.specs.WholeParts.{with_wholes}
+use Rattle.cip_steps.specs.Forms.{Form}
+use Rattle.cip_steps.specs.WholeParts.{with_wholes}
 use Rattle.cip_postsolve.specs.StepsBack.{StepsTaken, HasOverflow}
 use Rattle.cip_postsolve.specs.FilledPoints.{IsFilled}
 use Rattle.cip_postsolve.proofs.PointsBack.{wide_back, filled_back, found_back}

@@ -1,7 +1,7 @@
 use Rattle.std.proofs.Common.{◌≡◌, Bool, List, Option, length, sym, ap, ◌∙◌, subst}
 use Rattle.cip_rational.specs.Rational.{ℚ}
-use Rattle.cip_equalities.specs.Forms.{Form}
-use Rattle.cip_equalities.specs.WholeParts.{with_wholes}
+use Rattle.cip_steps.specs.Forms.{Form}
+use Rattle.cip_steps.specs.WholeParts.{with_wholes}
 use Rattle.cip_postsolve.specs.Places.{whole_and_left}
 use Rattle.cip_postsolve.specs.StepsBack.{StepsTaken}
 use Rattle.cip_postsolve.specs.FilledPoints.{IsFilled}

@@ -1,6 +1,6 @@
 use Rattle.std.proofs.Common.{◌<◌, ◌≤◌, ◌++◌, sym, ap, subst}
-use Rattle.cip_equalities.specs.Leaf.{at_wholes}
-use Rattle.cip_equalities.specs.Forms.{filled}
+use Rattle.cip_steps.specs.Leaf.{at_wholes}
+use Rattle.cip_steps.specs.Forms.{filled}
 use Rattle.cip_postsolve.proofs.FilledPoints.{below_both, whole_skipped, whole_taken, all_taken, fits_at}
 use Rattle.cip_postsolve.proofs.values.wholes_filled.Goals as goal
 

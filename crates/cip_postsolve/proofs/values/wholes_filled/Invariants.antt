@@ -1,6 +1,6 @@
 use Rattle.std.proofs.Common.{◌≡◌, ◌++◌, drop}
-use Rattle.cip_equalities.specs.Leaf.{at_wholes}
-use Rattle.cip_equalities.specs.Forms.{filled}
+use Rattle.cip_steps.specs.Leaf.{at_wholes}
+use Rattle.cip_steps.specs.Forms.{filled}
 use Rattle.cip_postsolve.proofs.values.wholes_filled.Given as goal
 
 abbrev pub invariant-loop-column : goal.invariant-loop-column

@@ -1,5 +1,5 @@
 use Rattle.std.proofs.Common.{◌≡◌, take}
-use Rattle.cip_decomposition.specs.Numbers.{found}
+use Rattle.cip_lagrange.specs.Numbers.{found}
 use Rattle.cip_price.proofs.asks.sides_at.Given as goal
 
 abbrev pub invariant-loop-number : goal.invariant-loop-number

@@ -27,11 +27,11 @@ returns-in-Farkas-clause-step g c =
     let task = task_at c.args.task.now [] in
     let m = subst (IsMasterAnswer c.args.moves (task_at c.args.task.now c.args.pool.now)) c.in-Farkas.is
     c.in_ok-answer.ensures.answer in
-    MatchResult-weaker c.round_at_farkas.result c.round_at_farkas.ensures.behind
+    MatchResult-weaker c.round_at_farkas-answer.result c.round_at_farkas-answer.ensures.behind
     (λ found b.
     subst (λ (best : Option ℚ). IsStep c.args.moves task (g.A.AskPricer.told c.args.asker.now)
-    (g.A.AskPricer.told c.round_at_farkas.new.asker) c.args.pool.now c.round_at_farkas.new.pool best
-    c.round_at_farkas.new.work.best found) c.ask_master.ensures.best
+    (g.A.AskPricer.told c.round_at_farkas-answer.new.asker) c.args.pool.now c.round_at_farkas-answer.new.pool best
+    c.round_at_farkas-answer.new.work.best found) c.ask_master.ensures.best
     (At_round (Farkas c.in-Farkas.shown) c.in-Farkas.shown m refl b))
     (λ _ may. may)
 

@@ -13,4 +13,4 @@ returns-clause-stands g c =
     Nothing c.requires.best tt _
     (ready_grown task c.args.pool.now c.ask_blocks.new.pool c.args.work.now _ c.ask_blocks.ensures.grows c.requires.ready
     refl c.ask_blocks.ensures.room c.requires.ready.fits)
-    refl c.decided.result c.requires.farkas c.decided.ensures
+    refl c.decided-answer.result c.requires.farkas c.decided-answer.ensures

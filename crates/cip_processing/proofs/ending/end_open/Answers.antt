@@ -4,7 +4,7 @@ use Rattle.cip_calls.specs.CoreStates.{CoreState, held_of}
 use Rattle.cip_plugin.specs.declared.proposals.Split.{Split}
 use Rattle.cip_calls.specs.SplitsJudged.{IsPlace}
 use Rattle.cip_calls.specs.Served.{Used}
-use Rattle.cip_calls.proofs.TurnsPassedOn.{if_ok}
+use Rattle.cip_calls.proofs.PassedOn.{if_ok}
 use Rattle.cip_calls.specs.Enforcing.{asked_of_rules}
 use Rattle.cip_processing.proofs.Coming.{ran_none}
 use Rattle.cip_processing.proofs.Using.{by_rule, by_plugin, by_bound}

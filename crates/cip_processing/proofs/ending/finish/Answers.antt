@@ -1,6 +1,6 @@
 use Rattle.std.proofs.Common.{refl, ap, subst}
 use Rattle.cip_calls.specs.CoreStates.{CoreState}
-use Rattle.cip_calls.proofs.TurnsPassedOn.{if_ok}
+use Rattle.cip_calls.proofs.PassedOn.{if_ok}
 use Rattle.cip_processing.specs.NodesReached.{IsReached}
 use Rattle.cip_processing.proofs.Closing.{emptied_here}
 use Rattle.cip_processing.proofs.Coming.{ran_none}

@@ -1,7 +1,7 @@
 use Rattle.std.proofs.Common.{◌∙◌, length, sym, ap, subst}
 use Rattle.cip_problem.specs.Program.{Program}
 use Rattle.cip_node_rules.specs.BoxLooks.{IsBoxLook}
-use Rattle.cip_calls.proofs.TurnsPassedOn.{work_long}
+use Rattle.cip_calls.proofs.PassedOn.{work_long}
 use Rattle.cip_node.proofs.Looked.{look_entered}
 use Rattle.cip_processing.proofs.Standing.{seen_of}
 use Rattle.cip_processing.proofs.looking.look_again.Goals as goal

@@ -1,6 +1,6 @@
 use Rattle.std.proofs.Common.{◌∷◌, [], refl}
 use Rattle.cip_plugin.specs.Calls.{Propagate}
-use Rattle.cip_calls.proofs.TurnsPassedOn.{come_further}
+use Rattle.cip_calls.proofs.PassedOn.{come_further}
 use Rattle.cip_processing.proofs.Using.{in_then}
 use Rattle.cip_processing.proofs.looking.narrow.Goals as goal
 

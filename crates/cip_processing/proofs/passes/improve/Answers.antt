@@ -1,8 +1,8 @@
 use Rattle.std.proofs.Common.{◌∷◌, []}
 use Rattle.cip_plugin.specs.Calls.{Search}
-use Rattle.cip_calls.proofs.TurnsPassedOn.{come_further}
-use Rattle.cip_calls.proofs.TurnsPassedOn.{points_not_sides}
-use Rattle.cip_calls.proofs.TurnsPassedOn.{used_further}
+use Rattle.cip_calls.proofs.PassedOn.{come_further}
+use Rattle.cip_calls.proofs.PassedOn.{points_not_sides}
+use Rattle.cip_calls.proofs.PassedOn.{used_further}
 use Rattle.cip_processing.proofs.Standing.{found_stays, open_stays, points_not_cuts}
 use Rattle.cip_processing.proofs.Using.{from_ok, in_then}
 use Rattle.cip_processing.proofs.passes.improve.Goals as goal

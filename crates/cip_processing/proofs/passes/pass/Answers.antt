@@ -1,8 +1,8 @@
 use Rattle.std.proofs.Common.{◌≢◌, ◌∷◌, [], ◌∙◌, sym, subst}
 use Rattle.cip_plugin.specs.Calls.{Propagate, Separate, Search}
 use Rattle.cip_node_rules.specs.declared.looks.Looked.TheVariants.{Empty, Open}
-use Rattle.cip_calls.proofs.TurnsPassedOn.{come_further}
-use Rattle.cip_calls.proofs.TurnsPassedOn.{if_ok}
+use Rattle.cip_calls.proofs.PassedOn.{come_further}
+use Rattle.cip_calls.proofs.PassedOn.{if_ok}
 use Rattle.cip_processing.specs.NodesReached.{IsSeen}
 use Rattle.cip_processing.proofs.Using.{in_further}
 use Rattle.cip_processing.proofs.passes.pass.Goals as goal

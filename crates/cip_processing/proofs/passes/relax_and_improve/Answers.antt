@@ -2,8 +2,8 @@ use Rattle.std.proofs.Common.{◌∷◌, [], sym, subst}
 use Rattle.cip_plugin.specs.Calls.{Separate, Search}
 use Rattle.cip_node.specs.Bounding.{IsBounded}
 use Rattle.cip_node.proofs.Looked.{open_after}
-use Rattle.cip_calls.proofs.TurnsPassedOn.{come_further}
-use Rattle.cip_calls.proofs.TurnsPassedOn.{used_further}
+use Rattle.cip_calls.proofs.PassedOn.{come_further}
+use Rattle.cip_calls.proofs.PassedOn.{used_further}
 use Rattle.cip_processing.specs.NodesReached.{IsOpenBounded}
 use Rattle.cip_processing.proofs.passes.relax_and_improve.Goals as goal
 

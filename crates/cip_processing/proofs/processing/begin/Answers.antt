@@ -8,7 +8,7 @@ use Rattle.cip_node.proofs.EndLaws.{looked_core}
 use Rattle.cip_node.proofs.Looked.{look_empty}
 use Rattle.cip_calls.specs.ProposalsJudged.{HaveRoom}
 use Rattle.cip_calls.specs.Noted.{IsReady, HasMoreRows}
-use Rattle.cip_calls.proofs.TurnsPassedOn.{more_same}
+use Rattle.cip_calls.proofs.PassedOn.{more_same}
 use Rattle.cip_processing.specs.NodesReached.{HasMoved}
 use Rattle.cip_processing.proofs.Closing.{moved_looked, moved_further}
 use Rattle.cip_processing.proofs.Coming.{ran_none}

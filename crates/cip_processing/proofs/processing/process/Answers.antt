@@ -2,7 +2,7 @@ use Rattle.std.proofs.Common.{◌<◌, ◌^◌, refl, sym, subst, ap}
 use Rattle.std.specs.Prelude.{MatchResult}
 use Rattle.cip_calls.specs.CoreStates.{CoreState, IsGivenBound}
 use Rattle.cip_calls.specs.Steps.{IsBack}
-use Rattle.cip_calls.proofs.TurnsPassedOn.{if_ok}
+use Rattle.cip_calls.proofs.PassedOn.{if_ok}
 use Rattle.cip_processing.specs.NodesDone.{IsDone}
 use Rattle.cip_processing.proofs.Closing.{given_moved, done_or_back, back_moved, later_done, aged_further}
 use Rattle.cip_processing.proofs.Coming.{ran_none}

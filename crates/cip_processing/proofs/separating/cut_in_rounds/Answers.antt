@@ -1,7 +1,7 @@
 use Rattle.std.proofs.Common.{◌∷◌, [], ◌∙◌, sym}
 use Rattle.cip_plugin.specs.Calls.{Separate}
-use Rattle.cip_calls.proofs.TurnsPassedOn.{come_further}
-use Rattle.cip_calls.proofs.TurnsPassedOn.{used_further, used_again, accepted_open}
+use Rattle.cip_calls.proofs.PassedOn.{come_further}
+use Rattle.cip_calls.proofs.PassedOn.{used_further, used_again, accepted_open}
 use Rattle.cip_processing.proofs.Standing.{found_open}
 use Rattle.cip_processing.proofs.separating.cut_in_rounds.Goals as goal
 

@@ -1,8 +1,8 @@
 use Rattle.std.proofs.Common.{◌∷◌, [], ◌∙◌, sym}
 use Rattle.cip_plugin.specs.Calls.{Separate}
-use Rattle.cip_calls.proofs.TurnsPassedOn.{come_further}
-use Rattle.cip_calls.proofs.TurnsPassedOn.{cuts_not_sides, quiet_left}
-use Rattle.cip_calls.proofs.TurnsPassedOn.{accepted_open}
+use Rattle.cip_calls.proofs.PassedOn.{come_further}
+use Rattle.cip_calls.proofs.PassedOn.{cuts_not_sides, quiet_left}
+use Rattle.cip_calls.proofs.PassedOn.{accepted_open}
 use Rattle.cip_processing.proofs.Standing.{found_by, found_stays}
 use Rattle.cip_processing.proofs.Using.{all_ok, used_before}
 use Rattle.cip_processing.proofs.separating.cut_once.Goals as goal

@@ -1,8 +1,8 @@
 use Rattle.std.proofs.Common.{◌∷◌, [], ◌∙◌, subst}
 use Rattle.cip_plugin.specs.Calls.{Separate}
 use Rattle.cip_node.specs.Bounding.{IsBounded}
-use Rattle.cip_calls.proofs.TurnsPassedOn.{come_further}
-use Rattle.cip_calls.proofs.TurnsPassedOn.{if_ok}
+use Rattle.cip_calls.proofs.PassedOn.{come_further}
+use Rattle.cip_calls.proofs.PassedOn.{if_ok}
 use Rattle.cip_processing.proofs.Using.{used_behind}
 use Rattle.cip_processing.proofs.separating.separate.Goals as goal
 

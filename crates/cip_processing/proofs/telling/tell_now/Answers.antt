@@ -1,7 +1,7 @@
 use Rattle.std.proofs.Common.{refl, subst, sym}
 use Rattle.cip_roster.specs.Turns.{IsSound}
-use Rattle.cip_calls.proofs.TurnsPassedOn.{later_at_itself}
-use Rattle.cip_calls.proofs.TurnsPassedOn.{come_further}
+use Rattle.cip_calls.proofs.PassedOn.{later_at_itself}
+use Rattle.cip_calls.proofs.PassedOn.{come_further}
 use Rattle.cip_processing.proofs.Coming.{come_silent, come_told}
 use Rattle.cip_processing.proofs.Using.{told_behind}
 use Rattle.cip_processing.proofs.telling.tell_now.Goals as goal

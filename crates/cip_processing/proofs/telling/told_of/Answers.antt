@@ -2,7 +2,7 @@ use Rattle.std.proofs.Common.{◌∙◌, List, length, sym, ap}
 use Rattle.cip_rational.specs.Rational.{ℚ}
 use Rattle.cip_problem.specs.WellFormed.{columns}
 use Rattle.cip_calls.specs.StepsBack.{StepsTaken, point_back}
-use Rattle.cip_calls.proofs.TurnsPassedOn.{back_long}
+use Rattle.cip_calls.proofs.PassedOn.{back_long}
 use Rattle.cip_processing.proofs.telling.told_of.Goals as goal
 
 pub check-requires : goal.check-requires

@@ -2,8 +2,8 @@ use Rattle.std.proofs.Common.{◌∷◌, []}
 use Rattle.cip_events.specs.Events.{event_at}
 use Rattle.cip_events.specs.declared.events.EventKind.TheVariants.{NodeFocused}
 use Rattle.cip_plugin.specs.Calls.{OnEvent}
-use Rattle.cip_calls.proofs.TurnsPassedOn.{come_further}
-use Rattle.cip_calls.proofs.TurnsPassedOn.{if_ok}
+use Rattle.cip_calls.proofs.PassedOn.{come_further}
+use Rattle.cip_calls.proofs.PassedOn.{if_ok}
 use Rattle.cip_processing.specs.NodesReached.{asks_in_pass}
 use Rattle.cip_processing.proofs.Coming.{come_told}
 use Rattle.cip_processing.proofs.Using.{in_further}
@@ -27,3 +27,9 @@ returns-clause-used g c =
     if_ok c.go_in_turns.result _ _
     (λ reached used. in_further (OnEvent (event_at c.args.node.now.number NodeFocused) ∷ []) asks_in_pass reached _ _ _ _ _ _ c.focus.ensures.sound.settled c.in_ok-focus.ensures.used used)
     c.go_in_turns.ensures.used
+
+pub focus-requires : goal.focus-requires
+focus-requires g c = record { sound = c.requires.ready.1 }
+
+pub returns-clause-reached : goal.returns-clause-reached
+returns-clause-reached g c = c.go_in_turns.ensures.reached

@@ -1,6 +1,6 @@
 use Rattle.std.proofs.Common.{[], subst}
-use Rattle.cip_calls.proofs.TurnsPassedOn.{come_further}
-use Rattle.cip_calls.proofs.TurnsPassedOn.{used_further, if_ok}
+use Rattle.cip_calls.proofs.PassedOn.{come_further}
+use Rattle.cip_calls.proofs.PassedOn.{used_further, if_ok}
 use Rattle.cip_processing.specs.NodesReached.{IsReachedIf, IsUsedIf, asks_in_pass}
 use Rattle.cip_processing.proofs.Coming.{come_none}
 use Rattle.cip_processing.proofs.Using.{used_none, in_further}

@@ -1,6 +1,6 @@
 use Rattle.std.proofs.Common.{[]}
-use Rattle.cip_calls.proofs.TurnsPassedOn.{come_further}
-use Rattle.cip_calls.proofs.TurnsPassedOn.{used_further}
+use Rattle.cip_calls.proofs.PassedOn.{come_further}
+use Rattle.cip_calls.proofs.PassedOn.{used_further}
 use Rattle.cip_processing.proofs.turns.hear.Goals as goal
 
 pub returns-in_err-tell_now-clause-come : goal.returns-in_err-tell_now-clause-come

@@ -1,6 +1,6 @@
 use Rattle.std.proofs.Common.{subst}
-use Rattle.cip_calls.proofs.TurnsPassedOn.{come_further}
-use Rattle.cip_calls.proofs.TurnsPassedOn.{if_ok}
+use Rattle.cip_calls.proofs.PassedOn.{come_further}
+use Rattle.cip_calls.proofs.PassedOn.{if_ok}
 use Rattle.cip_processing.specs.NodesReached.{IsReached, IsUsedIn, asks_in_pass}
 use Rattle.cip_processing.proofs.Using.{decided_used}
 use Rattle.cip_processing.proofs.turns.turn.Goals as goal

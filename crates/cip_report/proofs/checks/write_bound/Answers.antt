@@ -1,10 +1,8 @@
-use Rattle.std.proofs.Common.{◌<◌, ℕ, List, [], length, sym, subst}
+use Rattle.std.proofs.Common.{◌<◌, length, sym, subst}
 use Rattle.std.proofs.lemmas.Option.{get_or_from_slice_get}
 use Rattle.cip_report.proofs.ToldSides.{outside_told, value_there}
+use Rattle.cip_report.proofs.WritingLemmas.{no_name}
 use Rattle.cip_report.proofs.checks.write_bound.Goals as goal
-
-abbrev no_name : List ℕ
-no_name = []
 
 pub write_broken-requires : goal.write_broken-requires
 write_broken-requires g c =

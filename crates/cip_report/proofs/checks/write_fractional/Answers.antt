@@ -1,10 +1,8 @@
-use Rattle.std.proofs.Common.{◌<◌, ℕ, List, [], length, sym, ◌∙◌, subst}
+use Rattle.std.proofs.Common.{◌<◌, ℕ, List, length, sym, ◌∙◌, subst}
 use Rattle.std.proofs.lemmas.Option.{get_or_from_slice_get}
 use Rattle.cip_report.proofs.ToldSides.{value_there}
+use Rattle.cip_report.proofs.WritingLemmas.{no_name}
 use Rattle.cip_report.proofs.checks.write_fractional.Goals as goal
-
-abbrev no_name : List ℕ
-no_name = []
 
 pub name-name-requires : goal.name-name-requires
 name-name-requires g c =

@@ -1,13 +1,11 @@
-use Rattle.std.proofs.Common.{◌≡◌, ◌<◌, ℕ, List, [], Option, Some, length, get_or, refl, sym, subst}
+use Rattle.std.proofs.Common.{◌≡◌, ◌<◌, ℕ, List, Option, Some, length, get_or, refl, sym, subst}
 use Rattle.std.specs.Prelude.{slice_get}
 use Rattle.std.proofs.lemmas.Option.{get_or_from_slice_get, slice_get_read}
 use Rattle.cip_problem.specs.Program.{Row}
 use Rattle.cip_problem.specs.Box.{Between}
 use Rattle.cip_report.specs.Checks.{sides_of_row}
+use Rattle.cip_report.proofs.WritingLemmas.{no_name}
 use Rattle.cip_report.proofs.checks.write_row.Goals as goal
-
-abbrev no_name : List ℕ
-no_name = []
 
 pub name-name-requires : goal.name-name-requires
 name-name-requires g c =

@@ -1,5 +1,5 @@
 use Rattle.std.proofs.Common.{[], ◌∷◌}
-use Rattle.cip_number_text.specs.NumberText.{fraction_text}
+use Rattle.cip_rational.specs.NumberText.{fraction_text}
 use Rattle.cip_report.proofs.WritingLemmas.{first_of_two, second_of_two}
 use Rattle.cip_report.proofs.checks.write_value.Goals as goal
 

@@ -1,12 +1,10 @@
-use Rattle.std.proofs.Common.{◌<◌, ℕ, List, [], length, sym, subst}
+use Rattle.std.proofs.Common.{◌<◌, ℕ, List, length, sym, subst}
 use Rattle.std.proofs.lemmas.Option.{get_or_from_slice_get}
 use Rattle.cip_model.specs.declared.verdicts.Place.{Place}
 use Rattle.cip_leaf.specs.declared.answers.Shown.TheVariants.{Place as AtPlace}
 use Rattle.cip_report.specs.Answers.{StandsAmong}
+use Rattle.cip_report.proofs.WritingLemmas.{no_name}
 use Rattle.cip_report.proofs.checks.write_wide.Goals as goal
-
-abbrev no_name : List ℕ
-no_name = []
 
 pub name-requires : goal.name-requires
 name-requires g c =

@@ -1,5 +1,5 @@
 use lib.Chars.{codes}
-use Rattle.cip_number_text.specs.NumberText.{natural_text}
+use Rattle.cip_rational.specs.NumberText.{natural_text}
 use Rattle.cip_answers.specs.Figures.{line}
 use Rattle.cip_answers.specs.SelfTexts.{sizes_text}
 use Rattle.cip_report.specs.Drawn.{drawn_of}

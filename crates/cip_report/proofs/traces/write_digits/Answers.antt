@@ -1,7 +1,7 @@
 use Rattle.std.proofs.Common.{◌≡◌, ◌∙◌, sym, arith, rules}
 use Rattle.std.specs.Prelude.{decimal}
-use Rattle.cip_number_text.specs.NumberText.{natural_text}
-use Rattle.cip_number_text.proofs.NumberText.{natural_text_decimal}
+use Rattle.cip_rational.specs.NumberText.{natural_text}
+use Rattle.cip_rational.proofs.NumberText.{natural_text_decimal}
 use Rattle.cip_report.proofs.traces.write_digits.Goals as goal
 
 pub returns-clause-taken : goal.returns-clause-taken

@@ -1,5 +1,5 @@
 use Rattle.std.proofs.Common.{◌<◌, ◌∙◌, take, length, append_assoc, add-one, rules}
-use Rattle.cip_number_text.specs.NumberText.{fraction_text}
+use Rattle.cip_rational.specs.NumberText.{fraction_text}
 use Rattle.cip_leaves.specs.Leaf.{at_wholes}
 use Rattle.cip_answers.specs.Figures.{line, leaf_name}
 use Rattle.cip_report.proofs.WritingLemmas.{second_of_three, Passes-more}

@@ -2,7 +2,7 @@ use Rattle.std.proofs.Common.{◌≡◌, ◌<◌, ◌^◌, ◌∙◌, ap, pos, t
 use Rattle.std.specs.Int.{w128}
 use Rattle.std.proofs.lemmas.Int.{to_z_pos}
 use Rattle.cip_rational.specs.Rational.{integer}
-use Rattle.cip_number_text.specs.NumberText.{natural_text, fraction_text}
+use Rattle.cip_rational.specs.NumberText.{natural_text, fraction_text}
 use Rattle.cip_report.proofs.WritingLemmas.{whole_text}
 use Rattle.cip_report.proofs.writing.write_moves.Goals as goal
 

@@ -1,7 +1,7 @@
 use Rattle.std.proofs.Common.{ℕ, List, pos, arith, refl, subst, sym, ◌∙◌, get_or, take_all}
 use Rattle.cip_plugin.specs.Asking.{ask_of}
-use Rattle.cip_seats.specs.declared.keys.Key.{Key}
-use Rattle.cip_seats.specs.Calling.{Called, ids_of}
+use Rattle.cip_plugin.specs.declared.keys.Key.{Key}
+use Rattle.cip_plugin.specs.Calling.{Called, ids_of}
 use Rattle.cip_roster.specs.Turns.{handed}
 use Rattle.cip_roster.proofs.Turning.{SoFar, all_still, ids_next, so_far_more, so_far_none}
 use Rattle.cip_roster.proofs.calling.call.Goals as goal

@@ -1,6 +1,6 @@
 use Rattle.std.proofs.Common.{◌≡◌, ◌+◌, ◌*◌, ◌≤◌, take, All, vec_len, vec_capacity}
 use Rattle.cip_plugin.specs.Asking.{ask_of}
-use Rattle.cip_seats.specs.Calling.{ids_of}
+use Rattle.cip_plugin.specs.Calling.{ids_of}
 use Rattle.cip_roster.specs.Turns.{CanBeAsked}
 use Rattle.cip_roster.proofs.Turning.{SoFar}
 use Rattle.cip_roster.proofs.calling.call.Given as goal

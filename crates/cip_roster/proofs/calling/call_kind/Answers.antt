@@ -1,7 +1,7 @@
 use Rattle.std.proofs.Common.{List, length, All, ap, arith, subst, sym, ◌∙◌}
 use Rattle.cip_plugin.specs.Asking.{ask_of}
-use Rattle.cip_seats.specs.declared.keys.Key.{Key}
-use Rattle.cip_seats.specs.Calling.{ids_of}
+use Rattle.cip_plugin.specs.declared.keys.Key.{Key}
+use Rattle.cip_plugin.specs.Calling.{ids_of}
 use Rattle.cip_roster.specs.Turns.{CanBeAsked, handed}
 use Rattle.cip_roster.proofs.Ranking.{ranked_can}
 use Rattle.cip_roster.proofs.StillRanked.{sound_with}

@@ -1,6 +1,6 @@
 use Rattle.std.proofs.Common.{List, subst, sym, ◌∙◌}
-use Rattle.cip_seats.specs.declared.keys.Key.{Key}
-use Rattle.cip_seats.specs.Seats.{State}
+use Rattle.cip_plugin.specs.declared.keys.Key.{Key}
+use Rattle.cip_plugin.specs.Seats.{State}
 use Rattle.cip_roster.specs.KeptRankings.{IsRanking}
 use Rattle.cip_roster.proofs.StillRanked.{sound_with}
 use Rattle.cip_roster.proofs.calling.order_of.Goals as goal

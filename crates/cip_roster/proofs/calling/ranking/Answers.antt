@@ -1,8 +1,8 @@
 use Rattle.std.proofs.Common.{ℕ, List, ◌≤◌, ◌∙◌, ap, length, subst, sym}
 use Rattle.std.specs.List.Sorted.{IsPermutation, IsSorted}
-use Rattle.cip_seats.specs.declared.keys.Key.{Key}
-use Rattle.cip_seats.specs.Calling.{is_ready, keys_from}
-use Rattle.cip_seats.specs.Ranks.{rank_order}
+use Rattle.cip_plugin.specs.declared.keys.Key.{Key}
+use Rattle.cip_plugin.specs.Calling.{is_ready, keys_from}
+use Rattle.cip_plugin.specs.Ranks.{rank_order}
 use Rattle.cip_roster.proofs.Ranking.{ranked_all, ranked_found, ranked_none, ranked_passed, sorted_all}
 use Rattle.cip_roster.proofs.calling.ranking.Goals as goal
 use Rattle.cip_roster.proofs.calling.ranking.Goals.{in-None, in-Some+in_ok-push-in-Some}

@@ -1,4 +1,4 @@
-use Rattle.cip_seats.specs.Calling.{is_ready}
+use Rattle.cip_plugin.specs.Calling.{is_ready}
 use Rattle.cip_roster.proofs.Ranking.{Ranked}
 use Rattle.cip_roster.proofs.calling.ranking.Given as goal
 

@@ -1,6 +1,6 @@
 use Rattle.std.proofs.Common.{[], Bool, cond, refl, subst}
-use Rattle.cip_seats.specs.Steps.{Runs}
-use Rattle.cip_seats.specs.Wishing.{ends}
+use Rattle.cip_plugin.specs.Steps.{Runs}
+use Rattle.cip_plugin.specs.Wishing.{ends}
 use Rattle.cip_roster.proofs.Ending.{closed_there}
 use Rattle.cip_roster.proofs.Sounding.{sound_ended}
 use Rattle.cip_roster.proofs.Wishes.{live_plays, live_room, live_there}

@@ -1,6 +1,6 @@
 use Rattle.std.proofs.Common.{◌+◌, List, length}
 use Rattle.cip_events.specs.declared.events.Event.{Event}
-use Rattle.cip_seats.proofs.Counting.{left_over}
+use Rattle.cip_plugin.proofs.Counting.{left_over}
 use Rattle.cip_roster.specs.Turns.{IsSound}
 use Rattle.cip_roster.proofs.Throughout.{ToldSoFar}
 use Rattle.cip_roster.proofs.delivering.deliver.Given as goal

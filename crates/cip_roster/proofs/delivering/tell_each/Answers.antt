@@ -1,8 +1,8 @@
 use Rattle.std.proofs.Common.{ℕ, List, pos, subst, sym, get_or}
 use Rattle.std.proofs.lemmas.List.{take_all}
 use Rattle.cip_plugin.specs.declared.kinds.Kind.TheVariants as kinds
-use Rattle.cip_seats.specs.declared.keys.Key.{Key}
-use Rattle.cip_seats.specs.Calling.{ids_of}
+use Rattle.cip_plugin.specs.declared.keys.Key.{Key}
+use Rattle.cip_plugin.specs.Calling.{ids_of}
 use Rattle.cip_roster.proofs.Delivery.{ran_more}
 use Rattle.cip_roster.proofs.OneEvent.{ToldTo, on_err_any, told_to_all, told_to_more, told_to_none}
 use Rattle.cip_roster.proofs.Ranking.{ranked_seated}

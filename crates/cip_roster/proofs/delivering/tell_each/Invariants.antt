@@ -1,6 +1,6 @@
 use Rattle.std.proofs.Common.{take, All}
 use Rattle.std.specs.Prelude.{slice_get, IsSome}
-use Rattle.cip_seats.specs.Calling.{ids_of}
+use Rattle.cip_plugin.specs.Calling.{ids_of}
 use Rattle.cip_roster.specs.Turns.{IsSound}
 use Rattle.cip_roster.proofs.OneEvent.{ToldTo}
 use Rattle.cip_roster.proofs.delivering.tell_each.Given as goal

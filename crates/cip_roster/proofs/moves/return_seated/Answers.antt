@@ -1,4 +1,4 @@
-use Rattle.std.proofs.Common.{◌≡◌, ◌∷◌, ◌∙◌, ◌≤◌, [], ◌++◌, Some, None, ap, arith, length, map, refl, rules, sym, vec_len}
+use Rattle.std.proofs.Common.{◌≡◌, ◌∷◌, ◌∙◌, ◌≤◌, [], ◌++◌, Some, None, ap, arith, length, refl, sym, vec_len}
 use Rattle.std.proofs.lemmas.List.{drop_all}
 use Rattle.std.specs.Vec.Iter.{drain_items, drain_kept, drain_lender}
 use Rattle.cip_roster.specs.Moved.{numbered}
@@ -7,7 +7,7 @@ use Rattle.cip_roster.proofs.moves.return_seated.Goals as goal
 
 pub loop-seat-init : goal.loop-seat-init
 loop-seat-init g c =
-    let fits : length c.args.seated.now.items ≤ vec_len c.args.seated.now = search rules in
+    let fits : length c.args.seated.now.items ≤ vec_len c.args.seated.now = omega (arith, c.args.seated.now.ok.0) in
     let from : drain_items c.into_iter-seat-iterator.result ≡ c.args.seated.now.items =
     ap (λ it. drain_items it) c.into_iter-seat-iterator.ensures.into_iter_gives ∙ c.drain-seat-items.ensures.rest
     ∙ whole_range c.args.seated.now.items (vec_len c.args.seated.now) fits in
@@ -52,7 +52,7 @@ loop-seat-preserved g c =
 
 pub returns-clause-moved : goal.returns-clause-moved
 returns-clause-moved g c =
-    let fits : length c.args.seated.now.items ≤ vec_len c.args.seated.now = search rules in
+    let fits : length c.args.seated.now.items ≤ vec_len c.args.seated.now = omega (arith, c.args.seated.now.ok.0) in
     let from : drain_items c.into_iter-seat-iterator.result ≡ c.args.seated.now.items =
     ap (λ it. drain_items it) c.into_iter-seat-iterator.ensures.into_iter_gives ∙ c.drain-seat-items.ensures.rest
     ∙ whole_range c.args.seated.now.items (vec_len c.args.seated.now) fits in
@@ -61,7 +61,7 @@ returns-clause-moved g c =
 
 pub returns-clause-length : goal.returns-clause-length
 returns-clause-length g c =
-    let fits : length c.args.seated.now.items ≤ vec_len c.args.seated.now = search rules in
+    let fits : length c.args.seated.now.items ≤ vec_len c.args.seated.now = omega (arith, c.args.seated.now.ok.0) in
     let from : drain_items c.into_iter-seat-iterator.result ≡ c.args.seated.now.items =
     ap (λ it. drain_items it) c.into_iter-seat-iterator.ensures.into_iter_gives ∙ c.drain-seat-items.ensures.rest
     ∙ whole_range c.args.seated.now.items (vec_len c.args.seated.now) fits in
@@ -82,7 +82,7 @@ returns-clause-none g c =
     let yielded = rw c.into_iter-seat-iterator.ensures.into_iter_gives at c.loop-seat.yielded_by in
     let stays = drained.stays _ _ yielded in
     let last = c.in-None.ensures.steps.1 in
-    let fits : length c.args.seated.now.items ≤ vec_len c.args.seated.now = search rules in
+    let fits : length c.args.seated.now.items ≤ vec_len c.args.seated.now = omega (arith, c.args.seated.now.ok.0) in
     let left = c.drop-seat-iterator.ensures.items ∙ ap (λ it. drain_kept it) last ∙ stays.1 ∙ drained.kept
     ∙ drop_all _ c.args.seated.now.items fits in
     let lent = ap (λ it. drain_lender it) last ∙ stays.0 ∙ drained.same_reference in

@@ -1,4 +1,4 @@
-use Rattle.std.proofs.Common.{◌≡◌, ◌∷◌, ◌∙◌, ◌≤◌, [], ◌++◌, Some, None, ap, arith, length, map, refl, rules, sym, vec_len}
+use Rattle.std.proofs.Common.{◌≡◌, ◌∷◌, ◌∙◌, ◌≤◌, [], ◌++◌, Some, None, ap, arith, length, refl, sym, vec_len}
 use Rattle.std.proofs.lemmas.List.{drop_all}
 use Rattle.std.specs.Vec.Iter.{drain_items, drain_kept, drain_lender}
 use Rattle.std.proofs.Common.{count_by}
@@ -9,7 +9,7 @@ use Rattle.cip_roster.proofs.moves.return_shelved.Goals as goal
 
 pub loop-held-init : goal.loop-held-init
 loop-held-init g c =
-    let fits : length c.args.shelf.now.items ≤ vec_len c.args.shelf.now = search rules in
+    let fits : length c.args.shelf.now.items ≤ vec_len c.args.shelf.now = omega (arith, c.args.shelf.now.ok.0) in
     let from : drain_items c.into_iter-held-iterator.result ≡ c.args.shelf.now.items =
     ap (λ it. drain_items it) c.into_iter-held-iterator.ensures.into_iter_gives ∙ c.drain-held-items.ensures.rest
     ∙ whole_range c.args.shelf.now.items (vec_len c.args.shelf.now) fits in
@@ -54,7 +54,7 @@ loop-held-preserved g c =
 
 pub returns-clause-moved : goal.returns-clause-moved
 returns-clause-moved g c =
-    let fits : length c.args.shelf.now.items ≤ vec_len c.args.shelf.now = search rules in
+    let fits : length c.args.shelf.now.items ≤ vec_len c.args.shelf.now = omega (arith, c.args.shelf.now.ok.0) in
     let from : drain_items c.into_iter-held-iterator.result ≡ c.args.shelf.now.items =
     ap (λ it. drain_items it) c.into_iter-held-iterator.ensures.into_iter_gives ∙ c.drain-held-items.ensures.rest
     ∙ whole_range c.args.shelf.now.items (vec_len c.args.shelf.now) fits in
@@ -67,7 +67,7 @@ returns-clause-none g c =
     let yielded = rw c.into_iter-held-iterator.ensures.into_iter_gives at c.loop-held.yielded_by in
     let stays = drained.stays _ _ yielded in
     let last = c.in-None.ensures.steps.1 in
-    let fits : length c.args.shelf.now.items ≤ vec_len c.args.shelf.now = search rules in
+    let fits : length c.args.shelf.now.items ≤ vec_len c.args.shelf.now = omega (arith, c.args.shelf.now.ok.0) in
     let left = c.drop-held-iterator.ensures.items ∙ ap (λ it. drain_kept it) last ∙ stays.1 ∙ drained.kept
     ∙ drop_all _ c.args.shelf.now.items fits in
     let lent = ap (λ it. drain_lender it) last ∙ stays.0 ∙ drained.same_reference in

@@ -1,4 +1,4 @@
-use Rattle.std.proofs.Common.{◌≡◌, ◌∷◌, ◌∙◌, ◌≤◌, [], ◌++◌, Some, None, ap, arith, length, map, refl, rules, sym, vec_len}
+use Rattle.std.proofs.Common.{◌≡◌, ◌∷◌, ◌∙◌, ◌≤◌, Some, None, ap, arith, length, map, refl, sym, vec_len}
 use Rattle.std.proofs.lemmas.List.{drop_all}
 use Rattle.std.specs.Vec.Iter.{drain_items, drain_kept, drain_lender}
 use Rattle.cip_roster.proofs.Moving.{moved_all, moved_one, whole_range}
@@ -6,7 +6,7 @@ use Rattle.cip_roster.proofs.moves.shelve.Goals as goal
 
 pub loop-plugin-init : goal.loop-plugin-init
 loop-plugin-init g c =
-    let fits : length c.args.plugins.now.items ≤ vec_len c.args.plugins.now = search rules in
+    let fits : length c.args.plugins.now.items ≤ vec_len c.args.plugins.now = omega (arith, c.args.plugins.now.ok.0) in
     let from : drain_items c.into_iter-plugin-iterator.result ≡ c.args.plugins.now.items =
     ap (λ it. drain_items it) c.into_iter-plugin-iterator.ensures.into_iter_gives ∙ c.drain-plugin-items.ensures.rest
     ∙ whole_range c.args.plugins.now.items (vec_len c.args.plugins.now) fits in
@@ -39,7 +39,7 @@ loop-plugin-preserved g c =
 
 pub returns-clause-moved : goal.returns-clause-moved
 returns-clause-moved g c =
-    let fits : length c.args.plugins.now.items ≤ vec_len c.args.plugins.now = search rules in
+    let fits : length c.args.plugins.now.items ≤ vec_len c.args.plugins.now = omega (arith, c.args.plugins.now.ok.0) in
     let from : drain_items c.into_iter-plugin-iterator.result ≡ c.args.plugins.now.items =
     ap (λ it. drain_items it) c.into_iter-plugin-iterator.ensures.into_iter_gives ∙ c.drain-plugin-items.ensures.rest
     ∙ whole_range c.args.plugins.now.items (vec_len c.args.plugins.now) fits in
@@ -52,7 +52,7 @@ returns-clause-none g c =
     let yielded = rw c.into_iter-plugin-iterator.ensures.into_iter_gives at c.loop-plugin.yielded_by in
     let stays = drained.stays _ _ yielded in
     let last = c.in-None.ensures.steps.1 in
-    let fits : length c.args.plugins.now.items ≤ vec_len c.args.plugins.now = search rules in
+    let fits : length c.args.plugins.now.items ≤ vec_len c.args.plugins.now = omega (arith, c.args.plugins.now.ok.0) in
     let left = c.drop-plugin-iterator.ensures.items ∙ ap (λ it. drain_kept it) last ∙ stays.1 ∙ drained.kept
     ∙ drop_all _ c.args.plugins.now.items fits in
     let lent = ap (λ it. drain_lender it) last ∙ stays.0 ∙ drained.same_reference in

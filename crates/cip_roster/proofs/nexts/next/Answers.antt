@@ -1,5 +1,5 @@
 use Rattle.std.proofs.Common.{List, subst, sym, ◌∙◌}
-use Rattle.cip_seats.specs.Seats.{State}
+use Rattle.cip_plugin.specs.Seats.{State}
 use Rattle.cip_roster.specs.KeptRankings.{IsRanking}
 use Rattle.cip_roster.proofs.Ranking.{is_next}
 use Rattle.cip_roster.proofs.StillRanked.{sound_with}

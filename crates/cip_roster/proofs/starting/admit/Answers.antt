@@ -1,5 +1,5 @@
 use Rattle.std.proofs.Common.{arith, ap, refl, ◌∙◌}
-use Rattle.cip_seats.specs.Seats.{held_count}
+use Rattle.cip_plugin.specs.Seats.{held_count}
 use Rattle.cip_roster.specs.KeptRankings.{Room}
 use Rattle.cip_roster.proofs.Beginning.{begun_sound, begun_with_all, seated_count, seated_fresh}
 use Rattle.cip_roster.proofs.starting.admit.Goals as goal

@@ -37,7 +37,7 @@ seat-requires g c =
 
 pub returns-clause-seats : goal.returns-clause-seats
 returns-clause-seats g c =
-    let fits : length c.args.plugins.now.items ≤ vec_len c.args.plugins.now = search rules in
+    let fits : length c.args.plugins.now.items ≤ vec_len c.args.plugins.now = omega (arith, c.args.plugins.now.ok.0) in
     let from : drain_items c.into_iter-plugin-iterator.result ≡ c.args.plugins.now.items =
     ap (λ it. drain_items it) c.into_iter-plugin-iterator.ensures.into_iter_gives ∙ c.drain-plugin-items.ensures.rest
     ∙ whole_range c.args.plugins.now.items (vec_len c.args.plugins.now) fits in
@@ -48,7 +48,7 @@ returns-clause-seats g c =
 
 pub returns-clause-names : goal.returns-clause-names
 returns-clause-names g c =
-    let fits : length c.args.plugins.now.items ≤ vec_len c.args.plugins.now = search rules in
+    let fits : length c.args.plugins.now.items ≤ vec_len c.args.plugins.now = omega (arith, c.args.plugins.now.ok.0) in
     let from : drain_items c.into_iter-plugin-iterator.result ≡ c.args.plugins.now.items =
     ap (λ it. drain_items it) c.into_iter-plugin-iterator.ensures.into_iter_gives ∙ c.drain-plugin-items.ensures.rest
     ∙ whole_range c.args.plugins.now.items (vec_len c.args.plugins.now) fits in
@@ -74,7 +74,7 @@ returns-clause-none g c =
     let yielded = rw c.into_iter-plugin-iterator.ensures.into_iter_gives at c.loop-plugin.yielded_by in
     let stays = drained.stays _ _ yielded in
     let last = c.in-None.ensures.steps.1 in
-    let fits : length c.args.plugins.now.items ≤ vec_len c.args.plugins.now = search rules in
+    let fits : length c.args.plugins.now.items ≤ vec_len c.args.plugins.now = omega (arith, c.args.plugins.now.ok.0) in
     let left = c.drop-plugin-iterator.ensures.items ∙ ap (λ it. drain_kept it) last ∙ stays.1 ∙ drained.kept
     ∙ drop_all _ c.args.plugins.now.items fits in
     let lent = ap (λ it. drain_lender it) last ∙ stays.0 ∙ drained.same_reference in

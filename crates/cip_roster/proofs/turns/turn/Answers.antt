@@ -2,7 +2,7 @@ use Rattle.std.proofs.Common.{[], ◌∷◌, arith, ◌∙◌}
 use Rattle.cip_plugin.specs.Answers.{answer}
 use Rattle.cip_plugin.specs.Asking.{answer_of, ask_of}
 use Rattle.cip_plugin.specs.Calls.{Asked}
-use Rattle.cip_seats.specs.Steps.{Calls}
+use Rattle.cip_plugin.specs.Steps.{Calls}
 use Rattle.cip_roster.proofs.Turning.{asked_there, turn_given, turn_none}
 use Rattle.cip_roster.proofs.turns.turn.Goals as goal
 

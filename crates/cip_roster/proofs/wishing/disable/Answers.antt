@@ -1,10 +1,10 @@
 use Rattle.std.proofs.Common.{false, ◌∙◌, [], ◌∷◌, ap, refl, arith, subst, sym}
 use Rattle.std.specs.Prelude.{slice_get}
 use Rattle.cip_plugin.specs.declared.proposals.Wish.TheVariants.{Disable}
-use Rattle.cip_seats.specs.declared.stages.Stage.TheVariants as stages
-use Rattle.cip_seats.specs.Seats.{State, live_count}
-use Rattle.cip_seats.specs.Steps.{Runs, Turns}
-use Rattle.cip_seats.specs.Wishing.{Granted, is_enabled}
+use Rattle.cip_plugin.specs.declared.stages.Stage.TheVariants as stages
+use Rattle.cip_plugin.specs.Seats.{State, live_count}
+use Rattle.cip_plugin.specs.Steps.{Runs, Turns}
+use Rattle.cip_plugin.specs.Wishing.{Granted, is_enabled}
 use Rattle.cip_roster.specs.Turns.{StandsAt}
 use Rattle.cip_roster.proofs.Sounding.{sound_still}
 use Rattle.cip_roster.proofs.Turning.{sound_more}

@@ -1,10 +1,13 @@
-use Rattle.std.proofs.Common.{◌∙◌, ap, subst}
+use Rattle.std.proofs.Common.{◌+◌, ◌*◌, ◌≤◌, ◌∙◌, ap, subst, sym}
 use Rattle.std.specs.Prelude.{slice_get}
 use Rattle.cip_plugin.specs.declared.proposals.Wish.TheVariants.{Include}
-use Rattle.cip_seats.specs.Seats.{State}
-use Rattle.cip_seats.specs.Wishing.{Granted, place_fault}
+use Rattle.cip_plugin.specs.Seats.{State, live_count}
+use Rattle.cip_plugin.specs.Wishing.{Granted, place_fault}
 use Rattle.cip_roster.proofs.Turning.{sound_more}
 use Rattle.cip_roster.proofs.wishing.include.Goals as goal
+
+pub returns-in_err-holds-clause-sound : goal.returns-in_err-holds-clause-sound
+returns-in_err-holds-clause-sound g c = c.requires.sound
 
 pub returns-in_err-reserve_seat-clause-sound : goal.returns-in_err-reserve_seat-clause-sound
 returns-in_err-reserve_seat-clause-sound g c =
@@ -28,6 +31,17 @@ pub welcome-requires-clause-held : goal.welcome-requires-clause-held
 welcome-requires-clause-held g c =
     ap (λ (s : State). place_fault (slice_get s.places c.args.place)) c.reserve_seat.ensures.state
     ∙ c.in_ok-holds.ensures
+
+pub welcome-requires-clause-seat : goal.welcome-requires-clause-seat
+welcome-requires-clause-seat g c = c.in_ok-reserve_seat.ensures.seat
+
+pub welcome-requires-clause-room : goal.welcome-requires-clause-room
+welcome-requires-clause-room g c =
+    subst (λ (s : State). 6 + 2 * live_count s.seats ≤ (g.R.Seated.room c.reserve_seat.new.self).lines)
+    (sym c.reserve_seat.ensures.state) c.in_ok-reserve_seat.ensures.room
+
+pub returns-clause-sound : goal.returns-clause-sound
+returns-clause-sound g c = c.welcome.ensures.sound
 
 pub returns-clause-came : goal.returns-clause-came
 returns-clause-came g c = record {

@@ -1,7 +1,7 @@
 use Rattle.std.proofs.Common.{[], ◌∷◌, subst, refl, arith}
 use Rattle.std.specs.Prelude.{ℤ}
 use Rattle.std.proofs.Math.Facts.{to_z-of_z}
-use Rattle.cip_seats.specs.Steps.{Ranks, Runs}
+use Rattle.cip_plugin.specs.Steps.{Ranks, Runs}
 use Rattle.cip_roster.proofs.Sounding.{sound_still}
 use Rattle.cip_roster.proofs.wishing.rank.Goals as goal
 

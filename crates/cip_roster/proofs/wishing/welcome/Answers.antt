@@ -1,5 +1,5 @@
 use Rattle.std.proofs.Common.{ℕ, arith, subst, ◌∙◌}
-use Rattle.cip_seats.specs.declared.stages.Stage.TheVariants as stages
+use Rattle.cip_plugin.specs.declared.stages.Stage.TheVariants as stages
 use Rattle.cip_roster.specs.Turns.{StandsAt}
 use Rattle.cip_roster.proofs.Sounding.{sound_included}
 use Rattle.cip_roster.proofs.Wishes.{included_once, welcomed}

@@ -2,9 +2,9 @@ use Rattle.std.proofs.Common.{◌≡◌, ◌<◌, ℕ, length, map, None, MatchR
 use Rattle.std.proofs.lemmas.List.{length-map}
 use Rattle.cip_problem.specs.RowTerms.{AreTerms}
 use Rattle.cip_linear.specs.Multipliers.{row_sides}
-use Rattle.cip_dictionary.specs.Operations.{first_overflow}
-use Rattle.cip_dictionary.specs.FirstState.{System, first, first_operations}
-use Rattle.cip_dictionary.specs.ProgramState.{terms_at, system_of}
+use Rattle.cip_bland.specs.Operations.{first_overflow}
+use Rattle.cip_bland.specs.FirstState.{System, first, first_operations}
+use Rattle.cip_bland.specs.ProgramState.{terms_at, system_of}
 use Rattle.cip_dict.specs.Entries.{system_in, IsFirstFault}
 use Rattle.cip_simplex.specs.LpEntries.{entries_in}
 use Rattle.cip_simplex.proofs.Systems.{same_system, entries_within}

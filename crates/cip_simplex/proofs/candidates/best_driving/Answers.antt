@@ -1,5 +1,5 @@
 use Rattle.std.proofs.Common.{refl, sym, ap, ◌∙◌, arith}
-use Rattle.cip_dictionary.specs.Dictionary.{size, entry}
+use Rattle.cip_bland.specs.Dictionary.{size, entry}
 use Rattle.cip_bland.specs.Rule.{drives, may_go}
 use Rattle.cip_simplex.proofs.FreeMoves.{picked}
 use Rattle.cip_simplex.proofs.RowPasses.{driving_begun, driving_ended, sign_below, sign_more, sign_less}

@@ -1,5 +1,5 @@
 use Rattle.std.proofs.Common.{refl, sym, ap, ◌∙◌, arith}
-use Rattle.cip_dictionary.specs.Dictionary.{size, cost_entry}
+use Rattle.cip_bland.specs.Dictionary.{size, cost_entry}
 use Rattle.cip_bland.specs.declared.steps.Heading.TheVariants.{Down}
 use Rattle.cip_bland.specs.Rule.{drives, may_go}
 use Rattle.cip_simplex.proofs.FreeMoves.{picked}

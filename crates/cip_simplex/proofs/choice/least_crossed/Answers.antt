@@ -1,5 +1,5 @@
 use Rattle.std.proofs.Common.{◌≡◌, sym, arith}
-use Rattle.cip_dictionary.specs.Dictionary.{size}
+use Rattle.cip_bland.specs.Dictionary.{size}
 use Rattle.cip_dict.proofs.LeastBasic.{least_more, least_at}
 use Rattle.cip_bland.specs.Rule as rule
 use Rattle.cip_simplex.proofs.choice.least_crossed.Goals as goal

@@ -1,5 +1,5 @@
 use Rattle.std.proofs.Common.{None, sym, ap, ◌∙◌, arith}
-use Rattle.cip_dictionary.specs.Dictionary.{cost_entry}
+use Rattle.cip_bland.specs.Dictionary.{cost_entry}
 use Rattle.cip_bland.specs.declared.steps.Heading.TheVariants.{Down}
 use Rattle.cip_bland.specs.Rule.{may_go}
 use Rattle.cip_simplex.proofs.RowPasses.{driving_begun, driving_none, sign_below, sign_less, sign_hit}

@@ -1,5 +1,5 @@
 use Rattle.std.proofs.Common.{None}
-use Rattle.cip_dictionary.specs.Dictionary.{size, cost_entry}
+use Rattle.cip_bland.specs.Dictionary.{size, cost_entry}
 use Rattle.cip_bland.specs.Rule.{improves}
 use Rattle.cip_dict.specs.SparseLines.{kept_of}
 use Rattle.cip_simplex.proofs.RowPasses.{IsSearched}

@@ -1,5 +1,5 @@
 use Rattle.std.proofs.Common.{◌≡◌, None}
-use Rattle.cip_dictionary.specs.Tables.{least}
+use Rattle.cip_bland.specs.Tables.{least}
 use Rattle.cip_bland.specs.Rule as rule
 use Rattle.cip_simplex.proofs.choice.least_outside.Given as goal
 

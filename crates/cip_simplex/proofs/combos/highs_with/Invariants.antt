@@ -1,6 +1,6 @@
 use Rattle.std.proofs.Common.{◌≡◌, map}
 use Rattle.cip_problem.specs.Activity.{value_at}
-use Rattle.cip_dictionary.specs.Tables.{each}
+use Rattle.cip_bland.specs.Tables.{each}
 use Rattle.cip_bland.specs.EndAnswers.{high_multiple}
 use Rattle.cip_simplex.specs.LpAnswers.{column_multiple}
 use Rattle.cip_simplex.proofs.combos.highs_with.Given as goal

@@ -1,5 +1,5 @@
 use Rattle.std.proofs.Common.{◌≡◌}
-use Rattle.cip_dictionary.specs.Tables.{table}
+use Rattle.cip_bland.specs.Tables.{table}
 use Rattle.cip_bland.specs.EndAnswers.{change_of}
 use Rattle.cip_simplex.proofs.ends.changes_of.Given as goal
 

@@ -1,6 +1,6 @@
 use Rattle.std.proofs.Common.{◌≡◌, ◌∙◌, arith, subst, IfOk}
-use Rattle.cip_dictionary.specs.Tables.{table}
-use Rattle.cip_dictionary.specs.Dictionary.{size, cost_entry}
+use Rattle.cip_bland.specs.Tables.{table}
+use Rattle.cip_bland.specs.Dictionary.{size, cost_entry}
 use Rattle.cip_bland.specs.EndAnswers as def
 use Rattle.cip_simplex.specs.LpAnswers.{IsCombo}
 use Rattle.cip_simplex.proofs.Tabled.{long, same_certificate}

@@ -1,5 +1,5 @@
 use Rattle.std.proofs.Common.{◌∙◌, ◌++◌, ◌∷◌, [], sym, ap₂}
-use Rattle.cip_dictionary.specs.Dictionary.{size, cost_entry}
+use Rattle.cip_bland.specs.Dictionary.{size, cost_entry}
 use Rattle.cip_dict.specs.SparseLines.{kept_of}
 use Rattle.cip_dict.proofs.Grown.{table_none, table_more}
 use Rattle.cip_dict.proofs.Places.{place_zero}

@@ -1,5 +1,5 @@
 use Rattle.std.proofs.Common.{ap, ◌∙◌, arith}
-use Rattle.cip_dictionary.specs.Dictionary.{size, cost_entry}
+use Rattle.cip_bland.specs.Dictionary.{size, cost_entry}
 use Rattle.cip_dict.specs.SparseLines.{Kept}
 use Rattle.cip_simplex.proofs.Cursors.{on_entry, past_entry, on_none, past_none}
 use Rattle.cip_simplex.proofs.ends.cost_on.Goals as goal

@@ -1,6 +1,6 @@
 use Rattle.std.proofs.Common.{◌≡◌, ◌∙◌, arith, subst, IfOk}
-use Rattle.cip_dictionary.specs.Tables.{table}
-use Rattle.cip_dictionary.specs.Dictionary.{size}
+use Rattle.cip_bland.specs.Tables.{table}
+use Rattle.cip_bland.specs.Dictionary.{size}
 use Rattle.cip_bland.specs.EndAnswers.{row_multiplier}
 use Rattle.cip_bland.specs.EndAnswers as def
 use Rattle.cip_simplex.specs.LpAnswers.{IsCombo}

@@ -1,6 +1,6 @@
 use Rattle.std.proofs.Common.{◌≡◌}
-use Rattle.cip_dictionary.specs.Tables.{table}
-use Rattle.cip_dictionary.specs.Dictionary as def
+use Rattle.cip_bland.specs.Tables.{table}
+use Rattle.cip_bland.specs.Dictionary as def
 use Rattle.cip_dict.specs.SparseLines.{kept_of, IsPlace}
 use Rattle.cip_bland.specs.EndAnswers.{row_multiplier}
 use Rattle.cip_simplex.proofs.ends.row_multipliers.Given as goal

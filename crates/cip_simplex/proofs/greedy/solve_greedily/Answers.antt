@@ -1,5 +1,5 @@
 use Rattle.std.proofs.Common.{None}
-use Rattle.cip_dictionary.specs.ProgramState.{first_of_program}
+use Rattle.cip_bland.specs.ProgramState.{first_of_program}
 use Rattle.cip_bland.proofs.StepCases.{first_is_state}
 use Rattle.cip_simplex.proofs.FreeMoves.{reached}
 use Rattle.cip_simplex.proofs.greedy.solve_greedily.Goals as goal

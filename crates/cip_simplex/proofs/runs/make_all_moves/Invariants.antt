@@ -1,5 +1,5 @@
 use Rattle.std.proofs.Common.{◌≡◌}
-use Rattle.cip_dictionary.specs.Dictionary.{size}
+use Rattle.cip_bland.specs.Dictionary.{size}
 use Rattle.cip_bland.specs.NoRepeat.{whole_run, moves_left}
 use Rattle.cip_bland.specs.Statements.{IsStateOf}
 use Rattle.cip_simplex.specs.Advances.{run_behind}

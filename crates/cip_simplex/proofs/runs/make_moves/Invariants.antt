@@ -1,5 +1,5 @@
 use Rattle.std.proofs.Common.{◌≡◌, ◌-◌}
-use Rattle.cip_dictionary.specs.Dictionary.{size}
+use Rattle.cip_bland.specs.Dictionary.{size}
 use Rattle.cip_bland.specs.MoveList.{run}
 use Rattle.cip_simplex.specs.Advances.{run_behind}
 use Rattle.cip_simplex.proofs.runs.make_moves.Given as goal

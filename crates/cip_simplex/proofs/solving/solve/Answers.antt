@@ -1,5 +1,5 @@
 use Rattle.std.proofs.Common.{ap, sym, ◌∙◌, subst}
-use Rattle.cip_dictionary.specs.Dictionary.{size}
+use Rattle.cip_bland.specs.Dictionary.{size}
 use Rattle.cip_bland.specs.EndAnswers as def
 use Rattle.cip_bland.proofs.RunFacts.{answers_are_right}
 use Rattle.cip_simplex.specs.LpAnswers.{IsAnswer}

@@ -1,5 +1,5 @@
 use Rattle.std.proofs.Common.{◌≡◌, None, sym, ap, ◌∙◌, arith}
-use Rattle.cip_dictionary.specs.Dictionary.{size}
+use Rattle.cip_bland.specs.Dictionary.{size}
 use Rattle.cip_simplex.specs.LpShape.{variables}
 use Rattle.cip_simplex.specs.Starts.{Begun, begun_through, flipping_move, begun}
 use Rattle.cip_simplex.proofs.Solved.{first_size}

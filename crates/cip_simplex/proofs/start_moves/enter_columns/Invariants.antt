@@ -1,5 +1,5 @@
 use Rattle.std.proofs.Common.{◌≡◌, None}
-use Rattle.cip_dictionary.specs.Dictionary.{size}
+use Rattle.cip_bland.specs.Dictionary.{size}
 use Rattle.cip_simplex.specs.Starts.{begun_through, entering_move}
 use Rattle.cip_simplex.proofs.start_moves.enter_columns.Given as goal
 

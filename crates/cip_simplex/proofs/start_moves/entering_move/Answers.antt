@@ -1,5 +1,5 @@
 use Rattle.std.proofs.Common.{◌≡◌, false, rules}
-use Rattle.cip_dictionary.specs.Dictionary.{is_basic}
+use Rattle.cip_bland.specs.Dictionary.{is_basic}
 use Rattle.cip_simplex.proofs.Begins.{leaving_within, can_enter}
 use Rattle.cip_simplex.proofs.start_moves.entering_move.Goals as goal
 

@@ -1,5 +1,5 @@
 use Rattle.std.proofs.Common.{◌≡◌, None}
-use Rattle.cip_dictionary.specs.Dictionary.{size}
+use Rattle.cip_bland.specs.Dictionary.{size}
 use Rattle.cip_simplex.specs.Starts.{begun_through, flipping_move}
 use Rattle.cip_simplex.proofs.start_moves.flip_variables.Given as goal
 

@@ -1,6 +1,6 @@
 use Rattle.std.proofs.Common.{◌≡◌, true, Some, sym, ap, ◌∙◌}
 use Rattle.cip_problem.specs.Box.{sides_at}
-use Rattle.cip_dictionary.specs.Dictionary.{stand}
+use Rattle.cip_bland.specs.Dictionary.{stand}
 use Rattle.cip_simplex.specs.Starts.{stand_for, are_opposite}
 use Rattle.cip_simplex.proofs.Begins.{can_flip_over}
 use Rattle.cip_simplex.proofs.start_moves.flipping_move.Goals as goal

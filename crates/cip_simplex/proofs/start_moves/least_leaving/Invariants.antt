@@ -1,5 +1,5 @@
 use Rattle.std.proofs.Common.{◌≡◌, None}
-use Rattle.cip_dictionary.specs.Tables.{least}
+use Rattle.cip_bland.specs.Tables.{least}
 use Rattle.cip_simplex.specs.Starts as starts
 use Rattle.cip_simplex.proofs.start_moves.least_leaving.Given as goal
 

@@ -1,5 +1,5 @@
 use Rattle.std.proofs.Common.{ap, ◌∙◌}
-use Rattle.cip_dictionary.specs.Dictionary.{size}
+use Rattle.cip_bland.specs.Dictionary.{size}
 use Rattle.cip_simplex.proofs.Lists.{after_size}
 use Rattle.cip_simplex.proofs.start_moves.make_next.Goals as goal
 

@@ -1,6 +1,6 @@
 use Rattle.std.proofs.Common.{◌≡◌, Some, sym, ap, ap₂, ◌∙◌}
 use Rattle.cip_problem.specs.Box.{sides_at}
-use Rattle.cip_dictionary.specs.Dictionary.{entry}
+use Rattle.cip_bland.specs.Dictionary.{entry}
 use Rattle.cip_bland.specs.Headings.{along, heading_for, goal_ahead}
 use Rattle.cip_bland.specs.Rule.{falling_heading}
 use Rattle.cip_simplex.proofs.Shortest.{side_found, side_wide}

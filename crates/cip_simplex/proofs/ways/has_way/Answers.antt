@@ -1,5 +1,5 @@
 use Rattle.std.proofs.Common.{◌≡◌, sym, arith}
-use Rattle.cip_dictionary.specs.Dictionary.{size}
+use Rattle.cip_bland.specs.Dictionary.{size}
 use Rattle.cip_bland.specs.Rule.{way_of}
 use Rattle.cip_simplex.proofs.Shortest.{none_more, some_at}
 use Rattle.cip_simplex.proofs.ways.has_way.Goals as goal

@@ -1,5 +1,5 @@
 use Rattle.std.proofs.Common.{arith}
-use Rattle.cip_dictionary.specs.Dictionary.{size}
+use Rattle.cip_bland.specs.Dictionary.{size}
 use Rattle.cip_simplex.proofs.Shortest.{wide_at}
 use Rattle.cip_simplex.proofs.ways.shortest_way.Goals as goal
 

@@ -1,5 +1,5 @@
 use Rattle.std.proofs.Common.{◌≡◌, true, rules}
-use Rattle.cip_dictionary.specs.Dictionary.{is_basic, entry}
+use Rattle.cip_bland.specs.Dictionary.{is_basic, entry}
 use Rattle.cip_simplex.proofs.Shortest.{zero_by, nonzero_by, zero_entry}
 use Rattle.cip_simplex.proofs.ways.way_to.Goals as goal
 

@@ -1,6 +1,7 @@
-use Rattle.std.proofs.Common.{ap}
+use Rattle.std.proofs.Common.{length, sym, ap, ◌∙◌, subst}
 use Rattle.cip_tree.specs.Entries as tree
-use Rattle.cip_solve.proofs.BegunLaws.{unsearched_by}
+use Rattle.cip_solve.specs.FirstStops.{StopsFirst}
+use Rattle.cip_solve.proofs.BegunLaws.{infeasible_by, unsearched_by}
 use Rattle.cip_solve.proofs.KitLaws.{nobody_called}
 use Rattle.cip_solve.proofs.solving.solve.Goals as goal
 
@@ -11,6 +12,29 @@ returns-in-Err-clause-solved g c =
 
 pub returns-in-Err-clause-kit : goal.returns-in-Err-clause-kit
 returns-in-Err-clause-kit g c = nobody_called _ c.args.options.now.trace _ _ _ (ap tree.entries_of c.clear.ensures.items) c.unsearched.ensures.trace
+
+pub returns-in-Err-clause-nodes : goal.returns-in-Err-clause-nodes
+returns-in-Err-clause-nodes g c = c.unsearched.ensures.nodes ∙ sym (ap length (ap tree.entries_of c.clear.ensures.items))
+
+pub returns-in-Err-clause-first : goal.returns-in-Err-clause-first
+returns-in-Err-clause-first g c =
+    subst (StopsFirst c.args.program.now c.args.options.now.gap) (sym (ap tree.entries_of c.clear.ensures.items)) (c.unsearched.ensures.first c.args.options.now.gap)
+
+pub returns-in-Ok-None-clause-solved : goal.returns-in-Ok-None-clause-solved
+returns-in-Ok-None-clause-solved g c =
+    let told = rw c.in-Ok-None.field-0-is at c.in-Ok-None.ensures in
+    infeasible_by c.args.program.now c.args.options.now.nodes c.args.options.now.gap c.args.options.now.presolve _ _ _ _ told.0 (ap tree.entries_of c.clear.ensures.items) c.clear-2.ensures.items
+    (c.infeasible.ensures.solved c.args.options.now.nodes c.args.options.now.gap _)
+
+pub returns-in-Ok-None-clause-nodes : goal.returns-in-Ok-None-clause-nodes
+returns-in-Ok-None-clause-nodes g c = c.infeasible.ensures.nodes ∙ sym (ap length (ap tree.entries_of c.clear.ensures.items))
+
+pub returns-in-Ok-None-clause-first : goal.returns-in-Ok-None-clause-first
+returns-in-Ok-None-clause-first g c =
+    subst (StopsFirst c.args.program.now c.args.options.now.gap) (sym (ap tree.entries_of c.clear.ensures.items)) (c.infeasible.ensures.first c.args.options.now.gap)
+
+pub returns-in-Ok-None-clause-kit : goal.returns-in-Ok-None-clause-kit
+returns-in-Ok-None-clause-kit g c = nobody_called _ c.args.options.now.trace _ _ _ (ap tree.entries_of c.clear.ensures.items) c.infeasible.ensures.trace
 
 pub returns-in-Ok-Some-clause-solved : goal.returns-in-Ok-Some-clause-solved
 returns-in-Ok-Some-clause-solved g c = c.solve_reduced-answer.ensures.solved

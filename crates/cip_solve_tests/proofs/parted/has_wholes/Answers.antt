@@ -1,6 +1,6 @@
 use Rattle.std.proofs.Common.{◌∙◌, length, sym, ap}
 use Rattle.cip_problem.specs.Program.{Program}
-use Rattle.cip_judge.proofs.PassedOn.{work_long}
+use Rattle.cip_calls.proofs.PassedOn.{work_long}
 use Rattle.cip_solve_tests.proofs.parted.has_wholes.Goals as goal
 
 pub look_at-requires-clause-long : goal.look_at-requires-clause-long

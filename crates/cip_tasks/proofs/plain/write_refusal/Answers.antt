@@ -1,7 +1,7 @@
 use Rattle.std.proofs.Common.{◌≡◌, ◌∙◌, ap, rules}
 use Rattle.std.specs.Prelude.{decimal}
 use Rattle.cip_answers.specs.Figures.{refusal_text}
-use Rattle.cip_number_text.specs.NumberText.{natural_text}
+use Rattle.cip_rational.specs.NumberText.{natural_text}
 use Rattle.cip_tasks.specs.Refusals.{text_name, line_of}
 use Rattle.cip_tasks.proofs.RefusalTexts.{written, line_text}
 use Rattle.cip_tasks.proofs.plain.write_refusal.Goals as goal

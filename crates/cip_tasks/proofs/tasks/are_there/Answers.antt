@@ -1,7 +1,7 @@
 use Rattle.std.proofs.Common.{◌∙◌, ap, map, sym}
-use Rattle.cip_words.specs.Jobs.{are_among, off_in}
-use Rattle.cip_words.specs.WordsRead.{meant}
-use Rattle.cip_words.specs.declared.words.Job.{Job as Told}
+use Rattle.cip_tasks.specs.Jobs.{are_among, off_in}
+use Rattle.cip_tasks.specs.WordsRead.{meant}
+use Rattle.cip_tasks.specs.declared.words.Job.{Job as Told}
 use Rattle.cip_tasks.specs.Tasks.{labels_of}
 use Rattle.cip_tasks.proofs.Names.{are_there}
 use Rattle.cip_tasks.proofs.tasks.are_there.Goals as goal

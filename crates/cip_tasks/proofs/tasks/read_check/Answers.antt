@@ -1,5 +1,5 @@
 use Rattle.std.proofs.Common.{refl}
-use Rattle.cip_words.specs.Jobs.{Check}
+use Rattle.cip_tasks.specs.Jobs.{Check}
 use Rattle.cip_tasks.specs.declared.refusals.FaultyText.TheVariants.{Model, Point}
 use Rattle.cip_tasks.proofs.Readings.{not_read, unread_cause, point_cause, is_check}
 use Rattle.cip_tasks.proofs.tasks.read_check.Goals as goal

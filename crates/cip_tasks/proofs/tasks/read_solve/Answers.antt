@@ -1,5 +1,5 @@
 use Rattle.std.proofs.Common.{refl}
-use Rattle.cip_words.specs.Jobs.{Solve}
+use Rattle.cip_tasks.specs.Jobs.{Solve}
 use Rattle.cip_tasks.specs.declared.refusals.FaultyText.TheVariants.{Model}
 use Rattle.cip_tasks.proofs.Readings.{not_read, unread_cause, is_solve}
 use Rattle.cip_tasks.proofs.tasks.read_solve.Goals as goal

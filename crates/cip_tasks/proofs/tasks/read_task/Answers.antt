@@ -1,5 +1,5 @@
 use Rattle.std.proofs.Common.{◌∙◌, ap, Some}
-use Rattle.cip_words.specs.WordsRead.{meant}
+use Rattle.cip_tasks.specs.WordsRead.{meant}
 use Rattle.cip_tasks.proofs.Readings.{some_asked, few_columns, few_rows}
 use Rattle.cip_tasks.proofs.tasks.read_task.Goals as goal
 

@@ -1,5 +1,5 @@
 use Rattle.std.proofs.Common.{◌∙◌, ap, Option, Some, List, ℕ, Bor, option_map}
-use Rattle.cip_words.specs.Jobs.{Solve}
+use Rattle.cip_tasks.specs.Jobs.{Solve}
 use Rattle.cip_tasks.specs.declared.refusals.FaultyText.TheVariants.{Blocks}
 use Rattle.cip_tasks.proofs.Readings.{not_read, blocks_cause}
 use Rattle.cip_tasks.proofs.tasks.take_blocks.Goals as goal

@@ -1,5 +1,5 @@
 use Rattle.std.proofs.Common.{◌≡◌, ◌+◌, ◌<◌, ◌++◌, ◌^◌, length, sym, subst, arith, cond}
-use Rattle.cip_number_text.specs.Numeral.{Huge, TooFine, scaled, size_of, zeros_at_end}
+use Rattle.cip_rational.specs.Numeral.{Huge, TooFine, scaled, size_of, zeros_at_end}
 use Rattle.cip_text.proofs.Decided.{far_down, far_up}
 use Rattle.cip_text.proofs.decide.far.Goals as goal
 

@@ -1,5 +1,5 @@
 use Rattle.std.proofs.Common.{ap, ◌∙◌, ◌+◌, arith}
-use Rattle.cip_number_text.specs.Numeral.{zeros_at_end}
+use Rattle.cip_rational.specs.Numeral.{zeros_at_end}
 use Rattle.cip_text.proofs.Grown.{zeros_behind, zeros_through}
 use Rattle.cip_text.proofs.digits.zeros_at_both_ends.Goals as goal
 

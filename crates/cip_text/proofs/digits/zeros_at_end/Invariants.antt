@@ -1,6 +1,6 @@
 use Rattle.std.proofs.Common.{◌≡◌, ◌+◌, ◌≤◌, length, take}
 use Rattle.std.specs.List.{suffix_len}
-use Rattle.cip_number_text.specs.Numeral.{is_zero_digit}
+use Rattle.cip_rational.specs.Numeral.{is_zero_digit}
 use Rattle.cip_text.proofs.digits.zeros_at_end.Given as goal
 
 abbrev pub invariant-loop-kept : goal.invariant-loop-kept

@@ -1,5 +1,5 @@
 use Rattle.std.proofs.Common.{sym, subst}
-use Rattle.cip_number_text.proofs.InRange.{IsSound, sound_fraction}
+use Rattle.cip_rational.proofs.InRange.{IsSound, sound_fraction}
 use Rattle.cip_text.proofs.Reduced.{kept_reading}
 use Rattle.cip_text.proofs.fraction_text.fraction.Goals as goal
 

@@ -1,5 +1,5 @@
 use Rattle.std.proofs.Common.{ap, ◌∙◌, ltb, length, arith}
-use Rattle.cip_number_text.specs.Numeral.{is_exponent_mark}
+use Rattle.cip_rational.specs.Numeral.{is_exponent_mark}
 use Rattle.cip_text.proofs.Places.{found, place_within}
 use Rattle.cip_text.proofs.parts.cut_at_mark.Goals as goal
 

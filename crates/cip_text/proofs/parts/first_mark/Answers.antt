@@ -1,6 +1,6 @@
 use Rattle.std.proofs.Common.{sym, arith, length}
 use Rattle.std.proofs.lemmas.List.Sums.{position_or_len_is}
-use Rattle.cip_number_text.specs.Numeral.{is_exponent_mark}
+use Rattle.cip_rational.specs.Numeral.{is_exponent_mark}
 use Rattle.cip_text.proofs.parts.first_mark.Goals as goal
 
 pub returns-then-is_exponent_mark : goal.returns-then-is_exponent_mark

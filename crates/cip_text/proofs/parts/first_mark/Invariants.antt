@@ -1,5 +1,5 @@
 use Rattle.std.proofs.Common.{◌≡◌, ℕ, ◌<◌, false, get_or}
-use Rattle.cip_number_text.specs.Numeral.{is_exponent_mark}
+use Rattle.cip_rational.specs.Numeral.{is_exponent_mark}
 use Rattle.cip_text.proofs.parts.first_mark.Given as goal
 
 abbrev pub invariant-loop-i : goal.invariant-loop-i

@@ -1,6 +1,6 @@
 use Rattle.std.proofs.Common.{◌≡◌, ◌≢◌, ◌∷◌, []}
 use Rattle.cip_plugin.specs.Calls.{Propagate}
-use Rattle.cip_judge.specs.ProposalsJudged.{IsShownEmpty}
+use Rattle.cip_calls.specs.ProposalsJudged.{IsShownEmpty}
 use Rattle.cip_calls.specs.Noted.{HasCome}
 use Rattle.cip_calls.specs.Served.{Used}
 use Rattle.cip_calls.specs.declared.judging.Came.TheVariants.{Emptied}

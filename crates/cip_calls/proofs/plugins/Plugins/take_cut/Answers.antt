@@ -1,9 +1,9 @@
 use Rattle.std.proofs.Common.{refl, sym, ap, subst}
 use Rattle.cip_problem.specs.WellFormed.{columns}
 use Rattle.cip_tree.specs.Nodes.{region_of}
-use Rattle.cip_judge.specs.CoreStates.{CoreState, reduced_of}
-use Rattle.cip_judge.specs.ProposalsJudged.{HaveRoom}
-use Rattle.cip_judge.specs.declared.scratches.Scratches.{Scratches}
+use Rattle.cip_calls.specs.CoreStates.{CoreState, reduced_of}
+use Rattle.cip_calls.specs.ProposalsJudged.{HaveRoom}
+use Rattle.cip_calls.specs.declared.scratches.Scratches.{Scratches}
 use Rattle.cip_calls.proofs.Noting.{noted_none, gone_none, gone_by}
 use Rattle.cip_calls.proofs.Pools.{cut_more, cut_after}
 use Rattle.cip_calls.proofs.plugins.Plugins.take_cut.Goals as goal

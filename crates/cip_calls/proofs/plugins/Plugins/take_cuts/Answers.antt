@@ -26,3 +26,9 @@ returns-in_err-came-clause-gone g c =
 
 pub returns-in_err-came-clause-region : goal.returns-in_err-came-clause-region
 returns-in_err-came-clause-region g c = c.take_cut.ensures.region ∙ c.loop-cut.invariant.region
+
+pub returns-clause-open_ : goal.returns-clause-open_
+returns-clause-open_ g c = c.came_of.ensures.open_
+
+pub returns-clause-rows : goal.returns-clause-rows
+returns-clause-rows g c = λ e. c.loop-cut.invariant.rows (c.came_of.ensures.quiet e)

@@ -1,8 +1,8 @@
 use Rattle.std.proofs.Common.{sym, ap, subst}
 use Rattle.cip_problem.specs.WellFormed.{columns}
-use Rattle.cip_judge.specs.CoreStates.{CoreState, reduced_of}
-use Rattle.cip_judge.specs.ProposalsJudged.{HaveRoom}
-use Rattle.cip_judge.specs.declared.scratches.Scratches.{Scratches}
+use Rattle.cip_calls.specs.CoreStates.{CoreState, reduced_of}
+use Rattle.cip_calls.specs.ProposalsJudged.{HaveRoom}
+use Rattle.cip_calls.specs.declared.scratches.Scratches.{Scratches}
 use Rattle.cip_calls.proofs.Noting.{noted_none, gone_none, gone_by}
 use Rattle.cip_calls.proofs.Pools.{more_same}
 use Rattle.cip_calls.proofs.plugins.Plugins.take_point.Goals as goal

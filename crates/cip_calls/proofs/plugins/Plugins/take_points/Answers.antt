@@ -29,3 +29,6 @@ returns-in_err-came-clause-region g c = c.take_point.ensures.region ∙ c.loop-g
 
 pub returns-in_err-came-clause-pool : goal.returns-in_err-came-clause-pool
 returns-in_err-came-clause-pool g c = c.take_point.ensures.pool ∙ c.loop-guess.invariant.pool
+
+pub returns-clause-open_ : goal.returns-clause-open_
+returns-clause-open_ g c = c.came_of.ensures.open_

@@ -1,9 +1,9 @@
 use Rattle.std.proofs.Common.{◌∙◌, sym, subst}
 use Rattle.cip_problem.specs.WellFormed.{columns}
-use Rattle.cip_judge.specs.CoreStates.{reduced_of}
-use Rattle.cip_judge.specs.ProposalsJudged.{HaveRoom}
-use Rattle.cip_judge.specs.declared.scratches.Scratches.{Scratches}
-use Rattle.cip_judge.proofs.Going.{side_goes_on}
+use Rattle.cip_calls.specs.CoreStates.{reduced_of}
+use Rattle.cip_calls.specs.ProposalsJudged.{HaveRoom}
+use Rattle.cip_calls.specs.declared.scratches.Scratches.{Scratches}
+use Rattle.cip_calls.proofs.Going.{side_goes_on}
 use Rattle.cip_calls.proofs.Noting.{noted_none, gone_none, gone_by}
 use Rattle.cip_calls.proofs.Pools.{more_same, side_pool, side_node}
 use Rattle.cip_calls.proofs.plugins.Plugins.take_side.Goals as goal

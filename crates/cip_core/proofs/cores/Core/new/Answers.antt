@@ -6,15 +6,15 @@ use Rattle.cip_core.proofs.cores.Core.new.Goals as goal
 
 pub invariant_of-result : goal.invariant_of-result
 invariant_of-result c = (
-  made_sound c.args.program.now c.args.presolved.now c.in_ok-tree.tree c.new-3.result c.in_ok-incumbent.incumbent
+  made_sound c.args.program.now c.args.presolved.now c.in-Ok-rooted_tree.tree c.new-3.result c.in_ok-incumbent.incumbent
       (c.new-3.ensures ∙ ap no_rows c.columns-columns.ensures.count) c.in_ok-incumbent.ensures c.requires.back,
-  made_fitted c.args.program.now c.args.presolved.now.reduced c.in_ok-incumbent.incumbent c.in-Ok.cutoff c.are_costs_whole.result c.in_ok-scratch.scratch.row.entries
+  made_fitted c.args.program.now c.args.presolved.now.reduced c.in_ok-incumbent.incumbent c.in-Ok.cutoff c.are_costs_whole.result c.in-Ok-new.scratch.row.entries
       c.in_ok-incumbent.ensures (c.in-Ok.ensures ∙ ap plain_row c.costs.ensures.costs) c.are_costs_whole.ensures
-      (c.in_ok-scratch.ensures.row ∙ ap (λ n. replicate n zeroℚ) c.columns-columns.ensures.count),
+      (c.in-Ok-new.ensures.row ∙ ap (λ n. replicate n zeroℚ) c.columns-columns.ensures.count),
 )
 
 pub returns : goal.returns
 returns c =
-    made_begun c.args.program.now c.args.presolved.now c.in_ok-tree.tree c.new-3.result c.in_ok-incumbent.incumbent
+    made_begun c.args.program.now c.args.presolved.now c.in-Ok-rooted_tree.tree c.new-3.result c.in_ok-incumbent.incumbent
     (c.new-3.ensures ∙ ap no_rows c.columns-columns.ensures.count) c.in_ok-incumbent.ensures
-    c.in_ok-tree.ensures.root c.in_ok-tree.ensures.new c.in_ok-tree.ensures.kept c.in_ok-tree.ensures.boxes
+    c.in-Ok-rooted_tree.ensures.root c.in-Ok-rooted_tree.ensures.new c.in-Ok-rooted_tree.ensures.kept c.in-Ok-rooted_tree.ensures.boxes

@@ -1,7 +1,7 @@
 use Rattle.std.proofs.Common.{◌∙◌, sym, ap, arith}
-use Rattle.cip_dictionary.specs.Exchange.{CanExchange, exchanged}
-use Rattle.cip_dictionary.specs.Operations.{first_overflow}
-use Rattle.cip_dictionary.specs.MoveOperations.{exchange_operations}
+use Rattle.cip_bland.specs.Exchange.{CanExchange, exchanged}
+use Rattle.cip_bland.specs.Operations.{first_overflow}
+use Rattle.cip_bland.specs.MoveOperations.{exchange_operations}
 use Rattle.cip_dict.specs.State.{state, HasRoom}
 use Rattle.cip_dict.proofs.After.{taken_over}
 use Rattle.cip_dict.proofs.dict.Dict.exchange.Goals as goal

@@ -1,6 +1,6 @@
 use Rattle.std.proofs.Common.{◌≡◌, ◌∙◌, ◌+◌, ap, ap₂, sym, length, length-append, arith}
-use Rattle.cip_dictionary.specs.FirstState.{first}
-use Rattle.cip_dictionary.proofs.First.{first_states_tell}
+use Rattle.cip_bland.specs.FirstState.{first}
+use Rattle.cip_bland.proofs.First.{first_states_tell}
 use Rattle.cip_dict.specs.State.{state}
 use Rattle.cip_dict.specs.Entries.{system_in}
 use Rattle.cip_dict.proofs.Begun.{standing_long}

@@ -1,7 +1,7 @@
 use Rattle.std.proofs.Common.{◌≡◌, length, get_or, sym, subst}
 use Rattle.std.specs.Prelude.{All}
 use Rattle.std.proofs.lemmas.Option.{slice_get-get_or}
-use Rattle.cip_decomposition.specs.declared.parts.Subproblem.{Subproblem}
+use Rattle.cip_lagrange.specs.declared.parts.Subproblem.{Subproblem}
 use Rattle.cip_lagrange.proofs.Ready.{block_sides}
 use Rattle.cip_lagrange.proofs.scratches.LagrangeScratch.new.Goals as goal
 

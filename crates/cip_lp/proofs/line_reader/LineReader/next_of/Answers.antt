@@ -1,4 +1,4 @@
-use Rattle.cip_lp_tokens.specs.LpLines.{tokens_left}
+use Rattle.cip_lp.specs.LpLines.{tokens_left}
 use Rattle.cip_lp.proofs.LineLaws.{over_ended, next_or_over}
 use Rattle.cip_lp.proofs.line_reader.LineReader.next_of.Goals as goal
 

@@ -1,4 +1,4 @@
-use Rattle.cip_lp_tokens.specs.LpLines.{token_shown}
+use Rattle.cip_lp.specs.LpLines.{token_shown}
 use Rattle.cip_lp.specs.LpStages.{context_of}
 use Rattle.cip_lp.proofs.LineLaws.{token_taken}
 use Rattle.cip_lp.proofs.line_reader.LineReader.take.Goals as goal

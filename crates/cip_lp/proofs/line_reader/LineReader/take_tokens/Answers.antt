@@ -1,5 +1,5 @@
 use Rattle.std.proofs.Common.{sym, ◌∙◌}
-use Rattle.cip_lp_tokens.specs.LpLines.{token_shown, tokens_left}
+use Rattle.cip_lp.specs.LpLines.{token_shown, tokens_left}
 use Rattle.cip_lp.specs.LinesRead.{stage_of}
 use Rattle.cip_lp.proofs.LineLaws.{reader_goes_on, reader_stops}
 use Rattle.cip_lp.proofs.line_reader.LineReader.take_tokens.Goals as goal

@@ -1,6 +1,6 @@
 use Rattle.std.proofs.Common.{◌≡◌, true, false, rules, arith}
 use Rattle.std.specs.Prelude.{is_some}
-use Rattle.cip_lp_tokens.specs.LpLines.{token_shown}
+use Rattle.cip_lp.specs.LpLines.{token_shown}
 use Rattle.cip_lp.proofs.TakenLaws.{settled_fault, each_taken}
 use Rattle.cip_lp.proofs.statements.Statements.take.Goals as goal
 

@@ -7,7 +7,7 @@ use Rattle.cip_problem.specs.Program.{Sides, Row, no_row}
 use Rattle.cip_pricing.specs.MasterForms.{weight_sides}
 use Rattle.cip_problem.specs.BlockMeaning.{part_at}
 use Rattle.cip_pricing.specs.Decomposition.{picked}
-use Rattle.cip_decomposition.specs.Numbers.{found}
+use Rattle.cip_lagrange.specs.Numbers.{found}
 use Rattle.cip_master.specs.BlockSums.{coefficient_in}
 use Rattle.cip_master.specs.WeightTerms.{with_weight, weighted}
 use Rattle.cip_master.specs.KeptMasters.{Wide_cost}

@@ -6,9 +6,9 @@ use Rattle.cip_mps_lines.specs.declared.line.Pair.{Pair}
 use Rattle.cip_mps_rules.specs.MpsRules.{least}
 use Rattle.cip_mps_rules.specs.MpsWords.{number_in}
 use Rattle.cip_mps_rules.proofs.Quiet.{kept as passes, left_false, right_false}
-use Rattle.cip_mps_steps.specs.MpsState.{RowRead, no_row}
-use Rattle.cip_mps_steps.specs.MpsSteps.{changed, overflows_with, with_range}
-use Rattle.cip_mps_steps.specs.MpsLineTests.{range_tests}
+use Rattle.cip_mps_rules.specs.MpsState.{RowRead, no_row}
+use Rattle.cip_mps_rules.specs.MpsSteps.{changed, overflows_with, with_range}
+use Rattle.cip_mps_rules.specs.MpsLineTests.{range_tests}
 use Rattle.cip_mps.specs.DraftStates.{kept}
 use Rattle.cip_mps.proofs.ValueLaws.{second_passes}
 use Rattle.cip_mps.proofs.draft.Draft.put_ranges.Goals as goal

@@ -1,4 +1,4 @@
-use Rattle.cip_number_text.specs.Numeral as numerals
+use Rattle.cip_rational.specs.Numeral as numerals
 use Rattle.cip_mps_lines.proofs.bound_numbers.BoundNumber.none.Goals as goal
 
 pub returns : goal.returns

@@ -1,4 +1,4 @@
-use Rattle.std.proofs.Common.{◌≡◌, ◌+◌, false, true, ◌∙◌, sym, ap, subst, arith, to_z, of_z}
+use Rattle.std.proofs.Common.{◌≡◌, ◌+◌, IfSome, length, false, true, ◌∙◌, sym, ap, subst, arith, to_z, of_z}
 use mir.Syntax.{w128}
 use Rattle.std.proofs.lemmas.Int.{ints}
 use Rattle.cip_problem.specs.Log.{Split, Closed, matters}
@@ -11,10 +11,41 @@ use Rattle.cip_core.specs.Steps.{HasLeft}
 use Rattle.cip_core.proofs.CoreSteps.{work_long}
 use Rattle.cip_node.specs.Bounding.{point_of, IsSplitBy}
 use Rattle.cip_node.specs.NodeEnds.{HasEnded}
+use Rattle.cip_node.specs.SameRows.{rows_of}
 use Rattle.cip_node.specs.declared.ends.NodeEnd.TheVariants as by
 use Rattle.cip_node.proofs.EndLaws.{pruned_ended, halved_ended}
 use Rattle.cip_node.proofs.Ruled.{core_place, place_within}
 use Rattle.cip_node.proofs.works.NodeWork.branch.Goals as goal
+
+pub close_pruned-requires-clause-up : goal.close_pruned-requires-clause-up
+close_pruned-requires-clause-up c = c.requires.up.0
+
+pub close_pruned-requires-clause-passed : goal.close_pruned-requires-clause-passed
+close_pruned-requires-clause-passed c =
+    let core = c.args.self.now.core in
+    sym (c.matters.ensures ∙ ap (λ h. matters h c.bound.result) c.held_cost.ensures ∙ ap (matters (held_of core)) c.bound.ensures) ∙ c.if-not-matters.true
+
+pub returns-then-not-matters-clause-rows : goal.returns-then-not-matters-clause-rows
+returns-then-not-matters-clause-rows c = ap rows_of c.close_pruned.ensures.frame
+
+pub place_by-requires-clause-values : goal.place_by-requires-clause-values
+place_by-requires-clause-values c =
+    subst (λ (r : Region). IfSome (point_of c.args.found.now) (λ values. length values ≡ length r.box)) (sym c.requires.open_.full.region) c.requires.found.long
+
+pub split-requires-clause-at_work : goal.split-requires-clause-at_work
+split-requires-clause-at_work c = record { up = c.requires.up.0; region = c.requires.open_.full.region }
+
+pub split-requires-clause-given : goal.split-requires-clause-given
+split-requires-clause-given c = c.requires.given
+
+pub split-requires-clause-wholes : goal.split-requires-clause-wholes
+split-requires-clause-wholes c = c.requires.open_.full.wholes
+
+pub returns-in_err-low-in-Some-clause-rows : goal.returns-in_err-low-in-Some-clause-rows
+returns-in_err-low-in-Some-clause-rows c = ap rows_of c.split.ensures.frame
+
+pub returns-clause-rows : goal.returns-clause-rows
+returns-clause-rows c = ap rows_of c.in_ok-low-in-Some.ensures.frame
 
 pub split-requires-clause-place : goal.split-requires-clause-place
 split-requires-clause-place c =

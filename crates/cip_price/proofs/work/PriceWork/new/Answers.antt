@@ -5,9 +5,9 @@ use Rattle.cip_price.proofs.work.PriceWork.new.Goals as goal
 
 pub returns-clause-ready : goal.returns-clause-ready
 returns-clause-ready c = record {
-  master = c.in_ok-master.ensures;
+  master = c.in-Ok-master_of.ensures;
   row =
-      ap length c.in_ok-scratch.ensures.row ∙ length-replicate c.columns-columns.result zeroℚ
+      ap length c.in-Ok.ensures.row ∙ length-replicate c.columns-columns.result zeroℚ
       ∙ c.columns-columns.ensures.count;
-  fits = c.in_ok-lagrange.ensures;
+  fits = c.in-Ok-new.ensures;
 }

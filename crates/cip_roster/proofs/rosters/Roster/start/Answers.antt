@@ -1,4 +1,4 @@
-use Rattle.std.proofs.Common.{◌∙◌, arith}
+use Rattle.std.proofs.Common.{◌∙◌, arith, refl}
 use Rattle.cip_roster.proofs.Beginning.{begun_kept, same_most, same_room, shelf_kept, shelf_places}
 use Rattle.cip_roster.proofs.rosters.Roster.start.Goals as goal
 
@@ -45,3 +45,48 @@ returns-clause-moved g c = (c.admit.ensures.none, c.shelve.ensures.none)
 
 pub returns-clause-spent : goal.returns-clause-spent
 returns-clause-spent g c = c.reserve.ensures.items
+
+pub returns-in_default-clause-begun : goal.returns-in_default-clause-begun
+returns-in_default-clause-begun g c = tt
+
+pub returns-in_default-clause-sound : goal.returns-in_default-clause-sound
+returns-in_default-clause-sound g c = tt
+
+pub returns-in_default-clause-room : goal.returns-in_default-clause-room
+returns-in_default-clause-room g c = tt
+
+pub returns-in_default-clause-plugins : goal.returns-in_default-clause-plugins
+returns-in_default-clause-plugins g c = tt
+
+pub returns-in_default-clause-moved : goal.returns-in_default-clause-moved
+returns-in_default-clause-moved g c = tt
+
+pub returns-in_default-clause-spent : goal.returns-in_default-clause-spent
+returns-in_default-clause-spent g c = c.reserve.ensures.items
+
+pub returns-in_default-clause-err : goal.returns-in_default-clause-err
+returns-in_default-clause-err g c = (refl, refl)
+
+pub returns-in_default-empty-clause-begun : goal.returns-in_default-empty-clause-begun
+returns-in_default-empty-clause-begun g c = tt
+
+pub returns-in_default-empty-clause-sound : goal.returns-in_default-empty-clause-sound
+returns-in_default-empty-clause-sound g c = tt
+
+pub returns-in_default-empty-clause-room : goal.returns-in_default-empty-clause-room
+returns-in_default-empty-clause-room g c = tt
+
+pub returns-in_default-empty-clause-plugins : goal.returns-in_default-empty-clause-plugins
+returns-in_default-empty-clause-plugins g c = tt
+
+pub returns-in_default-empty-clause-moved : goal.returns-in_default-empty-clause-moved
+returns-in_default-empty-clause-moved g c = tt
+
+pub returns-in_default-empty-clause-spent : goal.returns-in_default-empty-clause-spent
+returns-in_default-empty-clause-spent g c = c.reserve.ensures.items
+
+pub returns-in_default-empty-clause-err : goal.returns-in_default-empty-clause-err
+returns-in_default-empty-clause-err g c = (refl, refl)
+
+pub returns-clause-err : goal.returns-clause-err
+returns-clause-err g c = tt

@@ -3,9 +3,9 @@ use Rattle.cip_events.specs.declared.words.Word.{Word}
 use Rattle.cip_plugin.specs.Calls.{Asked}
 use Rattle.cip_plugin.specs.Answers.{answer}
 use Rattle.cip_plugin.specs.Asking.{answer_of, ask_of, asks}
-use Rattle.cip_seats.specs.Seats.{Seat, is_on}
-use Rattle.cip_seats.specs.Steps.{IsCalled, line}
-use Rattle.cip_seats.proofs.Joining.{called_once}
+use Rattle.cip_plugin.specs.Seats.{Seat, is_on}
+use Rattle.cip_plugin.specs.Steps.{IsCalled, line}
+use Rattle.cip_plugin.proofs.Joining.{called_once}
 use Rattle.cip_roster.proofs.Sitting.{sat_there, seat_there, seat_within}
 use Rattle.cip_roster.proofs.single.RosterSteps.ask.Goals as goal
 

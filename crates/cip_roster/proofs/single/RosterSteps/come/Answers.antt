@@ -1,6 +1,22 @@
-use Rattle.std.proofs.Common.{refl}
-use Rattle.cip_roster.proofs.Coming.{came_fresh, came_shown}
+use Rattle.std.proofs.Common.{◌∙◌, ap, refl}
+use Rattle.cip_roster.specs.KeptRankings.{Room}
+use Rattle.cip_roster.proofs.Coming.{came_fresh, came_shown, place_holds, place_within}
 use Rattle.cip_roster.proofs.single.RosterSteps.come.Goals as goal
+
+pub index_mut-requires : goal.index_mut-requires
+index_mut-requires g c =
+    place_within _ c.args.self.now.shelf.items c.args.place _ c.args.self.now.shelf.ok.0 c.requires.held
+
+pub unreachable-requires : goal.unreachable-requires
+unreachable-requires g c =
+    place_holds _ c.args.self.now.shelf.items c.args.place c.index_mut.result.now c.replace.result c.requires.held
+    c.index_mut.ensures.value c.replace.ensures.value c.in-None.is
+
+pub take_seat-requires-clause-slots : goal.take_seat-requires-clause-slots
+take_seat-requires-clause-slots g c = c.requires.seat.0
+
+pub take_seat-requires-clause-names : goal.take_seat-requires-clause-names
+take_seat-requires-clause-names g c = c.requires.seat.1
 
 pub returns-clause-run : goal.returns-clause-run
 returns-clause-run g c =
@@ -13,3 +29,9 @@ returns-clause-run g c =
 pub returns-clause-at : goal.returns-clause-at
 returns-clause-at g c =
     came_fresh _ _ _ c.take_seat.ensures.seats.0 c.take_seat.ensures.seats.1 c.take_seat.ensures.seats.2
+
+pub returns-clause-room : goal.returns-clause-room
+returns-clause-room g c = ap (λ (room : Room). room.lines) c.take_seat.ensures.room
+
+pub returns-clause-rankings : goal.returns-clause-rankings
+returns-clause-rankings g c = ap (λ (room : Room). room.rankings) c.take_seat.ensures.room ∙ c.clear.ensures

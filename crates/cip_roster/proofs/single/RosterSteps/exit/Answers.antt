@@ -1,7 +1,7 @@
 use Rattle.cip_plugin.specs.Calls.{Exit}
-use Rattle.cip_seats.specs.declared.stages.Stage.TheVariants as stages
-use Rattle.cip_seats.specs.Steps.{IsCalled}
-use Rattle.cip_seats.proofs.Joining.{called_once}
+use Rattle.cip_plugin.specs.declared.stages.Stage.TheVariants as stages
+use Rattle.cip_plugin.specs.Steps.{IsCalled}
+use Rattle.cip_plugin.proofs.Joining.{called_once}
 use Rattle.cip_roster.proofs.Sitting.{sat_there, seat_within, stage_there, stands_there}
 use Rattle.cip_roster.proofs.single.RosterSteps.exit.Goals as goal
 

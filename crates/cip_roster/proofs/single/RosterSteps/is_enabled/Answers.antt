@@ -1,4 +1,4 @@
-use Rattle.cip_seats.specs.Wishing.{is_enabled}
+use Rattle.cip_plugin.specs.Wishing.{is_enabled}
 use Rattle.cip_roster.proofs.Sitting.{said_past, said_there}
 use Rattle.cip_roster.proofs.single.RosterSteps.is_enabled.Goals as goal
 

@@ -1,5 +1,5 @@
 use Rattle.std.proofs.Common.{◌∙◌}
-use Rattle.cip_seats.specs.Delivering.{hears_there}
+use Rattle.cip_plugin.specs.Delivering.{hears_there}
 use Rattle.cip_roster.proofs.Sitting.{said_past, said_there}
 use Rattle.cip_roster.proofs.single.RosterSteps.is_to_hear.Goals as goal
 

@@ -1,6 +1,6 @@
 use Rattle.std.proofs.Common.{Some, ap, ◌∙◌}
 use Rattle.std.specs.Prelude.{option_map}
-use Rattle.cip_seats.specs.Calling.{is_ready}
+use Rattle.cip_plugin.specs.Calling.{is_ready}
 use Rattle.cip_roster.proofs.Sitting.{said_past, said_there}
 use Rattle.cip_roster.proofs.single.RosterSteps.readiness.Goals as goal
 

@@ -1,8 +1,8 @@
 use Rattle.std.proofs.Common.{◌≡◌, refl}
 use Rattle.std.proofs.Math.Facts.{to_z-of_z}
-use Rattle.cip_seats.specs.declared.stages.Stage.TheVariants as stages
-use Rattle.cip_seats.specs.Seats.{Seat}
-use Rattle.cip_seats.proofs.Joining.{ranked_once}
+use Rattle.cip_plugin.specs.declared.stages.Stage.TheVariants as stages
+use Rattle.cip_plugin.specs.Seats.{Seat}
+use Rattle.cip_plugin.proofs.Joining.{ranked_once}
 use Rattle.cip_roster.proofs.Sitting.{sat_there, seat_within, stage_there, stands_there}
 use Rattle.cip_roster.proofs.single.RosterSteps.set_priority.Goals as goal
 

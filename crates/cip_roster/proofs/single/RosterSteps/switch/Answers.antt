@@ -1,8 +1,8 @@
 use Rattle.std.proofs.Common.{◌∙◌, [], ◌∷◌, ◌++◌, cond, ap}
 use Rattle.cip_events.specs.declared.words.Word.{Word}
-use Rattle.cip_seats.specs.declared.stages.Stage.TheVariants as stages
-use Rattle.cip_seats.specs.Steps.{IsTurned, line}
-use Rattle.cip_seats.proofs.Joining.{turned_once}
+use Rattle.cip_plugin.specs.declared.stages.Stage.TheVariants as stages
+use Rattle.cip_plugin.specs.Steps.{IsTurned, line}
+use Rattle.cip_plugin.proofs.Joining.{turned_once}
 use Rattle.cip_roster.proofs.Sitting.{on_there, sat_there, seat_within, stage_there, stands_there}
 use Rattle.cip_roster.proofs.single.RosterSteps.switch.Goals as goal
 

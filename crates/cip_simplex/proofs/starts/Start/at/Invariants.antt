@@ -1,6 +1,6 @@
 use Rattle.std.proofs.Common.{◌≡◌}
-use Rattle.cip_dictionary.specs.Tables.{table}
-use Rattle.cip_dictionary.specs.Dictionary as def
+use Rattle.cip_bland.specs.Tables.{table}
+use Rattle.cip_bland.specs.Dictionary as def
 use Rattle.cip_simplex.proofs.starts.Start.at.Given as goal
 
 abbrev pub invariant-loop-v : goal.invariant-loop-v

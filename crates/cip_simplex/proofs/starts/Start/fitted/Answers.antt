@@ -1,5 +1,5 @@
 use Rattle.std.proofs.Common.{◌≡◌, arith, length, ◌∙◌, ◌++◌, ◌∷◌, [], sym, ap, ap₂}
-use Rattle.cip_dictionary.proofs.Tables.{length-table}
+use Rattle.cip_bland.proofs.Tables.{length-table}
 use Rattle.cip_dict.proofs.Grown.{table_none, table_more}
 use Rattle.cip_simplex.specs.Starts.{wish}
 use Rattle.cip_simplex.proofs.starts.Start.fitted.Goals as goal

@@ -1,5 +1,5 @@
 use Rattle.std.proofs.Common.{◌≡◌}
-use Rattle.cip_dictionary.specs.Tables.{table}
+use Rattle.cip_bland.specs.Tables.{table}
 use Rattle.cip_simplex.specs.Starts.{wish}
 use Rattle.cip_simplex.proofs.starts.Start.fitted.Given as goal
 

@@ -1,6 +1,6 @@
 use Rattle.std.proofs.Common.{length, ◌∙◌, ap, ap₂}
-use Rattle.cip_dictionary.specs.Tables.{table}
-use Rattle.cip_dictionary.proofs.Tables.{length-table}
+use Rattle.cip_bland.specs.Tables.{table}
+use Rattle.cip_bland.proofs.Tables.{length-table}
 use Rattle.cip_dict.specs.FirstLists.{stand_in}
 use Rattle.cip_simplex.proofs.Solved.{slack_is}
 use Rattle.cip_simplex.proofs.starts.Start.slack.Goals as goal

@@ -1,4 +1,4 @@
-use Rattle.std.proofs.Common.{◌≡◌, ◌+◌, ◌∙◌, ◌++◌, [], MatchOption, add-zero, ap, sym, subst, arith, length}
+use Rattle.std.proofs.Common.{◌≡◌, ◌+◌, ◌≤◌, ◌∙◌, ◌++◌, [], MatchOption, refl, add-zero, ap, sym, subst, arith, length}
 use Rattle.cip_endings.specs.LeastBounds.{least_of, bound_held, flat}
 use Rattle.cip_endings.specs.Worst.{worst_bound}
 use Rattle.cip_tree.specs.Moves.{IsLeastBound}
@@ -9,8 +9,11 @@ use Rattle.cip_processing.specs.NodeWork.{NodeWork}
 use Rattle.cip_solve.specs.Logs.{marks_by}
 use Rattle.cip_solve.specs.FirstStops.{IsLongerLog}
 use Rattle.cip_solve.specs.Searching.{IsSameSearch, IsWritten}
+use Rattle.cip_solve.specs.Stops.{StopsAt}
+use Rattle.cip_solve.specs.declared.turns.Stop.TheVariants.{Still}
 use Rattle.cip_solve.proofs.FirstLaws.{same_log_longer}
-use Rattle.cip_solve.proofs.TurnLaws.{longer_log, some_there, none_there, nothing_open, refused_before, same_search, written_still, no_longer, longer_by, same_log, refused_turn, turned_by, written_turn}
+use Rattle.cip_solve.proofs.SameSearches.{same_itself}
+use Rattle.cip_solve.proofs.TurnLaws.{longer_itself, longer_log, some_there, none_there, nothing_open, refused_before, same_search, written_still, no_longer, longer_by, same_log, refused_turn, turned_by, written_turn}
 use Rattle.cip_solve.specs.SplitsServed.{splits_in, splits_by, HasServed}
 use Rattle.cip_solve.proofs.Serving.{served_further, splits_more}
 use Rattle.cip_solve.proofs.turns.Search.turn.Goals as goal
@@ -34,6 +37,73 @@ returns-then-is_err-clause-turned g c = λ nodes asked.
 
 pub take-requires : goal.take-requires
 take-requires g c = record { kept = c.requires.standing.still.kept; matter = c.requires.standing.still.matter; boxes = c.requires.standing.boxes }
+
+pub returns-then-is_none-clause-same : goal.returns-then-is_none-clause-same
+returns-then-is_none-clause-same g c = (same_itself c.args.self.now.work.core, λ a. refl)
+
+pub returns-then-is_none-clause-longer : goal.returns-then-is_none-clause-longer
+returns-then-is_none-clause-longer g c = longer_itself c.args.self.now.work.core.tree.log
+
+pub returns-then-is_none-clause-grown : goal.returns-then-is_none-clause-grown
+returns-then-is_none-clause-grown g c = λ entries few. refl
+
+pub returns-then-is_none-clause-written : goal.returns-then-is_none-clause-written
+returns-then-is_none-clause-written g c = c.requires.written
+
+pub returns-then-is_err-clause-same : goal.returns-then-is_err-clause-same
+returns-then-is_err-clause-same g c = (same_itself c.args.self.now.work.core, λ a. refl)
+
+pub returns-then-is_err-clause-longer : goal.returns-then-is_err-clause-longer
+returns-then-is_err-clause-longer g c = longer_itself c.args.self.now.work.core.tree.log
+
+pub returns-then-is_err-clause-grown : goal.returns-then-is_err-clause-grown
+returns-then-is_err-clause-grown g c = λ entries few. refl
+
+pub returns-then-is_err-clause-written : goal.returns-then-is_err-clause-written
+returns-then-is_err-clause-written g c = subst (IsWritten c.args.self.now.work.core) (sym c.reserve.ensures.items) c.requires.written
+
+-- ---- no node is there
+
+pub returns-in_default-clause-same : goal.returns-in_default-clause-same
+returns-in_default-clause-same g c =
+    let core = c.args.self.now.work.core in (
+      subst (IsSameSearch core) (sym c.in_default.ensures.first.1) (same_itself core),
+      λ a. ap (λ (k : CoreState). k.touched) c.in_default.ensures.first.1,
+    )
+
+pub returns-in_default-clause-longer : goal.returns-in_default-clause-longer
+returns-in_default-clause-longer g c =
+    let log = c.args.self.now.work.core.tree.log in
+    subst (λ (k : CoreState). length k.tree.log ≤ length log + 1) (sym c.in_default.ensures.first.1) (longer_itself log)
+
+pub returns-in_default-clause-grown : goal.returns-in_default-clause-grown
+returns-in_default-clause-grown g c =
+    let log = c.args.self.now.work.core.tree.log in
+    subst (λ (k : CoreState). IsLongerLog log k.tree.log) (sym c.in_default.ensures.first.1) (λ entries few. refl)
+
+pub returns-in_default-clause-written : goal.returns-in_default-clause-written
+returns-in_default-clause-written g c =
+    subst (IsWritten c.take.new.self) (sym c.reserve.ensures.items)
+    (subst (λ (k : CoreState). IsWritten k c.args.self.now.marks.items) (sym c.in_default.ensures.first.1) c.requires.written)
+
+pub returns-in_default-clause-turned : goal.returns-in_default-clause-turned
+returns-in_default-clause-turned g c = λ nodes asked.
+    let core = c.args.self.now.work.core in
+    subst (λ (k : CoreState). StopsAt k nodes asked c.args.self.now.worst Still) (sym c.in_default.ensures.first.1)
+    (nothing_open core.program (reduced_of core) (way_of core) core.tree.root.bound nodes asked core.tree core.incumbent c.args.self.now.worst c.in_default.ensures.first.0 c.requires.standing.still)
+
+pub returns-in_default-clause-asked : goal.returns-in_default-clause-asked
+returns-in_default-clause-asked g c =
+    let works = c.args.works.now in (
+      subst (λ (k : CoreState). g.W.Works.is_ready works (columns (reduced_of k))) (sym c.in_default.ensures.first.1) c.requires.ready,
+      λ first s. subst (λ (k : CoreState). HasServed (splits_in k.tree.log) first (g.W.Works.state works)) (sym c.in_default.ensures.first.1) s,
+    )
+
+-- ---- a node is worked on
+
+pub work_on-ended-requires-clause-ready : goal.work_on-ended-requires-clause-ready
+work_on-ended-requires-clause-ready g c =
+    subst (λ (k : CoreState). g.W.Works.is_ready c.args.works.now (columns (reduced_of k))) (sym c.take.ensures.frame) c.requires.ready
 
 -- ---- memory is refused
 

@@ -1,0 +1,16 @@
+use Rattle.std.proofs.Common.{◌≡◌, sym, ap, ◌∙◌}
+use Rattle.cip_tree.specs.Nodes.{Nodes}
+use Rattle.cip_core.specs.CoreStates.{held_of}
+use Rattle.cip_core.proofs.CoreSteps.{trimmed_is}
+use Rattle.cip_core.proofs.Relations.{later_at_itself}
+use Rattle.cip_calls.proofs.guesses.hold.Goals as goal
+
+pub returns-then-not-is_cheaper-clause-later : goal.returns-then-not-is_cheaper-clause-later
+returns-then-not-is_cheaper-clause-later c = later_at_itself c.args.core.now c.args.node.now c.requires.at_work
+
+pub returns-clause-region : goal.returns-clause-region
+returns-clause-region c =
+    let old = c.args.core.now in
+    let new = c.offer_at-taken.new.self in
+    let work : new.tree.work ≡ old.tree.work = ap (λ (n : Nodes). n.work) (trimmed_is old.tree new.tree (held_of new) c.offer_at-taken.ensures.offered.trimmed) in
+    sym c.offer_at-taken.ensures.later.at_work.region ∙ work ∙ c.requires.at_work.region

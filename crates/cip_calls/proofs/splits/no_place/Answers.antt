@@ -1,0 +1,76 @@
+use Rattle.std.proofs.Common.{◌≡◌, inl, inr, true, false, Some, sym, ap, ◌∙◌, subst, to_z, of_z}
+use Rattle.std.specs.Int.{w128}
+use Rattle.cip_problem.specs.Program.{Program}
+use Rattle.cip_problem.specs.Choices.{choice_at, is_open}
+use Rattle.cip_problem.specs.Box.{sides_at}
+use Rattle.cip_problem.specs.WellFormed.{IsWellFormed}
+use Rattle.cip_problem.specs.Log.{CanSplitAt}
+use Rattle.cip_domain.specs.Halves.{CanHalve}
+use Rattle.cip_core.specs.CoreStates.{reduced_of}
+use Rattle.cip_calls.proofs.SplitParts.{near_itself, kind_of, plain_from, whole_not_splittable, continuous_not_splittable, both_left}
+use Rattle.cip_calls.proofs.splits.no_place.Goals as goal
+
+pub returns-then-not-is_plain : goal.returns-then-not-is_plain
+returns-then-not-is_plain c =
+    let core = c.args.core.now in
+    let col = c.args.split.col in
+    let choice : c.at-choice.result ≡ choice_at core.tree.work.choices col = c.at-choice.ensures ∙ ap (λ cs. choice_at cs col) c.choices.ensures in
+    let kinds : c.whole.result.now ≡ (reduced_of core).integral = c.whole.ensures.whole ∙ ap (λ (p : Program). p.integral) c.reduced.ensures in
+    let kind = kind_of (reduced_of core) c.whole.result.now col true kinds (subst IsWellFormed c.reduced.ensures c.whole.ensures.formed) c.requires.named.inside c.if-whole.true in
+    subst (λ x. ¬ CanSplitAt (choice_at core.tree.work.choices col) x) (sym kind)
+    (subst (λ x. ¬ CanSplitAt x (Some true)) choice (whole_not_splittable c.at-choice.result (sym c.is_plain.ensures ∙ c.if-not-is_plain.true)))
+
+pub returns-then-can_halve : goal.returns-then-can_halve
+returns-then-can_halve c =
+    let core = c.args.core.now in
+    let col = c.args.split.col in
+    let choice : c.at-choice.result ≡ choice_at core.tree.work.choices col = c.at-choice.ensures ∙ ap (λ cs. choice_at cs col) c.choices.ensures in
+    let kinds : c.whole.result.now ≡ (reduced_of core).integral = c.whole.ensures.whole ∙ ap (λ (p : Program). p.integral) c.reduced.ensures in
+    let at : to_z w128 (of_z w128 c.args.split.at) ≡ c.args.split.at = near_itself c.args.split.at c.requires.named.near in
+    let sides : c.sides.result ≡ sides_at core.tree.work.box col = c.sides.ensures ∙ ap (λ b. sides_at b col) c.bounds.ensures in
+    record {
+      named = c.requires.named;
+      place = inl (record {
+        whole = kind_of (reduced_of core) c.whole.result.now col true kinds (subst IsWellFormed c.reduced.ensures c.whole.ensures.formed) c.requires.named.inside c.if-whole.true;
+        plain = sym choice ∙ plain_from c.at-choice.result (sym c.is_plain.ensures ∙ c.if-not-is_plain.false);
+        both = both_left (sides_at core.tree.work.box col) core.tree.ids c.args.split.at c.requires.named.near
+            (subst (λ s. CanHalve s c.args.split.at) sides (subst (CanHalve c.sides.result) at (c.can_halve.ensures.0 c.if-can_halve.true)));
+      });
+    }
+
+pub returns-then-whole : goal.returns-then-whole
+returns-then-whole c =
+    let core = c.args.core.now in
+    let col = c.args.split.col in
+    let choice : c.at-choice.result ≡ choice_at core.tree.work.choices col = c.at-choice.ensures ∙ ap (λ cs. choice_at cs col) c.choices.ensures in
+    let kinds : c.whole.result.now ≡ (reduced_of core).integral = c.whole.ensures.whole ∙ ap (λ (p : Program). p.integral) c.reduced.ensures in
+    let at : to_z w128 (of_z w128 c.args.split.at) ≡ c.args.split.at = near_itself c.args.split.at c.requires.named.near in
+    let sides : c.sides.result ≡ sides_at core.tree.work.box col = c.sides.ensures ∙ ap (λ b. sides_at b col) c.bounds.ensures in (
+      sym choice ∙ plain_from c.at-choice.result (sym c.is_plain.ensures ∙ c.if-not-is_plain.false),
+      kind_of (reduced_of core) c.whole.result.now col true kinds (subst IsWellFormed c.reduced.ensures c.whole.ensures.formed) c.requires.named.inside c.if-whole.true,
+      λ h. absurd (let g : false ≡ true = sym c.if-can_halve.false ∙ c.can_halve.ensures.1 (subst (CanHalve c.sides.result) (sym at) (subst (λ s. CanHalve s c.args.split.at) (sym sides) h)) in cc),
+    )
+
+pub returns-then-is_open : goal.returns-then-is_open
+returns-then-is_open c =
+    let core = c.args.core.now in
+    let col = c.args.split.col in
+    let choice : c.at-choice.result ≡ choice_at core.tree.work.choices col = c.at-choice.ensures ∙ ap (λ cs. choice_at cs col) c.choices.ensures in
+    let kinds : c.whole.result.now ≡ (reduced_of core).integral = c.whole.ensures.whole ∙ ap (λ (p : Program). p.integral) c.reduced.ensures in
+    record {
+      named = c.requires.named;
+      place = inr (record {
+        continuous = kind_of (reduced_of core) c.whole.result.now col false kinds (subst IsWellFormed c.reduced.ensures c.whole.ensures.formed) c.requires.named.inside c.if-whole.false;
+        open_ = ap is_open (sym choice) ∙ sym c.is_open.ensures ∙ c.if-is_open.true;
+      });
+    }
+
+pub returns-else-is_open : goal.returns-else-is_open
+returns-else-is_open c =
+    let core = c.args.core.now in
+    let col = c.args.split.col in
+    let choice : c.at-choice.result ≡ choice_at core.tree.work.choices col = c.at-choice.ensures ∙ ap (λ cs. choice_at cs col) c.choices.ensures in
+    let kinds : c.whole.result.now ≡ (reduced_of core).integral = c.whole.ensures.whole ∙ ap (λ (p : Program). p.integral) c.reduced.ensures in
+    let kind = kind_of (reduced_of core) c.whole.result.now col false kinds (subst IsWellFormed c.reduced.ensures c.whole.ensures.formed) c.requires.named.inside c.if-whole.false in
+    subst (λ x. ¬ CanSplitAt (choice_at core.tree.work.choices col) x) (sym kind)
+    (subst (λ x. ¬ CanSplitAt x (Some false)) choice (continuous_not_splittable c.at-choice.result (sym c.is_open.ensures ∙ c.if-is_open.false)))

@@ -1,6 +1,0 @@
-use Rattle.cip_compaction.proofs.Leftovers.{skipped}
-use Rattle.cip_compaction.proofs.left_lists.whole_left.Goals as goal
-
-pub loop-at-preserved-then-gone-at : goal.loop-at-preserved-then-gone-at
-loop-at-preserved-then-gone-at c =
-    skipped c.loop-at.at c.args.gone.now c.args.whole.now c.loop-at.left.items _ c.if-gone-at.true c.loop-at.invariant

@@ -1,7 +1,0 @@
-use Rattle.std.proofs.Common.{◌≡◌, drop}
-use Rattle.cip_decomposition.specs.Owners.{marked}
-use Rattle.cip_decomposition.proofs.owners.mark.Given as goal
-
-abbrev pub invariant-loop-number : goal.invariant-loop-number
-invariant-loop-number l =
-    marked (drop l.number-index l.numbers) l.block l.owners ≡ marked l.numbers l.block l.fn.owners

@@ -1,6 +1,0 @@
-use Rattle.std.proofs.Common.{◌≡◌, take}
-use Rattle.cip_decomposition.specs.Numbers.{found}
-use Rattle.cip_decomposition.proofs.picking.choices_at.Given as goal
-
-abbrev pub invariant-loop-number : goal.invariant-loop-number
-invariant-loop-number l = l.kept ≡ found l.choices (take l.number-index l.numbers)

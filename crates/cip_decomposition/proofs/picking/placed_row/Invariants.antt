@@ -1,7 +1,0 @@
-use Rattle.std.proofs.Common.{◌≡◌, take}
-use Rattle.cip_decomposition.specs.Places.{placed_row}
-use Rattle.cip_decomposition.proofs.picking.placed_row.Given as goal
-
-abbrev pub invariant-loop-term : goal.invariant-loop-term
-invariant-loop-term l =
-    l.placed ≡ placed_row l.places (record { terms = take l.term-index l.terms; low = l.row.low; high = l.row.high })

@@ -1,5 +1,0 @@
-use Rattle.cip_decomposition.proofs.Placing.{ArePlacesTo}
-use Rattle.cip_decomposition.proofs.places.places_of.Given as goal
-
-abbrev pub invariant-loop-owner : goal.invariant-loop-owner
-invariant-loop-owner l = ArePlacesTo l.count l.owners l.owner-index l.counts.items l.places.items

@@ -1,5 +1,0 @@
-pub mod DrawLaws
-pub mod EntryLaws
-pub mod FeasibleOnes
-pub mod FormedPrograms
-pub mod LeafCounts

@@ -1,0 +1,35 @@
+use Rattle.std.proofs.Common.{◌≡◌, ◌∷◌, ◌++◌, ◌∙◌, [], ap, arith, length-append, length}
+use Rattle.std.specs.Prelude.{fold}
+use Rattle.std.proofs.lemmas.Result.{on_ok_weaker}
+use Rattle.cip_line_texts.specs.LineStream.{byte_read}
+use Rattle.cip_text.proofs.Streams.{cut_read, rest_kept}
+use Rattle.cip_point_rules.specs.PointSteps.{point_steps}
+use Rattle.cip_input.specs.PointTexts.{steps_of, kept_of, values_of}
+use Rattle.cip_input.proofs.point_text.PointText.take_bytes.Goals as goal
+
+pub loop-tail-preserved : goal.loop-tail-preserved
+loop-tail-preserved c =
+    let tail = c.in-Some.tail.now in
+    let behind = c.in-Some.behind.now in
+    let cut : c.loop-tail.rest.now ≡ tail ++ 10 ∷ behind = c.in-Some.ensures.0 in
+    let long : length c.loop-tail.rest.now ≡ length (tail ++ 10 ∷ behind) = ap length cut in
+    record {
+      reads = λ s h.
+          let found = c.loop-tail.invariant.reads s h in
+          let same : steps_of c.loop-tail.self ≡ steps_of c.args.self.now = ap point_steps c.loop-tail.invariant.same in (
+            fold (byte_read (steps_of c.args.self.now)) found.0 (tail ++ 10 ∷ []),
+            (
+              rw same at (c.in_ok-end_line.ensures.reads found.0 found.1.0),
+              cut_read (steps_of c.args.self.now) s found.0 c.args.bytes.now c.loop-tail.rest.now tail behind found.1.1 cut,
+            ),
+          );
+      few = omega (arith, c.in_ok-end_line.ensures.size, long, length-append tail (10 ∷ behind), c.loop-tail.invariant.few);
+      same = c.in_ok-end_line.ensures.same ∙ c.loop-tail.invariant.same;
+    }
+
+pub returns-clause-reads : goal.returns-clause-reads
+returns-clause-reads c = λ s h.
+    let text = c.loop-tail.self in
+    let now = c.args.self.now in
+    let found = c.loop-tail.invariant.reads s h in
+    on_ok_weaker c.keep.result (λ e. rest_kept (steps_of now) (kept_of text) _ (values_of text) s found.0 c.args.bytes.now c.loop-tail.rest.now c.in_default.ensures found.1.0 found.1.1 e) c.keep.ensures.kept

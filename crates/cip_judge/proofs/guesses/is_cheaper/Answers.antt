@@ -1,9 +1,0 @@
-use Rattle.std.proofs.Common.{◌∙◌, sym, ap}
-use Rattle.std.specs.Prelude.{Option}
-use Rattle.cip_rational.specs.Rational.{ℚ}
-use Rattle.cip_rational.proofs.Comparisons.{is_lt-compare}
-use Rattle.cip_judge.specs.GuessesJudged.{costs_less}
-use Rattle.cip_judge.proofs.guesses.is_cheaper.Goals as goal
-
-pub returns-in-Some : goal.returns-in-Some
-returns-in-Some c = c.lt.ensures ∙ is_lt-compare _ _ ∙ ap (λ (h : Option ℚ). costs_less c.args.cost h) (sym c.in-Some.is)

@@ -1,9 +1,0 @@
-use Rattle.std.proofs.Common.{sym, subst}
-use Rattle.cip_judge.specs.RowsJudged.{IsRowJudged}
-use Rattle.cip_judge.proofs.RowsTold.{row_judged}
-use Rattle.cip_judge.proofs.rows.judge_row.Goals as goal
-
-pub returns-in-Ok-Told-clause-judged : goal.returns-in-Ok-Told-clause-judged
-returns-in-Ok-Told-clause-judged c =
-    subst (IsRowJudged c.args.core.now c.add_row.new.self c.args.combo.now c.args.round c.args.local) (sym c.judged_row.ensures)
-    (row_judged c.args.core.now c.add_row.new.self c.args.combo.now c.args.round c.args.local c.in-Ok-Told.added (rw c.in-Ok-Told.field-0-is at c.in-Ok-Told.ensures.asked))

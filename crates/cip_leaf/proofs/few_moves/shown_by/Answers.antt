@@ -1,0 +1,13 @@
+use Rattle.cip_linear.specs.LinearProgram.{HasNoPoint}
+use Rattle.cip_simplex.specs.Reached.{Holds}
+use Rattle.cip_simplex.specs.declared.answers.LpAnswer.TheVariants.{Infeasible}
+use Rattle.cip_leaves.specs.LeafProgram.{at_continuous, program_of_leaf}
+use Rattle.cip_leaves.proofs.Merged.{point_on}
+use Rattle.cip_leaf.proofs.few_moves.shown_by.Goals as goal
+
+pub returns-in-Infeasible : goal.returns-in-Infeasible
+returns-in-Infeasible c point k =
+    let linear = program_of_leaf c.args.program.now c.args.leaf.now in
+    let e : Holds linear (Infeasible c.in-Infeasible.combo) = rw c.in-Infeasible.is at c.requires.found in
+    let none : HasNoPoint linear = e.right.no_point in
+    none (at_continuous c.args.program.now.integral point) (point_on c.args.program.now c.args.leaf.now point c.requires.formed k).is_point

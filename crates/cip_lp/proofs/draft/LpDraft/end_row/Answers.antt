@@ -1,0 +1,17 @@
+use Rattle.std.proofs.Common.{ℕ, List, Option, Vec, Global, sym, ap}
+use Rattle.std.specs.Prelude.{option_map}
+use Rattle.cip_lp.specs.LpDrafts.{facts_in}
+use Rattle.cip_lp.proofs.KeptLaws.{row_ended}
+use Rattle.cip_lp.proofs.draft.LpDraft.end_row.Goals as goal
+
+abbrev items_of : Option (Vec ℕ Global) → Option (List ℕ)
+items_of name = option_map (λ (n : Vec ℕ Global). n.items) name
+
+pub invariant_of-self-2 : goal.invariant_of-self-2
+invariant_of-self-2 c =
+    row_ended c.put_row.result (facts_in c.self.inside) c.in-Some.name.items c.args.low c.args.high c.in-Ok.row c.put_row.new.names c.put_row.new.rows.items (items_of c.take.new.self) c.take_row.new.self c.self.invariant
+    (ap items_of (sym c.in-Some.ensures.value))
+    c.in-Ok.ensures.row
+    c.put_row.ensures.ok
+    c.put_row.ensures.err
+    (ap items_of c.in-Some.ensures.after) c.in-Ok.ensures.left

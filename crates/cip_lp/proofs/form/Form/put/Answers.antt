@@ -1,0 +1,16 @@
+use Rattle.std.proofs.Common.{◌≡◌, ℕ, ◌<◌, List, [], ◌∷◌, ◌++◌, length, set, ap, ◌∙◌, sym, arith}
+use Rattle.cip_lp_rules.specs.LpFacts.{FormTerm}
+use Rattle.cip_lp.specs.LpForms.{term_shown}
+use Rattle.cip_lp.proofs.FormPlaces.{placed_more}
+use Rattle.cip_lp.proofs.form.Form.put.Goals as goal
+
+pub invariant_of-self-2 : goal.invariant_of-self-2
+invariant_of-self-2 c =
+    let terms = c.self.inside.terms.items in
+    let room = c.make_room.new.places.items in
+    let term : FormTerm = term_shown c.term.inside.column c.term.inside.value in
+    let within : term.column < length room = omega (arith, c.in_ok-make_room.ensures.room, c.make_room.new.places.ok.0) in
+    let count : c.len.result ≡ length terms = omega (arith, c.len.ensures, c.in_ok-make_room.ensures.len, c.self.inside.terms.ok.0) in
+    let more : c.push_reserved.new.self.items ≡ terms ++ term ∷ [] =
+    c.push_reserved.ensures.items ∙ ap (λ (ts : List FormTerm). ts ++ c.args.term ∷ []) c.in_ok-make_room.ensures.terms ∙ ap (λ (t : FormTerm). terms ++ t ∷ []) (sym c.term.view_is) in
+    placed_more terms c.push_reserved.new.self.items c.self.inside.places.items room _ term c.self.invariant c.in_ok-make_room.ensures.kept within more (ap (λ (n : ℕ). set room c.term.inside.column n) count)

@@ -1,4 +1,0 @@
-use Rattle.cip_lp_tokens.proofs.words.word_meaning.Goals as goal
-
-pub returns : goal.returns
-returns c = c.meaning_in.ensures

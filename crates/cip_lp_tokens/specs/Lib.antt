@@ -1,3 +1,0 @@
-pub mod LpKinds
-pub mod LpLines
-pub mod LpPieces

@@ -1,5 +1,0 @@
-pub mod MpsLineTests
-pub mod MpsSoundState
-pub mod MpsState
-pub mod MpsStepStatements
-pub mod MpsSteps

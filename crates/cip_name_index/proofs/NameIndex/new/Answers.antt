@@ -1,5 +1,0 @@
-use Rattle.cip_name_index.proofs.NameLaws.{none_apart}
-use Rattle.cip_name_index.proofs.NameIndex.new.Goals as goal
-
-pub invariant_of-result : goal.invariant_of-result
-invariant_of-result c = rw c.new.ensures none_apart

@@ -1,5 +1,0 @@
-pub mod Lists
-pub mod Rounding
-pub mod Solvable
-pub mod Solving
-pub mod Told

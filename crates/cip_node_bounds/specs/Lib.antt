@@ -1,6 +1,0 @@
-pub mod Guessing
-pub mod NodeRows
-pub mod Relaxing
-pub mod Solving
-pub mod Telling
-pub use Rattle.cip_search.specs.Figures

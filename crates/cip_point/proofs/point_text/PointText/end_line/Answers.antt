@@ -1,8 +1,0 @@
-use Rattle.cip_point.specs.PointTexts.{steps_of, kept_of, values_of}
-use Rattle.cip_text.proofs.Streams.{line_ended}
-use Rattle.cip_point.proofs.point_text.PointText.end_line.Goals as goal
-
-pub returns-clause-reads : goal.returns-clause-reads
-returns-clause-reads c = λ s h.
-    let text = c.args.self.now in
-    line_ended (steps_of text) (kept_of text) _ _ _ (values_of text) _ c.read_unread-kind.result s c.args.tail.now c.requires.no_feed h c.in_ok-keep.ensures.kept c.read_unread-kind.ensures.read c.read_unread-kind.ensures.kept c.end_line.ensures

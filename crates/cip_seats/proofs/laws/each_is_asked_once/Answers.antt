@@ -1,7 +1,0 @@
-use Rattle.cip_seats.proofs.Hearing.{asked_once}
-use Rattle.cip_seats.proofs.laws.each_is_asked_once.Goals as goal
-
-pub returns : goal.returns
-returns c = record {
-  once = asked_once;
-}

@@ -1,7 +1,0 @@
-use Rattle.std.proofs.Common.{refl}
-use Rattle.cip_seats.proofs.laws.keys_are_ranked.Goals as goal
-
-pub returns : goal.returns
-returns c = record {
-  same = λ a b. refl;
-}

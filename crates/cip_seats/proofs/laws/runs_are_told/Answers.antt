@@ -1,9 +1,0 @@
-use Rattle.cip_seats.proofs.Running.{run_stays, run_told, run_closed}
-use Rattle.cip_seats.proofs.laws.runs_are_told.Goals as goal
-
-pub returns : goal.returns
-returns c = record {
-  stays = run_stays;
-  told = run_told;
-  closed = run_closed;
-}

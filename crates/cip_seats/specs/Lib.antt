@@ -1,9 +1,0 @@
-pub mod Calling
-pub mod Delivering
-pub mod FaultNames
-pub mod Lives
-pub mod Ranks
-pub mod Seats
-pub mod Statements
-pub mod Steps
-pub mod Wishing

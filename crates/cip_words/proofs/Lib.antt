@@ -1,5 +1,0 @@
-pub mod Commands
-pub mod Examples
-pub mod Naturals
-pub mod Numbers
-pub mod Plus
