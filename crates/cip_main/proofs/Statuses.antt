@@ -16,7 +16,7 @@ use Rattle.cip_model.specs.declared.verdicts.Place.{Place}
 use Rattle.cip_model.specs.declared.verdicts.Place.TheVariants as places
 use Rattle.cip_model.specs.declared.verdicts.Verdict.{Verdict}
 use Rattle.cip_model.specs.declared.verdicts.Verdict.TheVariants as verdicts
-use Rattle.cip_answering.specs.Checks.{checked_of}
+use Rattle.cip_main.specs.Checks.{checked_of}
 use Rattle.cip_main.specs.Running.{IsBreach, IsStatus, solved, broken, usage, read_fault, refused, no_memory, spent, wide, near}
 
 -- ---- answers without figures

@@ -7,7 +7,7 @@ use Rattle.cip_line_texts.specs.LineTexts.{HasResult}
 use Rattle.cip_block_rules.specs.BlockRules.{block_reading}
 use Rattle.cip_point_rules.specs.PointRules.{point_reading}
 use Rattle.cip_problem.specs.BlockParts.{Blocks as Parts}
-use Rattle.cip_answering.specs.TextsRead.{ReadsText}
+use Rattle.cip_main.specs.TextsRead.{ReadsText}
 use Rattle.cip_tasks.specs.declared.plain.Plain.{Plain}
 use Rattle.cip_plugin.specs.Who.{Who}
 use Rattle.cip_tasks.specs.Jobs.{Limits, Job, usual_limits, job_for}
@@ -15,8 +15,8 @@ use Rattle.cip_tasks.specs.Generated.{entries_of}
 use Rattle.cip_answers.specs.SelfTexts.{Drawn as Told}
 use Rattle.cip_answers.specs.TraceTexts.{traced_text}
 use Rattle.cip_answers.specs.Figures.{names_of}
-use Rattle.cip_answering.specs.Answering.{self_told}
-use Rattle.cip_answering.specs.Saying.{Says}
+use Rattle.cip_main.specs.Answering.{self_told}
+use Rattle.cip_main.specs.Saying.{Says}
 use Rattle.cip_tasks.specs.Plain.{plain_text, plain_status}
 use Rattle.cip_tasks.specs.Tasks.{labels_of, TakesBlocks, IsSolve, IsCheck, IsDrawn, TaskCause}
 use Rattle.cip_main.specs.Running.{Call, BlocksAreRead, IsPulledBehind, WorksBy, TellsWork, TellsVerdict, gives_plain, gives_figures, gives_verdict, Runs}

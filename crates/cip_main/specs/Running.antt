@@ -16,10 +16,10 @@ use Rattle.cip_tasks.specs.Generated.{generated, entries_of as coefficients_of}
 use Rattle.cip_answers.specs.SelfTexts.{Drawn}
 use Rattle.cip_answers.specs.TraceTexts.{traced_text}
 use Rattle.cip_tasks.specs.Jobs.{Limits, Job, Solve, Check, Generate, usual_limits}
-use Rattle.cip_answering.specs.Models.{is_lp_name, HasModel, HasModelFault, is_lp_kind, model_kind_number}
-use Rattle.cip_answering.specs.TextPulls.{IsAllPulled}
-use Rattle.cip_answering.specs.ModelKind.{ModelKind}
-use Rattle.cip_answering.specs.TextFault.{TextFault}
+use Rattle.cip_main.specs.Models.{is_lp_name, HasModel, HasModelFault, is_lp_kind, model_kind_number}
+use Rattle.cip_main.specs.TextPulls.{IsAllPulled}
+use Rattle.cip_main.specs.ModelKind.{ModelKind}
+use Rattle.cip_main.specs.TextFault.{TextFault}
 use Rattle.cip_answers.specs.Figures.{NodeLimit, Gap, Wide, Overflow, NoMemory as LacksMemory, names_of}
 use Rattle.cip_search.specs.Headline.{ShowsGap, IsSpent, ShowsOverflow, EndsItself}
 use Rattle.cip_answers.specs.Checks.{check_text, check_status}
@@ -28,24 +28,24 @@ use Rattle.cip_model.specs.Meaning.{VerdictHolds}
 use Rattle.cip_model.specs.declared.verdicts.Place.{Place}
 use Rattle.cip_model.specs.declared.verdicts.Verdict.{Verdict}
 use Rattle.cip_model.specs.declared.verdicts.Verdict.TheVariants as verdicts
-use Rattle.cip_answering.specs.Log.{Log}
-use Rattle.cip_answering.specs.Logs.{entries_of}
+use Rattle.cip_main.specs.Log.{Log}
+use Rattle.cip_main.specs.Logs.{entries_of}
 use Rattle.cip_events.specs.declared.traces.Trace.{Trace}
-use Rattle.cip_answering.specs.Traces.{kept_lines}
-use Rattle.cip_answering.specs.Kits.{Stock}
-use Rattle.cip_answering.specs.BlockKindTexts.{kind_number as block_kind_number}
-use Rattle.cip_answering.specs.BlockKind.{BlockKind}
-use Rattle.cip_answering.specs.PointKindTexts.{kind_number as point_kind_number}
-use Rattle.cip_answering.specs.PointKind.{PointKind}
+use Rattle.cip_main.specs.Traces.{kept_lines}
+use Rattle.cip_main.specs.Kits.{Stock}
+use Rattle.cip_main.specs.BlockKindTexts.{kind_number as block_kind_number}
+use Rattle.cip_main.specs.BlockKind.{BlockKind}
+use Rattle.cip_main.specs.PointKindTexts.{kind_number as point_kind_number}
+use Rattle.cip_main.specs.PointKind.{PointKind}
 use Rattle.cip_tasks.specs.declared.refusals.FaultyText.{FaultyText}
 use Rattle.cip_tasks.specs.declared.refusals.FaultyText.TheVariants.{Model, Blocks, Point}
 use Rattle.cip_tasks.specs.declared.plain.Plain.{Plain}
 use Rattle.cip_tasks.specs.declared.plain.Plain.TheVariants.{Usage, ReadFault, Refused, NoMemory}
-use Rattle.cip_answering.specs.Answering.{Telling, self_told, Answers}
-use Rattle.cip_answering.specs.Checking.{checked}
-use Rattle.cip_answering.specs.Work.{Works, IsKitOf}
+use Rattle.cip_main.specs.Answering.{Telling, self_told, Answers}
+use Rattle.cip_main.specs.Checking.{checked}
+use Rattle.cip_main.specs.Work.{Works, IsKitOf}
 use Rattle.cip_tasks.specs.Plain.{plain_text, plain_status}
-use Rattle.cip_answering.specs.Saying.{Says}
+use Rattle.cip_main.specs.Saying.{Says}
 use Rattle.cip_tasks.specs.Tasks.{TaskCause, model_of, model_in, second_of}
 
 -- a call: the job that its words mean, if they are accepted, and the plugins that they want to be off are there; store,

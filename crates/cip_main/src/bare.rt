@@ -1,6 +1,6 @@
 //! A kit without plugins.
 ghost use Rattle.std.specs.Prelude.{◌≡◌, []};
-ghost use Rattle.cip_answering.specs.Kits.{stock_of, IsFew};
+ghost use Rattle.cip_main.specs.Kits.{stock_of, IsFew};
 
 use cip_plugin::{AnyPlugin, Kit, Tells};
 use std::alloc::Global;

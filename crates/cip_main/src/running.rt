@@ -2,11 +2,11 @@
 ghost use Rattle.cip_tasks.specs.Jobs.{job_of, job_for};
 ghost use Rattle.cip_tasks.specs.Plain.{plain_text, plain_status};
 ghost use Rattle.cip_tasks.specs.Tasks.{labels_of};
-ghost use Rattle.cip_answering.specs.Kits.{stock_of, IsFew};
-ghost use Rattle.cip_answering.specs.Saying.{Says};
+ghost use Rattle.cip_main.specs.Kits.{stock_of, IsFew};
+ghost use Rattle.cip_main.specs.Saying.{Says};
 ghost use Rattle.cip_main.specs.Running.{Runs, call_of};
 
-use cip_answering::{Drawn, Log, check_and_report, solve_and_report, solve_drawn};
+use crate::{Drawn, Log, check_and_report, solve_and_report, solve_drawn};
 use cip_io::{Failed, Sink, Store};
 use cip_plugin::{AnyPlugin, Kit, Tells};
 use cip_tasks::{Plain, Task, Words, read_task};

@@ -10,9 +10,9 @@ ghost use Rattle.cip_report.specs.Answers.{figures_of, AnswerFits};
 ghost use Rattle.cip_report.specs.Drawn.{drawn_of};
 ghost use Rattle.cip_report.specs.Traces.{kept_lines};
 ghost use Rattle.cip_solve.specs.Kits.{stock_of, IsFew};
-ghost use Rattle.cip_answering.specs.Answering.{self_told};
-ghost use Rattle.cip_answering.specs.Saying.{Says};
-ghost use Rattle.cip_answering.specs.Work.{Searched, Works, kit_of};
+ghost use Rattle.cip_main.specs.Answering.{self_told};
+ghost use Rattle.cip_main.specs.Saying.{Says};
+ghost use Rattle.cip_main.specs.Work.{Searched, Works, kit_of};
 
 use cip_io::{Failed, Sink};
 use cip_model::Program;

@@ -18,7 +18,7 @@ use Rattle.cip_model.specs.Meaning.{BoundHolds}
 use Rattle.cip_model.proofs.Meaning.BoxBound.{least_cost_from_holds}
 use Rattle.cip_node_rules.specs.RootBounds.{least_value}
 use Rattle.cip_solve.specs.Beginning.{root_value}
-use Rattle.cip_answering.specs.RootBox.{LeavesWith, LeavesRange, IsBoxBound}
+use Rattle.cip_main.specs.RootBox.{LeavesWith, LeavesRange, IsBoxBound}
 
 too_wide : (product : ℚ) (fits : Bool) → fits_range product ≡ fits → (fits_range product ≡ true → ⊥) → fits_range product ≡ false
 too_wide product true e n = absurd (n e)

@@ -21,13 +21,13 @@ use Rattle.cip_solve.specs.Solved.{IsSolved, IsSolvedBy}
 use Rattle.cip_solve.specs.declared.logs.Log.{Log}
 use Rattle.cip_solve.proofs.Fits.{answer_fits}
 use Rattle.cip_solve.proofs.PassedOn.{still_few}
-use Rattle.cip_answering.specs.Answering.{Telling, AddsLog, AddsNone, IsLogged}
-use Rattle.cip_answering.specs.Work.{Searched, TellsWhatIsLeft, Works, kit_of, goes_alone, IsKitOf}
+use Rattle.cip_main.specs.Answering.{Telling, AddsLog, AddsNone, IsLogged}
+use Rattle.cip_main.specs.Work.{Searched, TellsWhatIsLeft, Works, kit_of, goes_alone, IsKitOf}
 use Rattle.cip_tasks.specs.Jobs.{Limits, usual_limits, usual_nodes}
-use Rattle.cip_answering.specs.Saying.{Says}
-use Rattle.cip_answering.proofs.TrueFigures.{lacks, are_true, figures_same}
-use Rattle.cip_answering.proofs.Left.{left_of}
-use Rattle.cip_answering.proofs.RootBox.{is_box_bound}
+use Rattle.cip_main.specs.Saying.{Says}
+use Rattle.cip_main.proofs.TrueFigures.{lacks, are_true, figures_same}
+use Rattle.cip_main.proofs.Left.{left_of}
+use Rattle.cip_main.proofs.RootBox.{is_box_bound}
 
 -- where no lines are kept there is no trace
 none_told_after : (alone kept : Bool) (entries : List Entry) (stock stock_after : Stock) (trace : Option Trace) → IsKitAfter alone kept entries stock stock_after trace → kept ≡ false → trace ≡ None

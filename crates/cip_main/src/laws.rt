@@ -1,5 +1,5 @@
 //! Laws of what is left of a search. Each function does nothing: its contract is the law, so that the check proves it.
-ghost use Rattle.cip_answering.specs.Statements.{BoundsAreTold, PointsAreTold};
+ghost use Rattle.cip_main.specs.Statements.{BoundsAreTold, PointsAreTold};
 
 /// The log of a search and the point that is printed tell the bound: no two figures that leave out nothing differ in
 /// it, after infeasible and unbounded aside.

@@ -4,8 +4,8 @@ ghost use Rattle.cip_problem.specs.WellFormed.{columns};
 ghost use Rattle.cip_model.specs.Verdicts.{verdict_of};
 ghost use Rattle.cip_model.specs.Meaning.{VerdictHolds};
 ghost use Rattle.cip_answers.specs.Checks as texts;
-ghost use Rattle.cip_answering.specs.Checking.{checked};
-ghost use Rattle.cip_answering.specs.Saying.{Says};
+ghost use Rattle.cip_main.specs.Checking.{checked};
+ghost use Rattle.cip_main.specs.Saying.{Says};
 
 use cip_frac::Frac;
 use cip_io::{Failed, Sink};

@@ -11,7 +11,7 @@ use Rattle.cip_leaves.specs.Searched.{NoMore, first_node, nodes_given, IsLeast, 
 use Rattle.cip_search.proofs.Members.{none_in}
 use Rattle.cip_search.proofs.OneMore.{contains_here, contains_cons, node_of_among}
 use Rattle.cip_search.specs.Headline.{cost_of_printed}
-use Rattle.cip_answering.specs.Statements.{BoundsAreTold, root_closed, PointsAreTold}
+use Rattle.cip_main.specs.Statements.{BoundsAreTold, root_closed, PointsAreTold}
 
 both_ways : (b c : Option ℚ) → NoMore b c → NoMore c b → b ≡ c
 both_ways None None h k = refl

@@ -1,8 +1,8 @@
 use Rattle.cip_answers.specs.Figures.{names_of}
 use Rattle.cip_answers.specs.TraceTexts.{traced_text}
 use Rattle.cip_tasks.specs.WordsRead.{limits_of}
-use Rattle.cip_answering.proofs.Searches.{works_of, fits}
-use Rattle.cip_answering.proofs.solving.solve_and_report.Goals as goal
+use Rattle.cip_main.proofs.Searches.{works_of, fits}
+use Rattle.cip_main.proofs.solving.solve_and_report.Goals as goal
 
 pub tell-requires : goal.tell-requires
 tell-requires g c = fits c.args.program.now (limits_of c.args.limits.now) _ _ _ _ c.search-answer.result c.requires.limited c.search-answer.ensures.searched

@@ -1,8 +1,8 @@
 use Rattle.std.proofs.Common.{ap, map}
 use Rattle.std.proofs.lemmas.Result.{IfOk-weaker}
 use Rattle.cip_tasks.specs.WordsRead.{limits_of}
-use Rattle.cip_answering.proofs.Searches.{kit_less, kit_plain}
-use Rattle.cip_answering.proofs.solving.lessen.Goals as goal
+use Rattle.cip_main.proofs.Searches.{kit_less, kit_plain}
+use Rattle.cip_main.proofs.solving.lessen.Goals as goal
 
 pub returns-then-limits-clause-less : goal.returns-then-limits-clause-less
 returns-then-limits-clause-less g c = kit_plain (limits_of c.args.limits.now) _ c.if-limits.true

@@ -13,7 +13,7 @@ use Rattle.cip_answers.specs.Figures.{Infeasible, Unbounded}
 use Rattle.cip_search.specs.Headline.{cost_of_printed}
 use Rattle.cip_search.specs.Printed.{status_of, printed_held, figures_of}
 use Rattle.cip_solve.specs.Solved.{IsShownBeside, RayIsShown}
-use Rattle.cip_answering.specs.Work.{HasNoRay, HasNoBound, TellsWhatIsLeft}
+use Rattle.cip_main.specs.Work.{HasNoRay, HasNoBound, TellsWhatIsLeft}
 
 is_unbounded : (rows : List (List ℕ)) (ended : Ended) (ray : List ℚ) → status_of rows ended ≡ Unbounded ray → ended ≡ ends.Unbounded ray
 is_unbounded rows ends.Optimal ray e = absurd (cc)

@@ -12,8 +12,8 @@ use Rattle.cip_search.specs.Headline.{AreTrue}
 use Rattle.cip_solve.specs.Logs.{entries_of}
 use Rattle.cip_solve.specs.declared.logs.Log.{Log}
 use Rattle.cip_tasks.specs.Jobs.{Limits}
-use Rattle.cip_answering.specs.RootBox.{IsBoxBound, BeginsAt}
-use Rattle.cip_answering.specs.Saying.{Says}
+use Rattle.cip_main.specs.RootBox.{IsBoxBound, BeginsAt}
+use Rattle.cip_main.specs.Saying.{Says}
 
 -- how figures are told, with the lines of a trace: their text
 abbrev pub Telling : Type 0

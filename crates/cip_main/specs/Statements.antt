@@ -5,7 +5,7 @@ use Rattle.cip_problem.specs.Program.{Program}
 use Rattle.cip_problem.specs.Points.{IsFeasible}
 use Rattle.cip_problem.specs.Log.{Closed, Entry}
 use Rattle.cip_answers.specs.Figures.{Status, Infeasible, Figures}
-use Rattle.cip_answering.specs.Work.{HasNoRay, TellsWhatIsLeft}
+use Rattle.cip_main.specs.Work.{HasNoRay, TellsWhatIsLeft}
 
 -- a bound is told, if there is one
 pub record TellsBound (status : Status) : Type 0 where

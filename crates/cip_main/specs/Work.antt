@@ -24,7 +24,7 @@ use Rattle.cip_solve.specs.KitsServed.{is_alone, IsLeftAlone, IsKitAfter}
 use Rattle.cip_solve.specs.Solved.{IsShownBeside, IsSolvedBy}
 use Rattle.cip_solve.specs.declared.logs.Log.{Log}
 use Rattle.cip_tasks.specs.Jobs.{Limits}
-use Rattle.cip_answering.specs.Answering.{Telling, AddsLog, AddsNone, Answers}
+use Rattle.cip_main.specs.Answering.{Telling, AddsLog, AddsNone, Answers}
 
 -- ---- the marks of a log
 

@@ -1,9 +1,9 @@
 use Rattle.std.proofs.Common.{arith, ap, map}
 use Rattle.cip_tasks.specs.Jobs.{usual_limits}
 use Rattle.cip_report.specs.Drawn.{drawn_of}
-use Rattle.cip_answering.specs.Answering.{self_told}
-use Rattle.cip_answering.proofs.Searches.{searched_usual, works_of}
-use Rattle.cip_answering.proofs.solving.solve_drawn.Goals as goal
+use Rattle.cip_main.specs.Answering.{self_told}
+use Rattle.cip_main.proofs.Searches.{searched_usual, works_of}
+use Rattle.cip_main.proofs.solving.solve_drawn.Goals as goal
 
 pub returns : goal.returns
 returns g c =

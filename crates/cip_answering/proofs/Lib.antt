@@ -1,5 +1,0 @@
-pub mod Left
-pub mod RootBox
-pub mod Searches
-pub mod Told
-pub mod TrueFigures

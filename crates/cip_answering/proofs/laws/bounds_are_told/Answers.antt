@@ -1,5 +1,0 @@
-use Rattle.cip_answering.proofs.Told as told
-use Rattle.cip_answering.proofs.laws.bounds_are_told.Goals as goal
-
-pub returns : goal.returns
-returns c = told.bounds_are_told
