@@ -1,5 +1,5 @@
-//! Dictionaries of the simplex method, their exchanges and flips, and Bland's rule: the next step at a state, the list of
-//! moves, and what its ends answer.
+//! Dictionaries of the simplex method, their exchanges and flips, and Bland's rule: the next step at a state, the list
+//! of moves, and what its ends answer.
 // Each function here does nothing. Its contract is one of the laws of the definitions, so that the check proves it.
 #![tactic(auto)]
 

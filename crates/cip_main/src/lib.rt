@@ -1,5 +1,5 @@
-//! `run`, all that the program `cip` does: words in, bytes out; and its parts once a program is read: it is solved, or a
-//! point is checked in it, and the answer is written.
+//! `run`, all that the program `cip` does: words in, bytes out; and its parts once a program is read: it is solved, or
+//! a point is checked in it, and the answer is written.
 #![tactic(auto)]
 
 mod bare;

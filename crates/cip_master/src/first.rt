@@ -91,7 +91,7 @@ fn free_rows(alloc: Global, program: &Program, blocks: &Decomposed) -> Result<Ve
     Ok(owns)
 }
 
-/// A row by which no weights sum to 1.
+/// The row by which the weights of a block sum to 1, as yet without a weight.
 fn sum_row(alloc: Global) -> Row
     ensures { result ≡ sum_row }
 {

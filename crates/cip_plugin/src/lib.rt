@@ -1,5 +1,5 @@
-//! The interfaces of plugins, and what passes between them and the search; and their seats, the steps that change those,
-//! and the lives that plugins lead, as definitions and laws.
+//! The interfaces of plugins, and what passes between them and the search; and their seats, the steps that change
+//! those, and the lives that plugins lead, as definitions and laws.
 #![tactic(auto)]
 
 mod asking;

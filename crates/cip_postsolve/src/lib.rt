@@ -1,6 +1,6 @@
 //! The end of presolve: which columns are left out and which rows dropped, what is left of a program in work without
-//! them, and the way back from it: points and whole values of it as those of the program, where the value of each column
-//! that is gone is a form of another column's.
+//! them, and the way back from it: points and whole values of it as those of the program, where the value of each
+//! column that is gone is a form of another column's.
 #![tactic(auto)]
 
 mod candidates;

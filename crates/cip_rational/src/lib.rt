@@ -1,5 +1,5 @@
-//! The rational numbers, and the texts that say them: their definitions and laws stand in `specs/`, for the contracts of
-//! the other crates.
+//! The rational numbers, and the texts that say them: their definitions and laws stand in `specs/`, for the contracts
+//! of the other crates.
 // Each function here does nothing. Its contract is one of the main laws, so that the check proves it.
 #![tactic(auto)]
 

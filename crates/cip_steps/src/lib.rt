@@ -1,5 +1,5 @@
-//! What the sides of columns say of a row; a program in work, and the steps of presolve by one row or one column, and by
-//! equalities of two terms, whose one column is put as an affine form of the other: each an exact step, whatever it
+//! What the sides of columns say of a row; a program in work, and the steps of presolve by one row or one column, and
+//! by equalities of two terms, whose one column is put as an affine form of the other: each an exact step, whatever it
 //! comes to.
 #![tactic(auto)]
 
