@@ -1,16 +1,15 @@
 -- What the text of an answer to `self` tells.
 use lib.Chars.{codes}
-use Rattle.std.specs.Prelude.{◌≡◌, ◌≢◌, ℕ, List, [], ◌∷◌, ◌++◌, refl}
-use Rattle.std.specs.List.{AllByRecursion}
+use Rattle.std.specs.Prelude.{◌≡◌, ℕ, List, ◌∷◌, ◌++◌}
 use Rattle.std.proofs.Common.{sym, ap, ◌∙◌, append_assoc, arith}
 use Rattle.cip_rational.specs.NumberText.{natural_text}
 use Rattle.cip_rational.proofs.NumberText.{natural_text_injective}
 use Rattle.cip_answers.specs.Figures.{Figures, status_word, line, end_line, figure_text, held_cost}
 use Rattle.cip_answers.specs.SelfTexts.{Drawn, sizes_text, self_text}
-use Rattle.cip_answers.specs.TraceStatements.{PrintAlike, SelfIsTold}
+use Rattle.cip_answers.specs.TraceStatements.{SelfIsTold}
 use Rattle.cip_answers.proofs.TraceTexts.{parted, digits-no_blank}
 use Rattle.cip_answers.proofs.FrontTexts.{line_parted, feedless_both, digits-no_feed}
-use Rattle.cip_answers.proofs.AnswerTexts.{cancelled, HasNoFeed, figure_text-no_feed, figure_text_injective, status_word-no_feed}
+use Rattle.cip_answers.proofs.AnswerTexts.{HasNoFeed, figure_text-no_feed, figure_text_injective, status_word-no_feed}
 
 -- six texts, by their parts
 six : (a b c d e f : List ℕ) → (a ++ b) ++ (c ++ (d ++ e)) ++ f ≡ a ++ (b ++ (c ++ (d ++ (e ++ f))))

@@ -1,5 +1,5 @@
 -- The first state of a linear program given by its rows, a box and the costs.
-use Rattle.std.specs.Prelude.{◌≡◌, ℕ, List, [], length, map, None, Some, slice_get, slice_index_or}
+use Rattle.std.specs.Prelude.{◌≡◌, ℕ, List, length, map, Some, slice_get, slice_index_or}
 use Rattle.cip_rational.specs.Rational.{ℚ}
 use Rattle.cip_rational.specs.Sums.{dot}
 use Rattle.cip_linear.specs.Program.{Term, Row, no_row}

@@ -1,9 +1,7 @@
 -- The laws of texts of blocks, each as one statement: functions of `src/` have them as contracts.
-use Rattle.std.specs.Prelude.{◌≡◌, ◌⊎◌, ◌↔◌, ⊤, ℕ, ◌<◌, ◌≤◌, ◌==◌, true, false, ◌&&◌, List, [], ◌∷◌, None, Some, length, slice_index_or, is_some}
+use Rattle.std.specs.Prelude.{◌≡◌, ◌↔◌, ⊤, ℕ, ◌<◌, ◌≤◌, ◌==◌, true, false, ◌&&◌, List, [], ◌∷◌, None, Some, length, slice_index_or}
 use Rattle.std.specs.List.{AllByRecursion, list_any}
-use Rattle.cip_problem.specs.Program.{Row, Program}
-use Rattle.cip_problem.specs.Box.{sides_at}
-use Rattle.cip_problem.specs.WellFormed.{columns}
+use Rattle.cip_problem.specs.Program.{Program}
 use Rattle.cip_mps_rules.specs.MpsWords.{is_in}
 use Rattle.cip_line_texts.specs.LineTexts.{HasResult}
 use Rattle.cip_line_texts.specs.LineStatements.{OneOutcome, FaultsAreFirst, ResultsAreDescribed, known_of}

@@ -1,5 +1,5 @@
 -- The laws of the steps, each as one statement: functions of `src/lib.rt` have them as contracts.
-use Rattle.std.specs.Prelude.{◌≡◌, ⊤, ℕ, ◌<◌, ◌≤◌, false, List, [], ◌∷◌, length, Option, None, Some, All, IfSome, unwrap_or, is_none, is_some, if◌then◌else◌}
+use Rattle.std.specs.Prelude.{◌≡◌, ⊤, ℕ, ◌<◌, ◌≤◌, List, length, Option, None, Some, All, IfSome, unwrap_or, is_none, is_some, if◌then◌else◌}
 use Rattle.cip_problem.specs.Program.{Program}
 use Rattle.cip_problem.specs.NamesOnce.{StandOnce}
 use Rattle.cip_problem.specs.BlockParts.{most_blocks}

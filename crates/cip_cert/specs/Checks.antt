@@ -1,14 +1,13 @@
 -- The check of a combination as one computation: what it comes to, or the first fault in the order of entries and
 -- columns.
-use Rattle.std.specs.Prelude.{ℕ, suc, ◌+◌, ◌==◌, Bool, false, not, ◌&&◌, ◌||◌, nat_lt, List, [], ◌∷◌, length, replicate, Option, None, Some, Result, Ok, Err, if◌then◌else◌, slice_get, slice_set}
-use Rattle.cip_rational.specs.Rational.{ℚ, ◌-ℚ◌, ◌*ℚ◌, negate, inverse, integer, zeroℚ, oneℚ, le_test, lt_test, is_whole, floor, ceil}
+use Rattle.std.specs.Prelude.{ℕ, suc, ◌+◌, ◌==◌, Bool, false, nat_lt, List, [], ◌∷◌, length, replicate, Option, None, Some, Result, Ok, Err, if◌then◌else◌, slice_get, slice_set}
+use Rattle.cip_rational.specs.Rational.{ℚ, ◌-ℚ◌, ◌*ℚ◌, negate, inverse, integer, zeroℚ, oneℚ, le_test, lt_test, floor, ceil}
 use Rattle.cip_rational.specs.Range.{difference_overflows, quotient_overflows}
 use Rattle.cip_problem.specs.Program.{Term, Sides, Row}
 use Rattle.cip_problem.specs.Activity.{value_at}
 use Rattle.cip_problem.specs.Box.{sides_at, box_inside}
 use Rattle.cip_linear.specs.Aggregate.{Part, Inequality}
 use Rattle.cip_linear.specs.Cuts.{rounded}
-use Rattle.cip_frac.specs.Order.{same_rational}
 use Rattle.cip_frac.specs.declared.operations.Wide.{Wide as Overflow}
 use Rattle.cip_frac.specs.Outcomes.{product_added}
 use Rattle.cip_row_rules.specs.RowRules.{most_multiples, stops_rounding}

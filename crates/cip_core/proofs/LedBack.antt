@@ -1,11 +1,9 @@
 -- A reduced program leads back.
-use Rattle.std.proofs.Common.{◌≡◌, ◌≢◌, ℕ, Bool, List, length, Some, Result, Ok, Err, MatchResult, refl, sym, ap, ◌∙◌, subst}
-use Rattle.cip_rational.specs.Rational.{ℚ}
+use Rattle.std.proofs.Common.{Bool, List, sym, subst}
 use Rattle.cip_problem.specs.Program.{Program}
-use Rattle.cip_problem.specs.WellFormed.{IsWellFormed, columns}
+use Rattle.cip_problem.specs.WellFormed.{IsWellFormed}
 use Rattle.cip_leaves.specs.Leaf.{at_wholes}
 use Rattle.cip_search.specs.SearchState.{IsWayBack}
-use Rattle.cip_postsolve.specs.Pairs.{IsPair}
 use Rattle.cip_postsolve.specs.WholeParts.{with_wholes}
 use Rattle.cip_postsolve.proofs.PassedOn.{pair_way_back}
 use Rattle.cip_postsolve.specs.StepsBack.{StepsTaken, point_back, old_number, whole_of_left, way_back}

@@ -1,5 +1,5 @@
 -- A core that was just made.
-use Rattle.std.proofs.Common.{◌≡◌, ◌∙◌, ℕ, Bool, false, List, [], length, Option, None, Some, MatchBool, refl, sym, ap, subst, arith}
+use Rattle.std.proofs.Common.{◌≡◌, ◌∙◌, ℕ, Bool, false, List, [], length, None, Some, MatchBool, refl, sym, ap, subst, arith}
 use Rattle.std.specs.Prelude.{replicate}
 use Rattle.std.proofs.lemmas.List.{length-replicate}
 use Rattle.cip_rational.specs.Rational.{ℚ, zeroℚ}
@@ -17,7 +17,6 @@ use Rattle.cip_postsolve.specs.PresolvedPrograms.{IsPresolved}
 use Rattle.cip_core.specs.Beginning.{IsRootBound, HasNotBegun}
 use Rattle.cip_core.specs.Entering.{own_region}
 use Rattle.cip_core.specs.KeptNodes.{cost_held, state_of, IsKept}
-use Rattle.cip_core.specs.CutoffRow.{cutoff_of}
 use Rattle.cip_core.specs.CoreStates.{CoreState, IsSound, IsFitted}
 use Rattle.cip_core.proofs.LedBack.{presolved_reduces}
 

@@ -1,5 +1,5 @@
 -- What offering a point of the reduced program comes to.
-use Rattle.std.proofs.Common.{◌≡◌, ◌≢◌, List, length, Result, Ok, Err, IsOk, IsErr, true≢false, refl, sym, ap, ◌∙◌, subst}
+use Rattle.std.proofs.Common.{◌≡◌, ◌≢◌, List, length, Result, Ok, Err, IsOk, IsErr, true≢false, refl, sym, ◌∙◌, subst}
 use Rattle.cip_rational.specs.Rational.{ℚ}
 use Rattle.cip_problem.specs.Program.{Program}
 use Rattle.cip_problem.specs.WellFormed.{IsWellFormed, columns}
@@ -10,7 +10,6 @@ use Rattle.cip_postsolve.specs.PostsolveFaults.{IsPostsolveFault}
 use Rattle.cip_postsolve.specs.declared.faults.PostsolveFault.{PostsolveFault}
 use Rattle.cip_postsolve.specs.declared.faults.PostsolveFault.TheVariants.{Wide, NoMemory}
 use Rattle.cip_core.specs.CoreStates.{CoreState, held_of, IsReducedBy}
-use Rattle.cip_core.specs.Later.{IsLater}
 use Rattle.cip_core.specs.Steps.{IsTried, IsOffered, IsTriedBack}
 
 not_both : {A E : Type 0} (r : Result A E) → IsOk r → ¬ IsErr r

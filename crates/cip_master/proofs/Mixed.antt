@@ -1,5 +1,5 @@
 -- An optimum of the master program comes to a mixture of held points at its cost.
-use Rattle.std.proofs.Common.{◌≡◌, ℕ, ◌+◌, ◌-◌, List, ◌++◌, length, map, take, drop, Some, refl, sym, ap, ap₂, ◌∙◌, subst, arith}
+use Rattle.std.proofs.Common.{◌≡◌, ℕ, ◌-◌, List, ◌++◌, length, map, take, drop, Some, refl, sym, ap, ap₂, ◌∙◌, subst, arith}
 use Rattle.std.proofs.lemmas.List.{length-append, length-map, take-append-le, take_all, drop_at}
 use Rattle.cip_rational.specs.Rational.{ℚ}
 use Rattle.cip_rational.specs.Sums.{dot}

@@ -1,5 +1,5 @@
 -- The laws of the steps, each as one statement: functions of `src/lib.rt` have them as contracts.
-use Rattle.std.specs.Prelude.{◌≡◌, ⊤, ℕ, false, List, [], ◌∷◌, length, Option, Some}
+use Rattle.std.specs.Prelude.{◌≡◌, ℕ, List, length, Option, Some}
 use Rattle.cip_rational.specs.Rational.{ℚ}
 use Rattle.cip_problem.specs.Program.{Program}
 use Rattle.cip_rational.specs.Numeral.{Numeral}

@@ -1,5 +1,5 @@
 -- A substitution stays one while the program changes.
-use Rattle.std.proofs.Common.{◌≡◌, ℕ, ◌<◌, Bool, false, List, length, slice_get, sym, ap, ◌∙◌, subst}
+use Rattle.std.proofs.Common.{◌≡◌, ℕ, ◌<◌, List, length, slice_get, sym, ap, ◌∙◌, subst}
 use Rattle.cip_problem.specs.Program.{Choice, Sides, Row, Program}
 use Rattle.cip_problem.specs.Choices.{choice_at, is_open}
 use Rattle.cip_reductions.specs.NarrowedPrograms.{IsExactStep}

@@ -1,12 +1,10 @@
 -- The master program tried on the program of two blocks.
-use Rattle.std.proofs.Common.{arith, ◌≡◌, ℕ, List, [], ◌∷◌, Some, refl, sym, ap₂, ◌∙◌}
+use Rattle.std.proofs.Common.{arith, ◌≡◌, List, [], ◌∷◌, refl, sym, ap₂, ◌∙◌}
 use Rattle.cip_rational.specs.Rational.{ℚ, ◌+ℚ◌, ◌*ℚ◌, whole, zeroℚ, oneℚ}
 use Rattle.cip_rational.specs.Sums.{dot}
 use Rattle.cip_rational.proofs.Linear.{linear_same}
 use Rattle.cip_problem.specs.Activity.{activity}
-use Rattle.cip_pricing.specs.MasterForms.{master_form}
-use Rattle.cip_pricing.specs.Examples.{at_most_three, two_blocks, held_in_both}
-use Rattle.cip_pricing.specs.MasterPrograms.{block_form}
+use Rattle.cip_pricing.specs.Examples.{at_most_three}
 use Rattle.cip_pricing.specs.MasterExamples.{one_weight, MasterExample}
 
 -- the master row of the program as a form

@@ -1,13 +1,13 @@
 -- Multipliers of the master program show what costs come to at least.
-use Rattle.std.proofs.Common.{◌≡◌, ℕ, zero, suc, ◌+◌, ◌<◌, ◌≤◌, Bool, true, false, cond, List, [], ◌∷◌, ◌++◌, length, map, take, drop, replicate, Option, None, Some, IfSome, refl, sym, ap, ap₂, ◌∙◌, subst, arith}
+use Rattle.std.proofs.Common.{◌≡◌, ℕ, zero, suc, ◌+◌, Bool, true, false, cond, List, [], ◌∷◌, ◌++◌, length, map, take, drop, Option, None, Some, IfSome, refl, sym, ap, ap₂, ◌∙◌, subst, arith}
 use Rattle.std.specs.List.{AllZip, AllByRecursion}
 use Rattle.std.proofs.lemmas.Option.{none-some, same_Some}
 use Rattle.std.proofs.lemmas.List.{length-map, length-append, length-take-le, length-drop, take-append-drop, take_at, drop_at, map-append}
-use Rattle.cip_rational.specs.Rational.{ℚ, ◌+ℚ◌, ◌-ℚ◌, ◌*ℚ◌, negate, zeroℚ, oneℚ, ◌≤ℚ◌, ◌<ℚ◌, lt_test}
+use Rattle.cip_rational.specs.Rational.{ℚ, ◌+ℚ◌, ◌-ℚ◌, ◌*ℚ◌, negate, zeroℚ, oneℚ, ◌≤ℚ◌, lt_test}
 use Rattle.cip_rational.specs.Sums.{dot, scale_list, add_lists}
 use Rattle.cip_rational.proofs.Sums.{dot-nil, dot-append, dot-add_left, dot-scale_left}
-use Rattle.cip_rational.proofs.Rational.Ring.{+ℚ-zero, zero-+ℚ, *ℚ-zero, zero-*ℚ, *ℚ-one, +ℚ_assoc}
-use Rattle.cip_rational.proofs.Rational.Order.{≤ℚ_refl, ≤ℚ_of_lt, ≤ℚ_of_eq, ≤ℚ_antisymm, lt_of_test, le_of_lt_test, not_le_of_lt}
+use Rattle.cip_rational.proofs.Rational.Ring.{+ℚ-zero, zero-+ℚ, zero-*ℚ, *ℚ-one, +ℚ_assoc}
+use Rattle.cip_rational.proofs.Rational.Order.{≤ℚ_refl, ≤ℚ_of_lt, ≤ℚ_of_eq, ≤ℚ_antisymm, lt_of_test, le_of_lt_test}
 use Rattle.cip_rational.proofs.Rational.Monotone.{+ℚ_mono, *ℚ_mono}
 use Rattle.cip_rational.proofs.Rational.Inverse.{*ℚ_antitone}
 use Rattle.cip_rational.proofs.Linear.{linear_same, linear_le}
@@ -16,15 +16,15 @@ use Rattle.cip_problem.specs.Activity.{activity, value_at}
 use Rattle.cip_problem.specs.Box.{Between, IsInBox}
 use Rattle.cip_problem.specs.BoxBound.{sum_if_both, product_at}
 use Rattle.cip_linear.specs.LinearProgram.{LinearProgram}
-use Rattle.cip_linear.specs.Multipliers.{OnVariables, paired, activities, extended, IsUsed, AllUsed, row_sides, UsesSides, SumsTo}
+use Rattle.cip_linear.specs.Multipliers.{OnVariables, paired, activities, IsUsed, AllUsed, row_sides, UsesSides, SumsTo}
 use Rattle.cip_linear.proofs.Aggregates.{same_form}
-use Rattle.cip_pricing.specs.Decomposition.{Owner, Decomposition, picked, IsDecomposed, master_rows}
+use Rattle.cip_pricing.specs.Decomposition.{Owner, Decomposition, picked, master_rows}
 use Rattle.cip_pricing.specs.Mixtures.{Held, total}
-use Rattle.cip_pricing.specs.LeastCosts.{side_product, side_total, row_total, AreRests, sum_below, price_total, ShowsLeast}
+use Rattle.cip_pricing.specs.LeastCosts.{side_total, row_total, AreRests, sum_below, price_total, ShowsLeast}
 use Rattle.cip_pricing.specs.MasterForms.{master_form, weight_sides, master_box, reduced_cost, reduced_costs}
 use Rattle.cip_pricing.proofs.Picked.{length_picked}
 use Rattle.cip_pricing.proofs.Masters.{master_shows, scale-long, add-long}
-use Rattle.cip_pricing.specs.MasterPrograms.{IsMasterRow, IsSumRow, AreSumRows, IsMasterProgram}
+use Rattle.cip_pricing.specs.MasterPrograms.{IsMasterRow, AreSumRows, IsMasterProgram}
 use Rattle.cip_pricing.proofs.Spread.{unmixed, dot-master_form}
 use Rattle.cip_pricing.proofs.Sums.{masters_total, price_from, sums_total}
 

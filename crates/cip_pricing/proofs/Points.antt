@@ -1,9 +1,8 @@
 -- Points of the master program come to mixtures.
-use Rattle.std.proofs.Common.{◌≡◌, ◌⊎◌, inl, inr, ℕ, zero, suc, ◌+◌, ◌<◌, ◌≤◌, ◌==◌, Bool, true, false, cond, List, [], ◌∷◌, ◌++◌, length, map, take, drop, Option, None, Some, IfSome, refl, sym, ap, ap₂, ◌∙◌, subst, arith, slice_get}
+use Rattle.std.proofs.Common.{◌≡◌, ℕ, zero, suc, ◌+◌, ◌<◌, List, [], ◌∷◌, ◌++◌, length, map, take, drop, None, Some, IfSome, sym, ap, ap₂, ◌∙◌, subst, arith}
 use Rattle.std.specs.List.{AllZip, AllByRecursion}
-use Rattle.std.proofs.lemmas.Option.{same_Some}
-use Rattle.std.proofs.lemmas.List.{length-map, length-append, length-take-le, length-drop, take-append-drop}
-use Rattle.cip_rational.specs.Rational.{ℚ, zeroℚ, oneℚ, ◌≤ℚ◌}
+use Rattle.std.proofs.lemmas.List.{length-map, take-append-drop}
+use Rattle.cip_rational.specs.Rational.{ℚ, oneℚ, ◌≤ℚ◌}
 use Rattle.cip_rational.specs.Sums.{dot, AllNonneg}
 use Rattle.cip_rational.proofs.Rational.Order.{≤ℚ_antisymm}
 use Rattle.cip_problem.specs.Program.{Sides, Row, Program}
@@ -12,12 +11,12 @@ use Rattle.cip_problem.specs.Box.{Between, IsInBox}
 use Rattle.cip_problem.specs.Points.{IsSatisfied}
 use Rattle.cip_problem.proofs.Points.AtPlaces.{IsInBox-long}
 use Rattle.cip_linear.specs.LinearProgram.{LinearProgram, IsPoint}
-use Rattle.cip_pricing.specs.Decomposition.{Owner, Decomposition, picked, IsDecomposed, master_rows, IsBlockPoint}
-use Rattle.cip_pricing.specs.Mixtures.{Held, total, IsMixture, MeetsMaster}
-use Rattle.cip_pricing.specs.MasterForms.{held_owners, master_form, mixed, weight_sides, master_box}
+use Rattle.cip_pricing.specs.Decomposition.{Decomposition, picked, IsDecomposed, master_rows, IsBlockPoint}
+use Rattle.cip_pricing.specs.Mixtures.{Held, total}
+use Rattle.cip_pricing.specs.MasterForms.{held_owners, master_form, mixed, weight_sides}
 use Rattle.cip_pricing.specs.Statements.{WeightsSumToOne}
 use Rattle.cip_pricing.proofs.Masters.{mixture_of, form_same}
-use Rattle.cip_pricing.specs.MasterPrograms.{IsMasterRow, IsSumRow, AreSumRows, IsMasterProgram}
+use Rattle.cip_pricing.specs.MasterPrograms.{IsMasterRow, AreSumRows, IsMasterProgram}
 use Rattle.cip_pricing.specs.MasterStatements.{AreHeld, ComesToMixture}
 use Rattle.cip_pricing.proofs.Sums.{sum_row}
 

@@ -1,5 +1,5 @@
 -- A linear form on the master's columns has, at values and weights, the sum that it has at one point of the program.
-use Rattle.std.proofs.Common.{◌≡◌, ℕ, zero, suc, Bool, true, false, cond, List, [], ◌∷◌, ◌++◌, length, map, None, Some, refl, sym, ap, ap₂, ◌∙◌, arith}
+use Rattle.std.proofs.Common.{◌≡◌, Bool, true, false, cond, List, [], ◌∷◌, ◌++◌, length, map, None, Some, refl, sym, ap, ap₂, ◌∙◌}
 use Rattle.cip_rational.specs.Rational.{ℚ, ◌+ℚ◌, ◌*ℚ◌, zeroℚ}
 use Rattle.cip_rational.specs.Sums.{dot, scale_list, add_lists}
 use Rattle.cip_rational.proofs.Sums.{dot-nil, dot-append, dot-add_right, dot-scale_right}

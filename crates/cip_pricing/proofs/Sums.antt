@@ -1,20 +1,20 @@
 -- The rows of the master at values and weights.
-use Rattle.std.proofs.Common.{◌≡◌, ℕ, zero, suc, ◌+◌, ◌<◌, ◌==◌, Bool, true, false, cond, List, [], ◌∷◌, ◌++◌, length, map, replicate, Option, None, Some, refl, sym, ap, ap₂, ◌∙◌, subst, arith}
-use Rattle.std.specs.List.{AllZip, AllByRecursion}
+use Rattle.std.proofs.Common.{◌≡◌, ℕ, zero, suc, ◌==◌, Bool, true, false, cond, List, [], ◌∷◌, ◌++◌, length, map, replicate, None, Some, refl, sym, ap, ap₂, ◌∙◌, arith}
+use Rattle.std.specs.List.{AllZip}
 use Rattle.std.proofs.Math.Dec.{eqb-suc-zero, eqb-zero-suc, eqb-suc-suc}
 use Rattle.std.proofs.lemmas.List.{length-replicate}
-use Rattle.cip_rational.specs.Rational.{ℚ, ◌+ℚ◌, ◌-ℚ◌, ◌*ℚ◌, zeroℚ, oneℚ}
+use Rattle.cip_rational.specs.Rational.{ℚ, ◌+ℚ◌, ◌*ℚ◌, zeroℚ, oneℚ}
 use Rattle.cip_rational.specs.Sums.{dot}
-use Rattle.cip_rational.proofs.Sums.{dot-nil, dot-append}
-use Rattle.cip_rational.proofs.Rational.Ring.{+ℚ-zero, zero-+ℚ, *ℚ-zero, zero-*ℚ, *ℚ-one, one-*ℚ}
+use Rattle.cip_rational.proofs.Sums.{dot-append}
+use Rattle.cip_rational.proofs.Rational.Ring.{+ℚ-zero, zero-+ℚ, *ℚ-zero, zero-*ℚ, one-*ℚ}
 use Rattle.cip_rational.proofs.Linear.{linear_same}
-use Rattle.cip_problem.specs.Program.{Sides, Row, Program}
+use Rattle.cip_problem.specs.Program.{Sides, Row}
 use Rattle.cip_problem.specs.Activity.{activity, value_at}
 use Rattle.cip_linear.specs.Multipliers.{activities}
-use Rattle.cip_pricing.specs.Decomposition.{Owner, Decomposition, same_owner, picked}
+use Rattle.cip_pricing.specs.Decomposition.{Owner, picked}
 use Rattle.cip_pricing.specs.Mixtures.{Held, total}
-use Rattle.cip_pricing.specs.LeastCosts.{row_total, sum_below}
-use Rattle.cip_pricing.specs.MasterForms.{held_owners, master_form}
+use Rattle.cip_pricing.specs.LeastCosts.{row_total}
+use Rattle.cip_pricing.specs.MasterForms.{held_owners}
 use Rattle.cip_pricing.proofs.Picked.{length_picked}
 use Rattle.cip_pricing.specs.MasterPrograms.{IsMasterRow, block_form, IsSumRow, AreSumRows}
 use Rattle.cip_pricing.proofs.Spread.{unmixed, dot-master_form}

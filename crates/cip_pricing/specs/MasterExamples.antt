@@ -1,7 +1,7 @@
 -- The master program of the two blocks that `cip_pricing` works out, with 1 and 0 held in both: the weights are at
 -- least
 -- 0, each is 1, both together are at most 3, and each costs -2.
-use Rattle.std.specs.Prelude.{ℕ, List, [], ◌∷◌, None, Some}
+use Rattle.std.specs.Prelude.{ℕ, [], ◌∷◌, Some}
 use Rattle.cip_rational.specs.Rational.{whole, oneℚ}
 use Rattle.cip_problem.specs.Program.{Row}
 use Rattle.cip_linear.specs.LinearProgram.{LinearProgram}

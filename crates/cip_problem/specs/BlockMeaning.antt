@@ -1,6 +1,6 @@
 -- What the blocks of a program keep.
 --     AreBlocks program blocks      the rows and columns of a program fall into these blocks
-use Rattle.std.specs.Prelude.{◌≡◌, ◌⊎◌, ◌↔◌, ℕ, ◌<◌, ◌≤◌, true, false, [], None, length, slice_index_or, is_some}
+use Rattle.std.specs.Prelude.{◌≡◌, ◌⊎◌, ◌↔◌, ℕ, ◌<◌, ◌≤◌, true, false, [], length, slice_index_or, is_some}
 use Rattle.cip_problem.specs.Program.{Row, Program, no_row}
 use Rattle.cip_problem.specs.Box.{sides_at}
 use Rattle.cip_problem.specs.WellFormed.{columns}

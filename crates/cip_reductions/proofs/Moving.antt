@@ -11,7 +11,7 @@ use Rattle.cip_problem.specs.Program.{Term, Sides, Row, Choice, Plain, Open, Off
 use Rattle.cip_problem.specs.Activity.{value_at, activity}
 use Rattle.cip_problem.specs.Box.{IsInBox, sides_at, sides_inside}
 use Rattle.cip_problem.specs.Choices.{choice_at, Allows, KeepsChoices, is_open}
-use Rattle.cip_problem.specs.Points.{AreWhole, IsFeasible, cost_of}
+use Rattle.cip_problem.specs.Points.{AreWhole, IsFeasible}
 use Rattle.cip_problem.proofs.Points.AtPlaces.{IsInBox-long}
 use Rattle.cip_reductions.specs.NarrowedPrograms.{AllSatisfied, IsStep, with_sides}
 use Rattle.cip_reductions.specs.Pairs.{IsHeldFast, HasNear}

@@ -8,7 +8,7 @@ use Rattle.cip_problem.specs.Program.{Choice, Program}
 use Rattle.cip_problem.specs.Activity.{value_at}
 use Rattle.cip_problem.specs.Box.{sides_at, sides_inside}
 use Rattle.cip_problem.specs.Choices.{choice_at, is_open}
-use Rattle.cip_problem.specs.Points.{IsFeasible, cost_of}
+use Rattle.cip_problem.specs.Points.{IsFeasible}
 use Rattle.cip_problem.specs.Wholes.{assignments, AtMost}
 use Rattle.cip_problem.proofs.Box.SideTests.{sides_inside_holds}
 use Rattle.cip_linear.specs.Reduced.{IsRelaxed}

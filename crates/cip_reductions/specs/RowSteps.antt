@@ -1,5 +1,5 @@
 -- What steps of presolve find of a row, and what they put in its place.
-use Rattle.std.specs.Prelude.{◌≡◌, [], List, Option, None, Some, if◌then◌else◌}
+use Rattle.std.specs.Prelude.{◌≡◌, List, Option, None, Some, if◌then◌else◌}
 use Rattle.cip_rational.specs.Rational.{ℚ, ◌-ℚ◌, zeroℚ, lt_test, ◌≤ℚ◌}
 use Rattle.cip_problem.specs.Program.{Term, Sides, Row}
 use Rattle.cip_problem.specs.Activity.{activity}

@@ -1,5 +1,5 @@
 -- What the ends of a form's source say of its value.
-use Rattle.std.proofs.Common.{◌≡◌, ◌≤◌, ◌⊎◌, ℤ, true, false, Bool, true≢false, List, [], ◌∷◌, Option, None, Some, IfSome, IfOk, Result, Ok, Err, refl, sym, ap, ◌∙◌, subst, arith, inl, inr}
+use Rattle.std.proofs.Common.{◌≡◌, ◌≤◌, ℤ, true, false, Bool, true≢false, [], ◌∷◌, Option, None, Some, IfSome, Result, Ok, Err, refl, sym, ap, ◌∙◌, subst, arith}
 use Rattle.std.specs.Prelude.{pos, not, cond}
 use Rattle.cip_rational.specs.Rational.{ℚ, ◌+ℚ◌, ◌*ℚ◌, zeroℚ, negate, ◌≤ℚ◌, IsWhole, numerator, denominator}
 use Rattle.cip_rational.specs.Range.{fits_range, magnitude, largest, product_overflows}
@@ -14,7 +14,6 @@ use Rattle.cip_problem.proofs.Box.SideTests.{sides_inside_holds}
 use Rattle.cip_frac.specs.declared.operations.Wide.{Wide}
 use Rattle.cip_frac.specs.Outcomes.{and_then, sum_outcome, product_added}
 use Rattle.cip_frac.proofs.Outcomes.{product_added-value}
-use Rattle.cip_lin.specs.declared.outcomes.Least.{Least}
 use Rattle.cip_lin.specs.declared.outcomes.Least.TheVariants.{Value}
 use Rattle.cip_lin.specs.RowSums.{least_added, least_then, least_from}
 use Rattle.cip_lin.specs.MetSides.{is_past}
@@ -22,7 +21,7 @@ use Rattle.cip_steps.specs.Forms.{Form}
 use Rattle.cip_steps.specs.Equalities.{EndsAssign}
 use Rattle.cip_reductions.proofs.Equalities.{ends_assign}
 use Rattle.cip_steps.proofs.Enclosing.{least_sum_below}
-use Rattle.cip_steps.specs.FormEnds.{FormKeeps, IsLeastOf, IsGreatestOf, IsWholeInRange, FormAssigns}
+use Rattle.cip_steps.specs.FormEnds.{FormKeeps, IsLeastOf, IsGreatestOf, FormAssigns}
 
 -- a least value of a sum with one product
 least_one : (sum factor q v : ℚ) (own : Sides) → least_added sum factor own ≡ Value q → Between own.low own.high v → q ≤ℚ sum +ℚ factor *ℚ v

@@ -1,6 +1,6 @@
 -- Columns with equal sides.
 use Rattle.std.proofs.Common.{◌≡◌, ℕ, true, false, Bool, Option, None, Some, Ok, slice_get, refl, sym, ap, ◌∙◌, subst, true≢false}
-use Rattle.std.specs.Prelude.{◌&&◌, if◌then◌else◌}
+use Rattle.std.specs.Prelude.{if◌then◌else◌}
 use Rattle.std.proofs.lemmas.Option.{none-some}
 use Rattle.cip_rational.specs.Rational.{ℚ, ◌+ℚ◌, ◌*ℚ◌, zeroℚ, IsWhole, le_test}
 use Rattle.cip_rational.proofs.Rational.Order.{≤ℚ_antisymm, le_of_test}

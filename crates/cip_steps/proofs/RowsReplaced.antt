@@ -1,12 +1,12 @@
 -- A row with the form of a column in its place.
-use Rattle.std.proofs.Common.{◌≡◌, ℕ, ◌<◌, List, [], ◌∷◌, Option, Some, refl, sym, ap, ◌∙◌, subst, arith}
+use Rattle.std.proofs.Common.{◌≡◌, ℕ, ◌<◌, List, [], ◌∷◌, sym, ap, ◌∙◌, subst, arith}
 use Rattle.cip_rational.specs.Rational.{ℚ, ◌+ℚ◌, ◌*ℚ◌, zeroℚ, negate}
 use Rattle.cip_rational.proofs.Linear.{linear_same}
 use Rattle.cip_problem.specs.Program.{Term, Row}
 use Rattle.cip_problem.specs.Activity.{activity, value_at, StandsBelow}
 use Rattle.cip_steps.specs.Forms.{Form}
 use Rattle.cip_steps.specs.RowSteps.{side_less}
-use Rattle.cip_steps.specs.ColumnForms.{IsReplaced, IsReplacedIn}
+use Rattle.cip_steps.specs.ColumnForms.{IsReplacedIn}
 use Rattle.cip_steps.specs.PutTerms.{product_of, HasAll}
 
 pub other_way : (row new : Row) (first second : Term) (terms : List Term) → HasAll row second first terms new → HasAll row first second terms new

@@ -1,6 +1,5 @@
 -- The sides that the source of a form needs.
-use Rattle.std.proofs.Common.{◌≡◌, ℕ, zero, suc, ◌<◌, Bool, true, List, [], ◌∷◌, length, Option, None, Some, IfSome, slice_get, refl, sym, ap, ◌∙◌, subst, arith}
-use Rattle.std.specs.Prelude.{slice_set}
+use Rattle.std.proofs.Common.{◌≡◌, ℕ, ◌<◌, Bool, true, List, [], ◌∷◌, length, Some, IfSome, slice_get, sym, ap, ◌∙◌, subst, arith}
 use Rattle.cip_rational.specs.Rational.{ℚ, ◌+ℚ◌, ◌-ℚ◌, ◌*ℚ◌, zeroℚ, ◌≤ℚ◌, IsWhole}
 use Rattle.cip_rational.proofs.Linear.{linear_same}
 use Rattle.cip_problem.specs.Program.{Term, Sides, Row, Program}
@@ -11,7 +10,7 @@ use Rattle.cip_problem.specs.Points.{IsFeasible}
 use Rattle.cip_problem.proofs.Points.AtPlaces.{in_box_at, whole_at}
 use Rattle.cip_problem.proofs.Choices.Meeting.{between_met}
 use Rattle.cip_steps.specs.NarrowedPrograms.{with_sides}
-use Rattle.cip_steps.specs.Forms.{Form, form_value}
+use Rattle.cip_steps.specs.Forms.{Form}
 use Rattle.cip_steps.specs.RowSteps.{side_less}
 use Rattle.cip_reductions.proofs.Replacing.{sides_replaced}
 use Rattle.cip_reductions.proofs.RowSteps.{above_less, below_less, divided}

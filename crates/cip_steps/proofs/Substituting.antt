@@ -1,15 +1,15 @@
 -- Steps by an equality of two terms.
-use Rattle.std.proofs.Common.{◌≡◌, ◌≢◌, ℕ, zero, suc, ◌<◌, List, [], ◌∷◌, length, Option, None, Some, IfSome, Ok, slice_get, refl, sym, ap, ◌∙◌, subst, arith}
+use Rattle.std.proofs.Common.{◌≡◌, ◌≢◌, ℕ, zero, suc, ◌<◌, List, [], ◌∷◌, length, Some, Ok, slice_get, refl, sym, ap, ◌∙◌, subst, arith}
 use Rattle.std.specs.Prelude.{slice_set}
-use Rattle.std.proofs.lemmas.Option.{none-some, same_Some}
+use Rattle.std.proofs.lemmas.Option.{same_Some}
 use Rattle.cip_rational.specs.Rational.{ℚ, ◌+ℚ◌, ◌-ℚ◌, ◌*ℚ◌, zeroℚ, negate}
 use Rattle.cip_rational.specs.Sums.{dot}
 use Rattle.cip_rational.proofs.Rational.Ring.{zero-*ℚ, zero-+ℚ, +ℚ-zero, *ℚ-zero, *ℚ-add, add-*ℚ, *ℚ_assoc, negate-*ℚ}
 use Rattle.cip_rational.proofs.Linear.{linear_same}
-use Rattle.cip_problem.specs.Program.{Term, Sides, Row, Program}
+use Rattle.cip_problem.specs.Program.{Row, Program}
 use Rattle.cip_problem.specs.Activity.{activity, value_at, StandsBelow}
 use Rattle.cip_problem.specs.Box.{Between}
-use Rattle.cip_problem.specs.Points.{IsSatisfied, IsFeasible, cost_of}
+use Rattle.cip_problem.specs.Points.{IsSatisfied, IsFeasible}
 use Rattle.cip_problem.proofs.Points.AtPlaces.{satisfied_at}
 use Rattle.cip_frac.specs.Outcomes.{product_added}
 use Rattle.cip_frac.proofs.Outcomes.{product_added-value}
@@ -21,7 +21,7 @@ use Rattle.cip_reductions.proofs.Inside.{all_self}
 use Rattle.cip_reductions.proofs.Replacing.{row_replaced}
 use Rattle.cip_reductions.proofs.RowSteps.{less_above, less_below, above_less, below_less, get_set, get_other}
 use Rattle.cip_steps.proofs.Singled.{count_same}
-use Rattle.cip_steps.specs.ColumnForms.{GivesForm, RowGives, IsSubstitute, IsReplaced, IsReplacedIn}
+use Rattle.cip_steps.specs.ColumnForms.{RowGives, IsSubstitute, IsReplaced, IsReplacedIn}
 use Rattle.cip_steps.proofs.ImpliedSides.{stays}
 
 some_row : (rows : List Row) (number : ℕ) → number < length rows → (row : Row) × (slice_get rows number ≡ Some row)

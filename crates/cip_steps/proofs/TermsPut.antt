@@ -6,7 +6,7 @@ use Rattle.std.specs.List.{AllByRecursion}
 use Rattle.std.proofs.lemmas.Option.{none-some, same_Some, slice_get_read}
 use Rattle.std.proofs.Math.ListN.{get_or}
 use Rattle.cip_rational.specs.Rational.{ℚ, ◌+ℚ◌, ◌*ℚ◌, zeroℚ}
-use Rattle.cip_rational.proofs.Rational.Ring.{zero-*ℚ, +ℚ-zero, zero-+ℚ, add-*ℚ}
+use Rattle.cip_rational.proofs.Rational.Ring.{zero-*ℚ, +ℚ-zero, add-*ℚ}
 use Rattle.cip_rational.proofs.Linear.{linear_same}
 use Rattle.cip_problem.specs.Program.{Term, Row}
 use Rattle.cip_problem.specs.Activity.{activity, value_at, StandsBelow}

@@ -1,6 +1,6 @@
 -- Columns whose value is an affine form of another's wherever a row holds, and rows in which the form stands in the
 -- column's place.
-use Rattle.std.specs.Prelude.{◌≡◌, ◌≢◌, ℕ, ◌<◌, true, false, List, [], ◌∷◌, Option, Some, length, slice_get, refl}
+use Rattle.std.specs.Prelude.{◌≡◌, ◌≢◌, ℕ, ◌<◌, false, List, [], ◌∷◌, Some, length, slice_get, refl}
 use Rattle.std.specs.Coded.{Coded, code_by, coded×, coded_ℕ}
 use Rattle.cip_rational.specs.Rational.{ℚ, ◌+ℚ◌, ◌*ℚ◌, negate, zeroℚ, coded_ℚ}
 use Rattle.cip_problem.specs.Program.{Term, Row, Program}

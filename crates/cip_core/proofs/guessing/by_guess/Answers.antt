@@ -1,4 +1,4 @@
-use Rattle.std.proofs.Common.{List, map, length, ap, ◌∙◌}
+use Rattle.std.proofs.Common.{map, length, ap, ◌∙◌}
 use Rattle.std.specs.Borrow.{Bor}
 use Rattle.cip_problem.specs.Program.{Row}
 use Rattle.cip_cert.specs.Lent.{Lent}

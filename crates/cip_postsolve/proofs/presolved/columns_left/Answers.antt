@@ -1,5 +1,5 @@
-use Rattle.std.proofs.Common.{◌≡◌, rules, List, []}
-use Rattle.cip_problem.specs.Program.{Program, Row}
+use Rattle.std.proofs.Common.{◌≡◌, rules}
+use Rattle.cip_problem.specs.Program.{Program}
 use Rattle.cip_postsolve.specs.LeftProgram.{left_columns}
 use Rattle.cip_postsolve.proofs.presolved.columns_left.Goals as goal
 

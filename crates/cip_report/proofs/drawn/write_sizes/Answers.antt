@@ -1,7 +1,6 @@
-use Rattle.std.proofs.Common.{◌≡◌, ◌∷◌, ◌++◌, List, ℕ, sym, subst, append_assoc}
+use Rattle.std.proofs.Common.{◌∷◌, ◌++◌}
 use lib.Chars.{codes}
 use Rattle.cip_rational.specs.NumberText.{natural_text}
-use Rattle.cip_report.specs.Writing.{Writes}
 use Rattle.cip_report.proofs.WritingLemmas.{first_of_three, second_of_three, third_of_three}
 use Rattle.cip_report.proofs.SelfLines.{sizes_parts}
 use Rattle.cip_report.proofs.drawn.write_sizes.Goals as goal

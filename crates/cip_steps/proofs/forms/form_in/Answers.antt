@@ -1,4 +1,4 @@
-use Rattle.std.proofs.Common.{◌≡◌, sym, ap, ◌∙◌}
+use Rattle.std.proofs.Common.{sym, ap, ◌∙◌}
 use Rattle.cip_steps.specs.declared.forms.TwoTerms.{TwoTerms}
 use Rattle.cip_steps.proofs.FormsOfRows.{first_given, second_given}
 use Rattle.cip_steps.proofs.forms.form_in.Goals as goal

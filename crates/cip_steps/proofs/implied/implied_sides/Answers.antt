@@ -1,6 +1,6 @@
 use Rattle.std.proofs.Common.{◌≡◌, IfSome, ap, subst}
 use Rattle.cip_problem.specs.Program.{Sides}
-use Rattle.cip_steps.specs.Rests.{IsDifference, IsRestBelow, IsRestAbove, Implies}
+use Rattle.cip_steps.specs.Rests.{IsDifference}
 use Rattle.cip_steps.proofs.ImpliedSides.{implied_all}
 use Rattle.cip_steps.proofs.implied.implied_sides.Goals as goal
 

@@ -1,4 +1,4 @@
-use Rattle.std.proofs.Common.{◌≡◌, List, refl, sym, ap, ◌∙◌, subst}
+use Rattle.std.proofs.Common.{◌≡◌, List, refl, ap, ◌∙◌, subst}
 use Rattle.cip_rational.specs.Rational.{◌*ℚ◌}
 use Rattle.cip_problem.specs.Program.{Term, Row}
 use Rattle.cip_steps.specs.Forms.{Form}

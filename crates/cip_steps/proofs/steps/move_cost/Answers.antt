@@ -1,5 +1,4 @@
-use Rattle.std.proofs.Common.{◌≡◌, Ok, sym, ap, ◌∙◌, subst}
-use Rattle.cip_rational.specs.Rational.{ℚ}
+use Rattle.std.proofs.Common.{◌≡◌, Ok, ap, ◌∙◌, subst}
 use Rattle.cip_problem.specs.Activity.{value_at}
 use Rattle.cip_frac.specs.Outcomes.{product_added}
 use Rattle.cip_steps.specs.NarrowedPrograms.{with_cost}

@@ -1,4 +1,4 @@
-use Rattle.std.proofs.Common.{◌≡◌, ◌≢◌, Err, ap, subst, sym}
+use Rattle.std.proofs.Common.{Err, ap, subst}
 use Rattle.cip_postsolve.specs.PostsolveFaults.{IsPostsolveFault}
 use Rattle.cip_core.specs.CoreStates.{CoreState}
 use Rattle.cip_core.proofs.OfferedBack.{tried_past}
