@@ -25,7 +25,7 @@ SIZES = [(2, 3), (2, 6), (3, 6), (3, 9), (4, 8), (5, 10), (6, 10), (8, 12)]
 SEEDS = 10
 USES = "cip_lp cip_blocks cip_price cip_master cip_simplex " \
     "cip_bland cip_lagrange cip_columns cip_cert cip_model cip_lin " \
-    "cip_frac cip_pricing cip_linear cip_problem cip_rational anyhow"
+    "cip_frac cip_pricing cip_problem cip_rational anyhow"
 
 
 def build(folder):

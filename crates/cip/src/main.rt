@@ -2,8 +2,8 @@
 //! plugins.
 #![tactic(auto)]
 
-use cip_builtins::{Plain, Words, run_with_builtins, say};
 use cip_io::{HostSink, HostStore};
+use cip_main::{Plain, Words, run_with_builtins, say};
 use std::process::ExitCode;
 use std::{env, io};
 

@@ -7,7 +7,7 @@ use Rattle.cip_rational.proofs.Rational.Ring.{zero-+ℚ}
 use Rattle.cip_problem.specs.Program.{Sides, Row}
 use Rattle.cip_problem.specs.Box.{IsInBox}
 use Rattle.cip_problem.specs.Points.{IsSatisfied}
-use Rattle.cip_linear.specs.LinearProgram.{IsPoint, HasNoPoint, CostsAtLeast, IsOptimal}
+use Rattle.cip_problem.specs.LinearProgram.{IsPoint, HasNoPoint, CostsAtLeast, IsOptimal}
 use Rattle.cip_frac.specs.Outcomes.{dot_from}
 use Rattle.cip_frac.proofs.Outcomes.{dot_from-value}
 use Rattle.cip_cert.specs.declared.rows.PoolRow.{PoolRow}

@@ -13,7 +13,7 @@ use Rattle.cip_problem.proofs.Box.SideTests.{between_of_test}
 use Rattle.cip_frac.specs.declared.operations.Wide.{Wide}
 use Rattle.cip_lin.specs.RowSums.{activity_from}
 use Rattle.cip_lin.proofs.RowSums.ActivityValue.{activity_from-zero}
-use Rattle.cip_linear.specs.LinearProgram.{IsPoint}
+use Rattle.cip_problem.specs.LinearProgram.{IsPoint}
 use Rattle.cip_basis.specs.declared.problem.Problem.{Problem}
 use Rattle.cip_cert.specs.declared.rows.PoolRow.{PoolRow}
 use Rattle.cip_cert.specs.Lent.{KeptFits}

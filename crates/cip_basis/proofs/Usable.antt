@@ -5,7 +5,7 @@ use Rattle.std.proofs.lemmas.List.Kept.{AllPairs-filter}
 use Rattle.cip_rational.specs.Rational.{ℚ}
 use Rattle.cip_problem.specs.Program.{Sides}
 use Rattle.cip_problem.specs.Box.{box_inside}
-use Rattle.cip_linear.specs.Aggregate.{Inequality}
+use Rattle.cip_problem.specs.Aggregate.{Inequality}
 use Rattle.cip_lin.specs.declared.combos.RowId.{RowId}
 use Rattle.cip_lin.specs.declared.combos.RowId.TheVariants.{Own, Pool, Cutoff}
 use Rattle.cip_lin.specs.declared.combos.RowMultiple.{RowMultiple}
@@ -14,7 +14,7 @@ use Rattle.cip_cert.specs.declared.faults.CutFault.{CutFault}
 use Rattle.cip_cert.specs.Pool.{pool_row}
 use Rattle.cip_cert.specs.Lent.{Lent, KeptFits, Fits, Multiples, count_of}
 use Rattle.cip_cert.specs.Checks.{chain, named_row, in_scope, row_part, add_part, add_row, add_rows, add_lows, add_highs, nothing, aggregate_of, bound_from, rests_from, lower_bound_of, rests_of, positive, emptied}
-use Rattle.cip_row_rules.specs.RowRules.{most_multiples}
+use Rattle.cip_node_rules.specs.RowRules.{most_multiples}
 use Rattle.cip_rows.specs.RowPools.{usable_in}
 
 -- those of the rows that are lent that may be used in a box

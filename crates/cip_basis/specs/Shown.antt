@@ -2,7 +2,7 @@
 use Rattle.std.specs.Prelude.{◌≡◌, List, ◌++◌, map, length, None}
 use Rattle.std.specs.Borrow.{Bor}
 use Rattle.cip_problem.specs.Program.{Sides, Row}
-use Rattle.cip_linear.specs.LinearProgram.{LinearProgram, HasNoPoint, CostsAtLeast, IsOptimal}
+use Rattle.cip_problem.specs.LinearProgram.{LinearProgram, HasNoPoint, CostsAtLeast, IsOptimal}
 use Rattle.cip_cert.specs.declared.rows.PoolRow.{PoolRow}
 use Rattle.cip_cert.specs.Lent.{Lent, Fits}
 use Rattle.cip_rows.specs.RowPools.{usable_in}

@@ -1,6 +1,6 @@
 //! The checks of what a basis shows.
 ghost use Rattle.std.specs.Prelude.{◌≡◌, ◌≤◌, true, length, IfSome};
-ghost use Rattle.cip_linear.specs.LinearProgram.{IsPoint, IsOptimal, HasNoPoint, CostsAtLeast};
+ghost use Rattle.cip_problem.specs.LinearProgram.{IsPoint, IsOptimal, HasNoPoint, CostsAtLeast};
 ghost use Rattle.cip_basis.specs.Shown.{IsReady, program_of};
 
 use crate::problem::Problem;

@@ -1,7 +1,7 @@
 //! A point of a linear program whose optimum isn't shown.
 ghost use Rattle.std.specs.Prelude.{◌≡◌, ◌≤◌, length, IfOk, IfSome};
 ghost use Rattle.cip_rational.specs.Sums.{dot};
-ghost use Rattle.cip_linear.specs.LinearProgram.{IsPoint};
+ghost use Rattle.cip_problem.specs.LinearProgram.{IsPoint};
 ghost use Rattle.cip_basis.specs.Shown.{IsReady, program_of};
 
 use crate::Length;

@@ -1,6 +1,6 @@
 //! What is shown of a linear program.
 ghost use Rattle.std.specs.Prelude.{◌≡◌, ◌≤◌, length, IfOk, IfSome};
-ghost use Rattle.cip_linear.specs.LinearProgram.{IsPoint};
+ghost use Rattle.cip_problem.specs.LinearProgram.{IsPoint};
 ghost use Rattle.cip_basis.specs.Shown.{IsReady, IsShown, program_of};
 
 use crate::basis::Basis;

@@ -4,7 +4,7 @@ ghost use Rattle.cip_rational.specs.Rational.{zeroℚ};
 ghost use Rattle.cip_frac.specs.Outcomes.{dot_from};
 ghost use Rattle.cip_lin.specs.RowSums.{activity_from};
 ghost use Rattle.cip_problem.specs.Activity.{StandsBelow};
-ghost use Rattle.cip_linear.specs.LinearProgram.{IsPoint};
+ghost use Rattle.cip_problem.specs.LinearProgram.{IsPoint};
 ghost use Rattle.cip_basis.specs.PointTests.{keeps_box, keeps_rows, is_within};
 ghost use Rattle.cip_basis.specs.Shown.{IsReady, program_of, lent_rows};
 

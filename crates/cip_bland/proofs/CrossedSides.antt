@@ -9,13 +9,13 @@ use Rattle.cip_rational.proofs.Linear.{linear_lt, linear_same}
 use Rattle.cip_bland.specs.Program.{Term, Sides, no_row}
 use Rattle.cip_bland.specs.Activity.{activity, value_at}
 use Rattle.cip_bland.specs.Box.{Between, sides_at}
-use Rattle.cip_linear.proofs.PassedOn.{in_box_at, satisfied_at}
+use Rattle.cip_problem.proofs.PassedOn.{in_box_at, satisfied_at}
 use Rattle.cip_bland.specs.LinearProgram.{LinearProgram}
 use Rattle.cip_bland.specs.Aggregate.{Part, table, coefficient_on, combined, aggregate, bound_of, Empties}
 use Rattle.cip_bland.specs.Multipliers.{Of_row, Of_column, ArePartsOf, column_part, row_sides}
-use Rattle.cip_linear.proofs.Parts.{used_low, used_high}
-use Rattle.cip_linear.proofs.Aggregates.{length-table, listed, table_listed}
-use Rattle.cip_linear.proofs.Certificates.{bound_of_same}
+use Rattle.cip_problem.proofs.Parts.{used_low, used_high}
+use Rattle.cip_problem.proofs.Aggregates.{length-table, listed, table_listed}
+use Rattle.cip_problem.proofs.Certificates.{bound_of_same}
 use Rattle.cip_bland.specs.Dictionary.{Dictionary, size}
 use Rattle.cip_bland.specs.ProgramState.{first_of_program}
 use Rattle.cip_bland.specs.Rule.{sides_cross, is_crossed}

@@ -6,8 +6,8 @@ use Rattle.cip_rational.proofs.Rational.Inverse.{inverse_unique}
 use Rattle.cip_rational.proofs.Rational.Ratio.{ratio-add, ratio-mul, ratio_same, ratio-negate, integer_ratio}
 use Rattle.cip_rational.proofs.Linear.{linear_same}
 use Rattle.cip_rational.proofs.Tried as tried
-use Rattle.cip_linear.specs.Program.{Sides}
-use Rattle.cip_linear.specs.Box.{sides_at}
+use Rattle.cip_problem.specs.Program.{Sides}
+use Rattle.cip_problem.specs.Box.{sides_at}
 use Rattle.cip_bland.specs.Dictionary.{Dictionary, size, stand, is_basic, entry, cost_entry, value, standing_value, Stands}
 use Rattle.cip_bland.specs.Exchange.{pivot, entering, step, CanExchange}
 use Rattle.cip_bland.specs.Operations.{first_overflow, value_place}

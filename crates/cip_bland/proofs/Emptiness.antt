@@ -12,8 +12,8 @@ use Rattle.cip_bland.specs.BoxBound.{sum_if_both, least_costs}
 use Rattle.cip_bland.specs.LinearProgram.{LinearProgram, IsProper}
 use Rattle.cip_bland.specs.Aggregate.{Inequality, aggregate, differences, bound_of}
 use Rattle.cip_bland.specs.Multipliers.{paired, IsUsed}
-use Rattle.cip_linear.proofs.Aggregates.{length-table}
-use Rattle.cip_linear.proofs.Certificates.{combination_bound, certified_empty}
+use Rattle.cip_problem.proofs.Aggregates.{length-table}
+use Rattle.cip_problem.proofs.Certificates.{combination_bound, certified_empty}
 use Rattle.cip_bland.specs.Tables.{total, form}
 use Rattle.cip_bland.specs.Dictionary.{Dictionary, size, is_basic, entry, value, Solves, IsConsistent}
 use Rattle.cip_bland.specs.ProgramState.{first_of_program}

@@ -4,8 +4,8 @@ use Rattle.std.proofs.lemmas.Bool.{lt-ltb, le-ltb, cases_lt, true≢false}
 use Rattle.std.proofs.lemmas.List.{get_or_append_left}
 use Rattle.cip_rational.specs.Rational.{ℚ, ◌+ℚ◌, ◌*ℚ◌, zeroℚ}
 use Rattle.cip_rational.proofs.Rational.Ring.{zero-*ℚ, +ℚ-zero}
-use Rattle.cip_linear.specs.Activity.{value_at}
-use Rattle.cip_linear.specs.Box.{sides_at, no_sides}
+use Rattle.cip_problem.specs.Activity.{value_at}
+use Rattle.cip_problem.specs.Box.{sides_at, no_sides}
 use Rattle.cip_bland.specs.Tables.{table, form}
 use Rattle.cip_bland.specs.Dictionary.{size, stand, is_basic, entry, cost_entry, value, CanStand, Solves, Stands, IsConsistent}
 use Rattle.cip_bland.specs.FirstState.{System, stand_with, first_stand, first_value, columns_of, variables_of, is_column, row_number, on_columns, first, AreActivities, extended}

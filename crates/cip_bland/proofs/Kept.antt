@@ -5,8 +5,8 @@ use Rattle.cip_rational.specs.Rational.{ℚ, ◌+ℚ◌, ◌-ℚ◌, ◌*ℚ◌,
 use Rattle.cip_rational.proofs.Rational.Ring.{+ℚ-zero, *ℚ_assoc, *ℚ_comm, one-*ℚ, *ℚ-zero, sub_self}
 use Rattle.cip_rational.proofs.Rational.Inverse.{*ℚ-inverse}
 use Rattle.cip_rational.proofs.Linear.{linear_same}
-use Rattle.cip_linear.specs.Program.{Sides}
-use Rattle.cip_linear.specs.Box.{sides_at}
+use Rattle.cip_problem.specs.Program.{Sides}
+use Rattle.cip_problem.specs.Box.{sides_at}
 use Rattle.cip_bland.specs.Tables.{form}
 use Rattle.cip_bland.specs.Dictionary.{Dictionary, size, stand, is_basic, entry, cost_entry, value, standing_value, CanStand, Solves, Stands, IsConsistent}
 use Rattle.cip_bland.specs.Exchange.{is_absent, moved, moved_cost, pivot, entering, exchanged_row, step, exchanged, CanExchange, other_stand, way, flipped, CanFlip}

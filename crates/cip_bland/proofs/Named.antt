@@ -12,7 +12,7 @@ use Rattle.cip_bland.specs.Box.{sides_at}
 use Rattle.cip_bland.specs.LinearProgram.{LinearProgram}
 use Rattle.cip_bland.specs.Aggregate.{Part, used_side}
 use Rattle.cip_bland.specs.Multipliers.{IsUsed, row_sides, row_parts, column_part, low_parts, high_parts, combination}
-use Rattle.cip_linear.proofs.Parts.{used_low, used_high}
+use Rattle.cip_problem.proofs.Parts.{used_low, used_high}
 use Rattle.cip_bland.specs.Tables.{table, each}
 use Rattle.cip_bland.proofs.Tables.{length-table, at_table}
 use Rattle.cip_bland.proofs.Zeros.{zero_of, nonzero_of}

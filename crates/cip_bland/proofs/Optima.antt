@@ -5,7 +5,7 @@ use Rattle.cip_bland.specs.Box.{sides_at}
 use Rattle.cip_bland.specs.LinearProgram.{LinearProgram, IsProper, IsOptimal}
 use Rattle.cip_bland.specs.Aggregate.{aggregate, bound_of}
 use Rattle.cip_bland.specs.Multipliers.{ArePartsOf, paired, IsUsed, SumsTo}
-use Rattle.cip_linear.proofs.Certificates.{combination_parts, combination_bound, certified_optimal}
+use Rattle.cip_problem.proofs.Certificates.{combination_parts, combination_bound, certified_optimal}
 use Rattle.cip_bland.specs.Tables.{form}
 use Rattle.cip_bland.specs.Dictionary.{Dictionary, size, cost_entry, value}
 use Rattle.cip_bland.specs.Rule.{is_crossed, is_outside, improves}

@@ -7,10 +7,10 @@ use Rattle.std.proofs.lemmas.Option.{none-some, same_Some}
 use Rattle.cip_rational.specs.Rational.{ℚ, ◌+ℚ◌, ◌*ℚ◌, zeroℚ}
 use Rattle.cip_rational.specs.Sums.{dot}
 use Rattle.cip_rational.proofs.Rational.Ring.{+ℚ-zero, zero-+ℚ, zero-*ℚ, add-*ℚ, +ℚ_assoc}
-use Rattle.cip_linear.specs.Program.{Term, Row}
-use Rattle.cip_linear.specs.Activity.{activity, value_at, StandsBelow}
-use Rattle.cip_linear.specs.LinearProgram.{LinearProgram, IsProper}
-use Rattle.cip_linear.specs.Aggregate.{coefficient_on}
+use Rattle.cip_problem.specs.Program.{Term, Row}
+use Rattle.cip_problem.specs.Activity.{activity, value_at, StandsBelow}
+use Rattle.cip_problem.specs.LinearProgram.{LinearProgram, IsProper}
+use Rattle.cip_problem.specs.Aggregate.{coefficient_on}
 use Rattle.cip_bland.specs.Tables.{total, form}
 use Rattle.cip_bland.specs.ProgramState.{terms_at, TellsProgram}
 use Rattle.cip_bland.proofs.Tables.{total_same, total_zero, total-add, total-only, only, only_there}

@@ -3,7 +3,7 @@ use Rattle.std.proofs.Common.{◌≡◌, ℕ, ◌<◌, Bool, true, false, not, �
 use Rattle.std.proofs.lemmas.Bool.{true≢false}
 use Rattle.cip_rational.specs.Rational.{ℚ, zeroℚ}
 use Rattle.cip_bland.specs.Box.{Between, sides_at, is_between}
-use Rattle.cip_linear.proofs.PassedOn.{between_of_test}
+use Rattle.cip_problem.proofs.PassedOn.{between_of_test}
 use Rattle.cip_bland.specs.LinearProgram.{LinearProgram, IsProper, IsPoint}
 use Rattle.cip_bland.specs.Multipliers.{IsUsed}
 use Rattle.cip_bland.specs.Tables.{table, form}

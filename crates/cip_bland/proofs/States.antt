@@ -2,7 +2,7 @@
 use Rattle.std.proofs.Common.{◌≡◌, ℕ, ◌<◌, ◌==◌, true, [], get_or, None, Some, refl, ap, ◌∙◌}
 use Rattle.std.proofs.lemmas.Bool.{eq-eqb, ne_eqb}
 use Rattle.cip_rational.specs.Rational.{zeroℚ}
-use Rattle.cip_linear.specs.Activity.{value_at}
+use Rattle.cip_problem.specs.Activity.{value_at}
 use Rattle.cip_bland.specs.Tables.{table}
 use Rattle.cip_bland.specs.Dictionary.{Dictionary, size, stand, is_basic, entry, cost_entry, value}
 use Rattle.cip_bland.specs.Exchange.{moved, moved_cost, entering, exchanged_row, step, exchanged_stand, exchanged_rows, exchanged, other_stand, way, flipped_stand, flipped}

@@ -5,7 +5,7 @@ use Rattle.std.proofs.lemmas.List.FromFn.{get_or-map-range_with_len, fill_by_all
 use Rattle.cip_rational.specs.Rational.{ℚ, ◌+ℚ◌, ◌-ℚ◌, ◌*ℚ◌, zeroℚ}
 use Rattle.cip_rational.proofs.Rational.Ring.{+ℚ-zero, zero-+ℚ, *ℚ-zero}
 use Rattle.cip_rational.proofs.Linear.{linear_same}
-pub use Rattle.cip_linear.proofs.Aggregates.{length-table}
+pub use Rattle.cip_problem.proofs.Aggregates.{length-table}
 use Rattle.cip_bland.specs.Tables.{table, total, form}
 
 pub at_table : {X : Type 0} (n : ℕ) (f : ℕ → X) (k : ℕ) (d : X) → k < n → get_or (table n f) k d ≡ f k

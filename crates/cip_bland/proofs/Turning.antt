@@ -6,7 +6,7 @@ use Rattle.cip_rational.specs.Rational.{◌*ℚ◌, zeroℚ, ◌≤ℚ◌, ◌<�
 use Rattle.cip_rational.proofs.Rational.Ring.{zero-*ℚ}
 use Rattle.cip_rational.proofs.Rational.Order.{≤ℚ_refl, ≤ℚ_trans, ≤ℚ_antisymm, <ℚ_irrefl}
 use Rattle.cip_bland.specs.Box.{Between, sides_at}
-use Rattle.cip_linear.proofs.PassedOn.{test_of_between}
+use Rattle.cip_problem.proofs.PassedOn.{test_of_between}
 use Rattle.cip_bland.specs.LinearProgram.{LinearProgram, IsProper}
 use Rattle.cip_bland.specs.Dictionary.{Dictionary, size, stand, is_basic, entry, cost_entry, value}
 use Rattle.cip_bland.specs.Exchange.{exchanged, after, CanExchange}

@@ -3,9 +3,9 @@
 -- none; each basic variable and the cost are linear forms of the others, and all have values.
 use Rattle.std.specs.Prelude.{◌≡◌, ℕ, ◌<◌, Bool, true, is_some, not, List, [], length, Option, None, Some, slice_index_or, unwrap_or}
 use Rattle.cip_rational.specs.Rational.{ℚ, zeroℚ}
-use Rattle.cip_linear.specs.Program.{Sides}
-use Rattle.cip_linear.specs.Activity.{value_at}
-use Rattle.cip_linear.specs.Box.{sides_at}
+use Rattle.cip_problem.specs.Program.{Sides}
+use Rattle.cip_problem.specs.Activity.{value_at}
+use Rattle.cip_problem.specs.Box.{sides_at}
 use Rattle.cip_bland.specs.Tables.{form}
 use Rattle.cip_bland.specs.declared.moves.Stand.{Stand}
 use Rattle.cip_bland.specs.declared.moves.Stand.TheVariants.{Low, High, Zero}

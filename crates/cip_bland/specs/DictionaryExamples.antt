@@ -1,7 +1,7 @@
 -- The definitions tried on a program of two columns and one row, and on one of which a value overflows.
 use Rattle.std.specs.Prelude.{◌≡◌, ℕ, ◌==◌, ◌^◌, pos, negsuc, [], ◌∷◌, None, Some, if◌then◌else◌}
 use Rattle.cip_rational.specs.Rational.{ℚ, zeroℚ, oneℚ, integer, ratio}
-use Rattle.cip_linear.specs.Program.{Sides}
+use Rattle.cip_problem.specs.Program.{Sides}
 use Rattle.cip_bland.specs.Dictionary.{Dictionary, entry, cost_entry, value, stand}
 use Rattle.cip_bland.specs.Exchange.{exchanged}
 use Rattle.cip_bland.specs.Operations.{first_overflow, value_place}

@@ -6,7 +6,7 @@ use Rattle.cip_bland.specs.Dictionary.{Dictionary, size, cost_entry, Solves, IsC
 use Rattle.cip_bland.specs.Exchange.{exchanged, CanExchange, flipped, CanFlip}
 use Rattle.cip_bland.specs.FirstState.{System, columns_of, variables_of, first, AreActivities, extended}
 use Rattle.cip_bland.specs.ProgramState.{TellsProgram}
-use Rattle.cip_linear.specs.LinearProgram.{LinearProgram, IsProper}
+use Rattle.cip_problem.specs.LinearProgram.{LinearProgram, IsProper}
 use Rattle.cip_bland.specs.declared.moves.Stand.{Stand}
 
 -- a state is consistent, and has the solutions and the cost of the state before

@@ -2,7 +2,7 @@
 -- is flipped to its other side.
 use Rattle.std.specs.Prelude.{◌≡◌, ◌≢◌, ℕ, ◌<◌, ◌==◌, Bool, true, false, ◌||◌, List, [], Option, None, Some, is_some, if◌then◌else◌}
 use Rattle.cip_rational.specs.Rational.{ℚ, ◌+ℚ◌, ◌-ℚ◌, ◌*ℚ◌, zeroℚ, negate, inverse}
-use Rattle.cip_linear.specs.Box.{sides_at}
+use Rattle.cip_problem.specs.Box.{sides_at}
 use Rattle.cip_bland.specs.Tables.{table}
 use Rattle.cip_bland.specs.Dictionary.{Dictionary, size, stand, is_basic, entry, cost_entry, value, standing_value, CanStand}
 use Rattle.cip_bland.specs.declared.moves.Stand.{Stand}

@@ -3,9 +3,9 @@
 -- the costs.
 use Rattle.std.specs.Prelude.{◌≡◌, ℕ, ◌+◌, ◌-◌, ◌<◌, Bool, nat_lt, List, [], ◌++◌, length, Option, None, Some, if◌then◌else◌}
 use Rattle.cip_rational.specs.Rational.{ℚ, zeroℚ}
-use Rattle.cip_linear.specs.Program.{Sides}
-use Rattle.cip_linear.specs.Activity.{value_at}
-use Rattle.cip_linear.specs.Box.{sides_at}
+use Rattle.cip_problem.specs.Program.{Sides}
+use Rattle.cip_problem.specs.Activity.{value_at}
+use Rattle.cip_problem.specs.Box.{sides_at}
 use Rattle.cip_bland.specs.Tables.{table, each, form}
 use Rattle.cip_bland.specs.Dictionary.{Dictionary, standing_value}
 use Rattle.cip_bland.specs.Operations.{Placed, value_place, sum_at}

@@ -4,7 +4,7 @@
 -- basic variables, by rising number; and the cost. (1 over a number never overflows.)
 use Rattle.std.specs.Prelude.{ℕ, ◌==◌, Bool, true, false, ◌&&◌, not, List, [], ◌∷◌, ◌++◌, Option, None, Some, if◌then◌else◌}
 use Rattle.cip_rational.specs.Rational.{ℚ, negate}
-use Rattle.cip_linear.specs.Box.{sides_at}
+use Rattle.cip_problem.specs.Box.{sides_at}
 use Rattle.cip_bland.specs.Tables.{each, least}
 use Rattle.cip_bland.specs.Dictionary.{Dictionary, size, stand, is_basic, entry, cost_entry, value, standing_value}
 use Rattle.cip_bland.specs.Exchange.{is_absent, pivot, entering, distance, step, other_stand, way}

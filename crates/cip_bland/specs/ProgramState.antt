@@ -2,11 +2,11 @@
 use Rattle.std.specs.Prelude.{◌≡◌, ℕ, List, length, map, Some, slice_get, slice_index_or}
 use Rattle.cip_rational.specs.Rational.{ℚ}
 use Rattle.cip_rational.specs.Sums.{dot}
-use Rattle.cip_linear.specs.Program.{Term, Row, no_row}
-use Rattle.cip_linear.specs.Activity.{activity, value_at}
-use Rattle.cip_linear.specs.LinearProgram.{LinearProgram}
-use Rattle.cip_linear.specs.Aggregate.{coefficient_on}
-use Rattle.cip_linear.specs.Multipliers.{row_sides}
+use Rattle.cip_problem.specs.Program.{Term, Row, no_row}
+use Rattle.cip_problem.specs.Activity.{activity, value_at}
+use Rattle.cip_problem.specs.LinearProgram.{LinearProgram}
+use Rattle.cip_problem.specs.Aggregate.{coefficient_on}
+use Rattle.cip_problem.specs.Multipliers.{row_sides}
 use Rattle.cip_bland.specs.Tables.{form}
 use Rattle.cip_bland.specs.Dictionary.{Dictionary}
 use Rattle.cip_bland.specs.FirstState.{System, first}

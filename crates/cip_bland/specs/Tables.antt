@@ -6,7 +6,7 @@
 --     least n test    the least number below n that passes a test
 use Rattle.std.specs.Prelude.{ℕ, zero, suc, Bool, List, [], ◌++◌, Option, None, Some, if◌then◌else◌}
 use Rattle.cip_rational.specs.Rational.{ℚ, ◌+ℚ◌, ◌*ℚ◌, zeroℚ}
-unfoldable pub use Rattle.cip_linear.specs.Aggregate.{table}
+unfoldable pub use Rattle.cip_problem.specs.Aggregate.{table}
 
 -- the lists f 0, f 1, .., f (n - 1), one after another
 abbrev pub each : {X : Type 0} → ℕ → (ℕ → List X) → List X

@@ -1,7 +1,7 @@
 -- What is told of a text of blocks.
 use Rattle.std.proofs.Common.{List, ℕ, Result, Ok, Err, MatchResult, IfOk}
 use Rattle.cip_problem.specs.Program.{Program}
-use Rattle.cip_line_texts.specs.LineTexts.{HasResult}
+use Rattle.cip_text_rules.specs.LineTexts.{HasResult}
 use Rattle.cip_text.specs.EndedFaults.{IsKnownFault}
 use Rattle.cip_text.specs.TextFaults.{IsToldBy}
 use Rattle.cip_text.specs.PieceReaders.{IsFed}
@@ -9,8 +9,8 @@ use Rattle.cip_text.specs.declared.text_faults.ReadFault.{ReadFault}
 use Rattle.cip_text.specs.declared.text_faults.ReadFault.TheVariants.{Faulty, NoMemory}
 use Rattle.cip_problem.specs.BlockParts.{Blocks}
 use Rattle.cip_problem.specs.BlockMeaning.{AreBlocks}
-use Rattle.cip_block_rules.specs.BlockStatements.{BlocksAreApart}
-use Rattle.cip_block_rules.specs.BlockRules.{block_reading}
+use Rattle.cip_text_rules.specs.BlockStatements.{BlocksAreApart}
+use Rattle.cip_text_rules.specs.BlockRules.{block_reading}
 use Rattle.cip_blocks.specs.declared.kinds.BlockKind.{BlockKind}
 use Rattle.cip_blocks.specs.BlockKindTexts.{kind_number}
 use Rattle.cip_blocks.specs.EndedBlocks.{IsFaultOf}

@@ -6,13 +6,13 @@ use Rattle.std.proofs.lemmas.Bool.{ltb-true, eqb-true, eq-eqb}
 use Rattle.cip_problem.specs.Program.{Sides, Row, Program}
 use Rattle.cip_problem.specs.Box.{sides_at}
 use Rattle.cip_problem.specs.WellFormed.{IsWellFormed, columns}
-use Rattle.cip_mps_rules.specs.MpsRules.{Rule, rule, least}
-use Rattle.cip_mps_rules.proofs.Quiet.{kept}
+use Rattle.cip_text_rules.specs.MpsRules.{Rule, rule, least}
+use Rattle.cip_text_rules.proofs.Quiet.{kept}
 use Rattle.cip_problem.specs.BlockParts.{numbers_from, is_block, rows_where, stands_on, has_entry, is_column_of, blocks_with, is_linking, is_bounded, is_open, block_part, blocks_of, grouped, parts_of, blocks_by}
-use Rattle.cip_block_rules.specs.BlockRules.{lacks_zero, lacks_count, lacks_number}
-use Rattle.cip_block_rules.specs.BlockWords as text
-use Rattle.cip_block_rules.specs.BlockSteps as steps
-use Rattle.cip_block_rules.specs.BlockOwners.{Owners, owners_of, OwnersTell, OwnersAreRight}
+use Rattle.cip_text_rules.specs.BlockRules.{lacks_zero, lacks_count, lacks_number}
+use Rattle.cip_text_rules.specs.BlockWords as text
+use Rattle.cip_text_rules.specs.BlockSteps as steps
+use Rattle.cip_text_rules.specs.BlockOwners.{Owners, owners_of, OwnersTell, OwnersAreRight}
 use Rattle.cip_blocks.specs.declared.word_places.RowPlace.{RowPlace}
 use Rattle.cip_blocks.specs.declared.word_places.RowPlace.TheVariants.{Unnamed, Named}
 use Rattle.cip_blocks.specs.WordPlaces.{row_shown, block_of, is_below}

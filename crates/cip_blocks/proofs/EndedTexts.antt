@@ -1,15 +1,15 @@
 -- What a text of blocks comes to, as `end` answers it.
 use Rattle.std.proofs.Common.{◌≡◌, ℕ, List, Option, Result, Ok, Err, MatchResult, refl, sym, ap, subst, ◌∙◌}
 use Rattle.cip_problem.specs.Program.{Program}
-use Rattle.cip_line_texts.specs.LineTexts.{Means, outcome_of, HasResult}
-use Rattle.cip_line_texts.specs.LineStream.{stream_of, TextsAreRead}
+use Rattle.cip_text_rules.specs.LineTexts.{Means, outcome_of, HasResult}
+use Rattle.cip_text_rules.specs.LineStream.{stream_of, TextsAreRead}
 use Rattle.cip_text.specs.declared.faults.KnownFault.{KnownFault}
 use Rattle.cip_text.specs.PieceCuts.{Cut, end_fault}
 use Rattle.cip_text.specs.PieceStands.{StandsAt, IsLastRead, outcome_with}
 use Rattle.cip_text.proofs.Streams.{ends_with}
 use Rattle.cip_problem.specs.BlockParts.{Blocks}
-use Rattle.cip_block_rules.specs.BlockRules.{block_reading}
-use Rattle.cip_block_rules.specs.BlockSteps.{BlockState, block_steps}
+use Rattle.cip_text_rules.specs.BlockRules.{block_reading}
+use Rattle.cip_text_rules.specs.BlockSteps.{BlockState, block_steps}
 use Rattle.cip_text.specs.declared.text_faults.ReadFault.{ReadFault}
 use Rattle.cip_text.specs.declared.text_faults.ReadFault.TheVariants.{Faulty, NoMemory}
 use Rattle.cip_blocks.specs.declared.kinds.BlockKind.{BlockKind}

@@ -6,14 +6,14 @@ use Rattle.std.proofs.lemmas.Bool.{ltb-true}
 use Rattle.cip_problem.specs.Program.{Program}
 use Rattle.cip_rational.specs.Numeral.{digits_value}
 use Rattle.cip_text.proofs.DigitLists.{after_more}
-use Rattle.cip_mps_rules.specs.MpsWords.{number_in}
-use Rattle.cip_mps_rules.specs.MpsRules.{least}
-use Rattle.cip_line_texts.specs.LineStream.{Going, Failed, progress_at, item_read}
-use Rattle.cip_line_texts.proofs.LineBytes.{failed_items}
+use Rattle.cip_text_rules.specs.MpsWords.{number_in}
+use Rattle.cip_text_rules.specs.MpsRules.{least}
+use Rattle.cip_text_rules.specs.LineStream.{Going, Failed, progress_at, item_read}
+use Rattle.cip_text_rules.proofs.LineBytes.{failed_items}
 use Rattle.cip_text.specs.PieceStands.{progress_after}
-use Rattle.cip_block_rules.specs.BlockWords.{RowName, word_said}
-use Rattle.cip_block_rules.specs.BlockSteps as steps
-use Rattle.cip_block_rules.specs.BlockSteps.{BlockState, block_tests, state_with, block_steps}
+use Rattle.cip_text_rules.specs.BlockWords.{RowName, word_said}
+use Rattle.cip_text_rules.specs.BlockSteps as steps
+use Rattle.cip_text_rules.specs.BlockSteps.{BlockState, block_tests, state_with, block_steps}
 use Rattle.cip_blocks.specs.declared.word_places.RowPlace.{RowPlace}
 use Rattle.cip_blocks.specs.declared.word_places.RowPlace.TheVariants.{Unnamed}
 use Rattle.cip_blocks.specs.WordPlaces.{row_shown, block_of, is_below}

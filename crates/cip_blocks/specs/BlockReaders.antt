@@ -1,6 +1,6 @@
 -- What a text of blocks comes to, as a reader takes it in pieces.
 use Rattle.std.specs.Prelude.{ℕ, List}
-use Rattle.cip_line_texts.specs.LineStream.{stream_of}
+use Rattle.cip_text_rules.specs.LineStream.{stream_of}
 use Rattle.cip_blocks.specs.declared.block_text.BlockText.{BlockText}
 use Rattle.cip_blocks.specs.BlockTexts.{steps_of, StandsFor}
 

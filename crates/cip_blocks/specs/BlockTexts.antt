@@ -2,12 +2,12 @@
 --     StandsFor text stream      the code keeps what the plain stream does
 use Rattle.std.specs.Prelude.{ℕ, List}
 use Rattle.cip_problem.specs.Program.{Program}
-use Rattle.cip_line_texts.specs.LineTexts.{Reading}
-use Rattle.cip_line_texts.specs.LineStream.{Stream}
+use Rattle.cip_text_rules.specs.LineTexts.{Reading}
+use Rattle.cip_text_rules.specs.LineStream.{Stream}
 use Rattle.cip_text.specs.PieceCuts.{Cut, cut_of}
 use Rattle.cip_text.specs.PieceStands.{StandsAt}
 use Rattle.cip_problem.specs.BlockParts.{Blocks}
-use Rattle.cip_block_rules.specs.BlockSteps.{BlockState}
+use Rattle.cip_text_rules.specs.BlockSteps.{BlockState}
 use Rattle.cip_blocks.specs.declared.block_text.BlockText.{BlockText}
 use Rattle.cip_blocks.specs.BlockWordsRead as words
 

@@ -1,11 +1,11 @@
 -- What the code keeps of the words that were read, and what it takes of one word more.
 use Rattle.std.specs.Prelude.{◌≡◌, ℕ, List, map, Option, None}
 use Rattle.cip_problem.specs.Program.{Program}
-use Rattle.cip_mps_rules.specs.MpsRules.{least}
-use Rattle.cip_line_texts.specs.LineTexts.{Reading}
+use Rattle.cip_text_rules.specs.MpsRules.{least}
+use Rattle.cip_text_rules.specs.LineTexts.{Reading}
 use Rattle.cip_problem.specs.BlockParts.{Blocks}
-use Rattle.cip_block_rules.specs.BlockWords.{WordSaying}
-use Rattle.cip_block_rules.specs.BlockSteps.{BlockState, block_tests, state_with, block_steps}
+use Rattle.cip_text_rules.specs.BlockWords.{WordSaying}
+use Rattle.cip_text_rules.specs.BlockSteps.{BlockState, block_tests, state_with, block_steps}
 use Rattle.cip_blocks.specs.declared.block_words.BlockWords.{BlockWords}
 use Rattle.cip_blocks.specs.WordPlaces.{place_shown, row_shown}
 

@@ -1,13 +1,13 @@
 -- What a text of blocks comes to, as it is answered.
 use Rattle.std.specs.Prelude.{◌≡◌, ⊤, ℕ, List, Option, None, Some, Result, Ok, Err}
 use Rattle.cip_problem.specs.Program.{Program}
-use Rattle.cip_line_texts.specs.LineTexts.{HasFault}
+use Rattle.cip_text_rules.specs.LineTexts.{HasFault}
 use Rattle.cip_text.specs.declared.faults.KnownFault.{KnownFault}
 use Rattle.cip_text.specs.declared.text_faults.ReadFault.{ReadFault}
 use Rattle.cip_text.specs.declared.text_faults.ReadFault.TheVariants.{Faulty, NoMemory}
 use Rattle.cip_text.specs.TextFaults.{by_number, IsFaultBy}
 use Rattle.cip_problem.specs.BlockParts.{Blocks}
-use Rattle.cip_block_rules.specs.BlockRules.{block_reading}
+use Rattle.cip_text_rules.specs.BlockRules.{block_reading}
 use Rattle.cip_blocks.specs.declared.kinds.BlockKind.{BlockKind}
 use Rattle.cip_blocks.specs.BlockKindTexts.{kind_number}
 

@@ -2,9 +2,9 @@
 use Rattle.std.specs.Prelude.{◌≡◌, ℕ, Option, None, Some, vec_len}
 use Rattle.cip_problem.specs.Program.{Program}
 use Rattle.cip_problem.specs.WellFormed.{IsWellFormed, columns}
-use Rattle.cip_block_rules.specs.BlockWords.{WordPlace, ZeroDue, CountDue, BlockDue}
-use Rattle.cip_block_rules.specs.BlockOwners.{owners_of}
-use Rattle.cip_block_rules.specs.BlockSteps.{BlockState, blocks_at}
+use Rattle.cip_text_rules.specs.BlockWords.{WordPlace, ZeroDue, CountDue, BlockDue}
+use Rattle.cip_text_rules.specs.BlockOwners.{owners_of}
+use Rattle.cip_text_rules.specs.BlockSteps.{BlockState, blocks_at}
 use Rattle.cip_blocks.specs.declared.ending.Ending.{Ending}
 use Rattle.cip_blocks.specs.OwnersKept.{owners_shown}
 

@@ -1,5 +1,5 @@
 -- The code's words that are never names, as those of a text.
-use Rattle.cip_block_rules.specs.BlockWords as text
+use Rattle.cip_text_rules.specs.BlockWords as text
 use Rattle.cip_blocks.specs.declared.words.Keyword.{Keyword}
 use Rattle.cip_blocks.specs.declared.words.Keyword.TheVariants.{Presolved, BlockCount, Block, Master}
 

@@ -10,7 +10,7 @@ pub mod OpenColumns
 pub mod OwnersKept
 pub mod SmallNumbers
 pub mod WordPlaces
-pub use Rattle.cip_block_rules.specs.BlockRules
+pub use Rattle.cip_text_rules.specs.BlockRules
 pub use Rattle.cip_text.specs.declared.text_faults.ReadFault
 pub use Rattle.cip_text.specs.declared.text_faults.TextFault
 pub use Rattle.cip_text.specs.TextFaults

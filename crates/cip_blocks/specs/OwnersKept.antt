@@ -1,5 +1,5 @@
 -- The blocks of columns, as the code keeps them.
-use Rattle.cip_block_rules.specs.BlockOwners as plain
+use Rattle.cip_text_rules.specs.BlockOwners as plain
 use Rattle.cip_blocks.specs.declared.owners.Owners.{Owners}
 
 -- the owners

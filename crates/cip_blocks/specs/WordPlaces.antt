@@ -1,7 +1,7 @@
 -- Where the next word stands, and the places of rows, as the code keeps them.
 use Rattle.std.specs.Prelude.{ℕ, nat_lt, Bool, true, Option, None, Some, is_none, unwrap_or}
-use Rattle.cip_block_rules.specs.BlockWords as text
-use Rattle.cip_block_rules.specs.BlockSteps as steps
+use Rattle.cip_text_rules.specs.BlockWords as text
+use Rattle.cip_text_rules.specs.BlockSteps as steps
 use Rattle.cip_blocks.specs.declared.word_places.WordPlace.{WordPlace}
 use Rattle.cip_blocks.specs.declared.word_places.WordPlace.TheVariants.{KeywordDue, ZeroDue, CountDue, BlockDue, NamesOf}
 use Rattle.cip_blocks.specs.declared.word_places.RowPlace.{RowPlace}

@@ -2,23 +2,23 @@
 ghost use Rattle.std.specs.Prelude.{◌≡◌, ◌+◌, ◌<◌, ◌≤◌, ◌∷◌, ◌++◌, [], ℕ, List, length, true, false, IfSome, OnOk, IfOk, MatchResult, fold};
 ghost use Rattle.std.specs.List.{list_any};
 ghost use Rattle.cip_problem.specs.Limits.{longest_text};
-ghost use Rattle.cip_line_texts.specs.Lines.{is_line_feed};
-ghost use Rattle.cip_line_texts.specs.LineTexts.{HasResult};
-ghost use Rattle.cip_line_texts.specs.LineStream.{Stream, byte_read, stream_of};
+ghost use Rattle.cip_text_rules.specs.Lines.{is_line_feed};
+ghost use Rattle.cip_text_rules.specs.LineTexts.{HasResult};
+ghost use Rattle.cip_text_rules.specs.LineStream.{Stream, byte_read, stream_of};
 ghost use Rattle.cip_text.specs.PieceFaults.{has_kind_to};
 ghost use Rattle.cip_text.specs.PieceCuts.{no_bytes, cut_of, known_fault, end_fault};
 ghost use Rattle.cip_text.specs.PieceStands.{IsRead, IsLastRead};
 ghost use Rattle.cip_problem.specs.NamesOnce.{StandOnce};
-ghost use Rattle.cip_block_rules.specs.BlockRules.{block_reading};
-ghost use Rattle.cip_block_rules.specs.BlockSteps.{BlockState, no_state};
+ghost use Rattle.cip_text_rules.specs.BlockRules.{block_reading};
+ghost use Rattle.cip_text_rules.specs.BlockSteps.{BlockState, no_state};
 ghost use Rattle.cip_blocks.specs.Endings.{IsEnding};
 
 use crate::block_words::BlockWords;
 use crate::ending::Ending;
 use crate::kinds::BlockKind;
-use cip_block_rules::block_steps::{block_faults_of_ended_lines, blocks_are_read};
 use cip_model::{Blocks, Program};
 use cip_text::{KnownFault, PieceText, Pieces, ReadFault, TextFault, cut_line, told};
+use cip_text_rules::block_steps::{block_faults_of_ended_lines, blocks_are_read};
 use std::alloc::{AllocError, Global};
 
 /// The number of the kind of a text that is too long.
@@ -167,10 +167,10 @@ impl<'a> BlockText<'a> {
 
 impl<'a> PieceText for BlockText<'a> {
     ghost use Rattle.std.specs.Prelude.{◌≡◌, [], IfSome, MatchResult};
-    ghost use Rattle.cip_line_texts.specs.LineTexts.{HasResult};
+    ghost use Rattle.cip_text_rules.specs.LineTexts.{HasResult};
     ghost use Rattle.cip_text.specs.EndedFaults.{IsKnownFault};
     ghost use Rattle.cip_text.specs.TextFaults.{IsToldBy};
-    ghost use Rattle.cip_block_rules.specs.BlockRules.{block_reading};
+    ghost use Rattle.cip_text_rules.specs.BlockRules.{block_reading};
     ghost use Rattle.cip_blocks.specs.BlockKindTexts.{kind_number};
     ghost use Rattle.cip_blocks.specs.BlockReaders.{HasCome};
     ghost use Rattle.cip_blocks.specs.BlockTexts.{program_of};

@@ -1,21 +1,21 @@
 //! The words of a text of blocks, one after another.
 ghost use Rattle.std.specs.Prelude.{◌≡◌, ◌+◌, ◌<◌, ◌≤◌, ℕ, vec_len, length, replicate, fold, true, false, None, Some, IfSome, IfOk, unwrap_or};
 ghost use Rattle.std.specs.List.{list_any, list_all};
-ghost use Rattle.cip_line_texts.specs.Lines.{is_line_feed};
+ghost use Rattle.cip_text_rules.specs.Lines.{is_line_feed};
 ghost use Rattle.cip_text.specs.TextLines.{fields_left};
-ghost use Rattle.cip_line_texts.specs.LineStream.{Going, line_read, item_read};
+ghost use Rattle.cip_text_rules.specs.LineStream.{Going, line_read, item_read};
 ghost use Rattle.cip_text.specs.PieceStands.{progress_after};
-ghost use Rattle.cip_block_rules.specs.BlockWords as text;
-ghost use Rattle.cip_block_rules.specs.BlockSteps.{no_state};
+ghost use Rattle.cip_text_rules.specs.BlockWords as text;
+ghost use Rattle.cip_text_rules.specs.BlockSteps.{no_state};
 ghost use Rattle.cip_blocks.specs.WordPlaces.{place_shown, block_of, is_below, is_sound_place};
 ghost use Rattle.cip_blocks.specs.Keywords.{keyword_shown};
 
 use crate::word_places::{RowPlace, WordPlace};
 use crate::words::{Keyword, block_number, keyword_of};
-use cip_block_rules::block_steps::block_words_have_tests;
-use cip_block_rules::numbers_are_of_names;
 use cip_model::Program;
 use cip_text::{Fields, fields_of};
+use cip_text_rules::block_steps::block_words_have_tests;
+use cip_text_rules::step_laws::numbers_are_of_names;
 use std::alloc::{AllocError, Global};
 
 /// What the words so far said: where the next word stands, how many blocks there are, if that was said, which of them

@@ -1,17 +1,13 @@
 //! The end of a text of blocks.
 ghost use Rattle.std.specs.Prelude.{◌≡◌, ◌||◌, ◌<◌, ◌≤◌, map, not, vec_len, None, is_none, IfSome, IfOk};
 ghost use Rattle.std.specs.List.{list_any};
-ghost use Rattle.cip_problem.specs.WellFormed.{columns};
-ghost use Rattle.cip_block_rules.specs.BlockOwners.{owners_of};
-ghost use Rattle.cip_block_rules.specs.BlockSteps.{blocks_at};
 ghost use Rattle.cip_blocks.specs.WordPlaces.{block_of};
-ghost use Rattle.cip_blocks.specs.OwnersKept.{owners_shown};
 
 use crate::block_words::BlockWords;
 use crate::owners::Owners;
 use crate::word_places::{RowPlace, WordPlace};
-use cip_block_rules::block_steps::owners_are_right;
 use cip_model::Blocks;
+use cip_text_rules::block_steps::owners_are_right;
 use std::alloc::{AllocError, Global};
 
 /// What the words come to where the text ends.

@@ -3,7 +3,7 @@ ghost use Rattle.std.specs.Prelude.{◌≡◌, ◌&&◌, ◌<◌, length, vec_le
 ghost use Rattle.cip_problem.specs.Activity.{StandsBelow};
 ghost use Rattle.cip_problem.specs.WellFormed.{IsWellFormed, columns};
 ghost use Rattle.cip_problem.specs.BlockParts.{is_bounded};
-ghost use Rattle.cip_block_rules.specs.BlockOwners as plain;
+ghost use Rattle.cip_text_rules.specs.BlockOwners as plain;
 ghost use Rattle.cip_blocks.specs.OpenColumns.{has_open_owned};
 
 use cip_lin::{Row, Sides};

@@ -1,15 +1,15 @@
 //! Reading a text of blocks that is there as a whole.
 ghost use Rattle.std.specs.Prelude.{MatchResult, IfOk};
-ghost use Rattle.cip_line_texts.specs.LineTexts.{HasResult};
+ghost use Rattle.cip_text_rules.specs.LineTexts.{HasResult};
 ghost use Rattle.cip_problem.specs.BlockMeaning.{AreBlocks};
-ghost use Rattle.cip_block_rules.specs.BlockRules.{block_reading};
+ghost use Rattle.cip_text_rules.specs.BlockRules.{block_reading};
 ghost use Rattle.cip_blocks.specs.EndedBlocks.{IsFaultOf};
 
 use crate::kinds::BlockKind;
 use crate::reader::BlockReader;
-use cip_block_rules::blocks::blocks_are_apart;
 use cip_model::{Blocks, Program};
 use cip_text::ReadFault;
+use cip_text_rules::blocks::blocks_are_apart;
 use std::alloc::Global;
 
 /// The blocks that a text gives a program; else the first fault of the text: that of the first word that breaks a rule,

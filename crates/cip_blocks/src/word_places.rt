@@ -1,6 +1,6 @@
 //! Where words stand, and the places of rows.
 ghost use Rattle.std.specs.Prelude.{◌≡◌};
-ghost use Rattle.cip_block_rules.specs.BlockSteps.{is_placed};
+ghost use Rattle.cip_text_rules.specs.BlockSteps.{is_placed};
 ghost use Rattle.cip_blocks.specs.WordPlaces.{row_shown, block_of};
 
 /// Where the next word stands.

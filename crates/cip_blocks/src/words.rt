@@ -3,8 +3,8 @@ ghost use Rattle.std.specs.Prelude.{◌≡◌, ◌+◌, ◌*◌, ◌-◌, ◌≤
 ghost use Rattle.std.specs.Char.{is_ascii_digit};
 ghost use Rattle.std.specs.List.{list_all};
 ghost use Rattle.cip_rational.specs.Numeral.{are_digits, digits_value};
-ghost use Rattle.cip_mps_rules.specs.MpsWords.{meaning_in};
-ghost use Rattle.cip_block_rules.specs.BlockWords.{keywords, number_word};
+ghost use Rattle.cip_text_rules.specs.MpsWords.{meaning_in};
+ghost use Rattle.cip_text_rules.specs.BlockWords.{keywords, number_word};
 ghost use Rattle.cip_blocks.specs.SmallNumbers.{small};
 ghost use Rattle.cip_blocks.specs.Keywords.{keyword_shown};
 

@@ -10,8 +10,8 @@ use Rattle.cip_problem.specs.Activity.{value_at}
 use Rattle.cip_problem.specs.Box.{IsInBox}
 use Rattle.cip_problem.specs.Points.{IsSatisfied, AreWhole}
 use Rattle.cip_problem.proofs.Points.AtPlaces.{whole_at}
-use Rattle.cip_linear.specs.Improving.{HoldsInBox, HasNoImproving, IsImproving, IsValidRow, IsNoDearer}
-use Rattle.cip_linear.proofs.Improving.{fewer}
+use Rattle.cip_problem.specs.Improving.{HoldsInBox, HasNoImproving, IsImproving, IsValidRow, IsNoDearer}
+use Rattle.cip_problem.proofs.Improving.{fewer}
 use Rattle.cip_lin.specs.declared.sides.Side.{Side}
 use Rattle.cip_lin.specs.declared.sides.Side.TheVariants.{Low, High}
 use Rattle.cip_cert.specs.declared.rows.PoolRow.{PoolRow}

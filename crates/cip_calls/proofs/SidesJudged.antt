@@ -10,7 +10,7 @@ use Rattle.cip_problem.specs.Box.{no_sides, sides_at, Between, is_between}
 use Rattle.cip_problem.specs.WellFormed.{columns}
 use Rattle.cip_problem.proofs.Box.SideTests.{not_between_of_test}
 use Rattle.cip_problem.proofs.Points.AtPlaces.{in_box_at}
-use Rattle.cip_linear.specs.Improving.{HoldsInBox, HasNoImproving}
+use Rattle.cip_problem.specs.Improving.{HoldsInBox, HasNoImproving}
 use Rattle.cip_lin.specs.declared.sides.Side.{Side}
 use Rattle.cip_lin.specs.declared.sides.Side.TheVariants.{Low, High}
 use Rattle.cip_domain.specs.Changes.{with_side, side_change, is_as_strong, would_cross}

@@ -2,9 +2,9 @@
 use Rattle.std.proofs.Common.{◌≡◌, ℕ, Bool, List, Ok, Err, IfOk, sym, ◌∙◌, subst, arith}
 use Rattle.cip_problem.specs.Program.{Sides}
 use Rattle.cip_problem.specs.WellFormed.{IsWellFormed, columns}
-use Rattle.cip_linear.specs.Cuts.{row_of}
-use Rattle.cip_linear.specs.Improving.{IsValid}
-use Rattle.cip_linear.specs.Aggregate.{Inequality}
+use Rattle.cip_problem.specs.Cuts.{row_of}
+use Rattle.cip_problem.specs.Improving.{IsValid}
+use Rattle.cip_problem.specs.Aggregate.{Inequality}
 use Rattle.cip_cert.specs.declared.splits.SplitCut.{SplitCut}
 use Rattle.cip_cert.specs.declared.splits.SplitFormFault.{SplitFormFault}
 use Rattle.cip_cert.specs.Lent.{Lent, Fits}

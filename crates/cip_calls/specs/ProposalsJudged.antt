@@ -1,7 +1,7 @@
 -- What a proposal of any kind comes to, and what is left of the node in work.
 use Rattle.std.specs.Prelude.{◌≡◌, ◌≢◌, ℕ, Option, None, Some, length}
 use Rattle.cip_problem.specs.Log.{Split as SplitEnd}
-use Rattle.cip_linear.specs.Improving.{HasNoImproving}
+use Rattle.cip_problem.specs.Improving.{HasNoImproving}
 use Rattle.cip_cert.specs.Lent.{multiples_of}
 use Rattle.cip_cert.specs.declared.splits.SplitCut.{SplitCut}
 use Rattle.cip_plugin.specs.declared.proposals.Cut.{Cut}

@@ -8,7 +8,7 @@ use Rattle.cip_lin.specs.declared.sides.Side.{Side}
 use Rattle.cip_cert.specs.Lent.{Multiples}
 use Rattle.cip_cert.specs.Reductions.{reduced}
 use Rattle.cip_cert.specs.declared.faults.CutFault.{CutFault}
-use Rattle.cip_linear.specs.Improving.{HoldsInBox}
+use Rattle.cip_problem.specs.Improving.{HoldsInBox}
 use Rattle.cip_domain.specs.Changes.{side_change}
 use Rattle.cip_domain.specs.Domain.{tightening}
 use Rattle.cip_domain.specs.Narrowing.{Meets}

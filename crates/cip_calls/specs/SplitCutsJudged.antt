@@ -1,8 +1,8 @@
 -- What a split cut that is proposed comes to.
 use Rattle.std.specs.Prelude.{◌≡◌, ℕ, Bool, Result, Ok, Err}
 use Rattle.cip_problem.specs.WellFormed.{columns}
-use Rattle.cip_linear.specs.Cuts.{row_of}
-use Rattle.cip_linear.specs.Aggregate.{Inequality}
+use Rattle.cip_problem.specs.Cuts.{row_of}
+use Rattle.cip_problem.specs.Aggregate.{Inequality}
 use Rattle.cip_cert.specs.declared.splits.SplitCut.{SplitCut}
 use Rattle.cip_cert.specs.declared.splits.SplitFormFault.{SplitFormFault}
 use Rattle.cip_rows.specs.Adding.{IsAdded}

@@ -1,7 +1,7 @@
 //! Combinations that are to show that a node has no improving point.
 ghost use Rattle.std.specs.Prelude.{◌≡◌, length};
 ghost use Rattle.cip_problem.specs.WellFormed.{columns};
-ghost use Rattle.cip_linear.specs.Improving.{HasNoImproving};
+ghost use Rattle.cip_problem.specs.Improving.{HasNoImproving};
 ghost use Rattle.cip_cert.specs.Lent.{multiples_of};
 ghost use Rattle.cip_tree.specs.Nodes.{box_of};
 ghost use Rattle.cip_core.specs.CoreStates.{reduced_of, held_of, IsAtWork};

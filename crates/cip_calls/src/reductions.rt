@@ -1,7 +1,7 @@
 //! Sides that are proposed.
 ghost use Rattle.std.specs.Prelude.{◌≡◌, ◌<◌, ◌^◌, nat_lt, unsigned_abs, length, None, IsOk, IfOk, MatchResult};
 ghost use Rattle.cip_problem.specs.WellFormed.{columns};
-ghost use Rattle.cip_linear.specs.Improving.{HoldsInBox, HasNoImproving};
+ghost use Rattle.cip_problem.specs.Improving.{HoldsInBox, HasNoImproving};
 ghost use Rattle.cip_cert.specs.Lent.{multiples_of};
 ghost use Rattle.cip_domain.specs.Changes.{side_change};
 ghost use Rattle.cip_domain.specs.Narrowing.{Meets};

@@ -4,12 +4,12 @@ use Rattle.std.specs.Prelude.{MatchResult, nat_lt}
 use Rattle.std.proofs.lemmas.Bool.{ltb-false}
 use Rattle.cip_rational.specs.Rational.{ℚ, zeroℚ}
 use Rattle.cip_problem.specs.Program.{Sides}
-use Rattle.cip_linear.specs.Aggregate.{Inequality}
+use Rattle.cip_problem.specs.Aggregate.{Inequality}
 use Rattle.cip_lin.specs.declared.combos.RowMultiple.{RowMultiple}
 use Rattle.cip_lin.specs.declared.combos.ColumnMultiple.{ColumnMultiple}
 use Rattle.cip_cert.specs.Lent.{Lent, Multiples, count_of}
 use Rattle.cip_cert.specs.Checks.{chain, add_rows, add_lows, add_highs, add_all, nothing, aggregate_of}
-use Rattle.cip_row_rules.specs.RowRules.{most_multiples}
+use Rattle.cip_node_rules.specs.RowRules.{most_multiples}
 use Rattle.cip_cert.specs.declared.faults.CutFault.{CutFault}
 use Rattle.cip_cert.specs.declared.faults.CutFault.TheVariants.{TooLong}
 

@@ -7,7 +7,7 @@ use Rattle.cip_rational.proofs.Rational.Order.{≤ℚ_of_lt, test_of_lt, lt_of_t
 use Rattle.cip_problem.specs.Program.{Term, Sides, Row}
 use Rattle.cip_problem.specs.Box.{sides_at}
 use Rattle.cip_lin.specs.declared.combos.ColumnMultiple.{ColumnMultiple}
-use Rattle.cip_linear.specs.Aggregate.{Part, Inequality}
+use Rattle.cip_problem.specs.Aggregate.{Part, Inequality}
 use Rattle.cip_cert.specs.Checks.{chain, side_part, row_part, add_part, column_terms, add_low, add_high}
 use Rattle.cip_cert.specs.declared.faults.CutFault.{CutFault}
 use Rattle.cip_cert.specs.declared.faults.CutFault.TheVariants.{UnknownColumn, WrongSign}

@@ -20,13 +20,13 @@ use Rattle.cip_problem.specs.Box.{IsInBox}
 use Rattle.cip_problem.specs.BoxBound.{sum_if_both, least_cost, least_costs}
 use Rattle.cip_problem.specs.Points.{AreWhole}
 use Rattle.cip_problem.proofs.BoxBound.BelowCosts.{least_cost_holds}
-use Rattle.cip_linear.specs.Aggregate.{Inequality, Holds, differences, bound_of, only}
-use Rattle.cip_linear.proofs.Aggregates.{aggregate_holds}
-use Rattle.cip_linear.proofs.Bounds.{dot_differences, dot-only, divide_negative}
+use Rattle.cip_problem.specs.Aggregate.{Inequality, Holds, differences, bound_of, only}
+use Rattle.cip_problem.proofs.Aggregates.{aggregate_holds}
+use Rattle.cip_problem.proofs.Bounds.{dot_differences, dot-only, divide_negative}
 use Rattle.cip_cert.specs.declared.faults.CutFault.{CutFault}
 use Rattle.cip_cert.specs.Lent.{Lent, Fits, Multiples}
 use Rattle.cip_cert.specs.Checks.{chain, aggregate_of, first_stop, round_unless, round_if, derived, bound_from, rests_from, lower_bound_of, rests_of, positive, emptied, quotient_at, round_up_if, round_down_if, implied_low, implied_high, low_allowed, high_allowed, low_reduced, high_reduced}
-use Rattle.cip_row_rules.specs.RowRules.{stops_rounding}
+use Rattle.cip_node_rules.specs.RowRules.{stops_rounding}
 use Rattle.cip_cert.specs.Follows.{FollowsAt, RowFollows, BoundFollows, EmptinessFollows, LowFollows, HighFollows, IsSum}
 use Rattle.cip_cert.proofs.Sums.{ok_chain, ok_weaker, ok_cond, aggregate_sum}
 use Rattle.cip_cert.proofs.Values.{bound_value, zero_value, one_value}

@@ -9,9 +9,9 @@ use Rattle.cip_rational.proofs.Rational.Order.{≤ℚ_refl}
 use Rattle.cip_problem.specs.Program.{Sides, Row, Program}
 use Rattle.cip_problem.specs.Box.{IsInBox}
 use Rattle.cip_problem.specs.Points.{IsSatisfied}
-use Rattle.cip_linear.specs.Aggregate.{Inequality}
-use Rattle.cip_linear.specs.Improving.{IsImproving, IsValidRow, IsValid, IsNoDearer}
-use Rattle.cip_linear.proofs.Improving.{fewer}
+use Rattle.cip_problem.specs.Aggregate.{Inequality}
+use Rattle.cip_problem.specs.Improving.{IsImproving, IsValidRow, IsValid, IsNoDearer}
+use Rattle.cip_problem.proofs.Improving.{fewer}
 use Rattle.cip_lin.specs.declared.combos.RowId.{RowId}
 use Rattle.cip_lin.specs.declared.combos.RowId.TheVariants.{Own, Pool, Cutoff}
 use Rattle.cip_lin.specs.declared.combos.RowMultiple.{RowMultiple}
@@ -20,7 +20,7 @@ use Rattle.cip_cert.specs.declared.faults.CutFault.{CutFault}
 use Rattle.cip_cert.specs.Pool.{pool_row}
 use Rattle.cip_cert.specs.Lent.{Lent, KeptFits, Fits, Multiples, count_of}
 use Rattle.cip_cert.specs.Checks.{chain, named_row, in_scope, row_part, add_part, add_row, add_rows, add_lows, add_highs, nothing, aggregate_of, round_if, derived}
-use Rattle.cip_row_rules.specs.RowRules.{most_multiples}
+use Rattle.cip_node_rules.specs.RowRules.{most_multiples}
 use Rattle.cip_cert.specs.Follows.{RowsHold, RowFollows}
 use Rattle.cip_cert.specs.Resting.{is_resting, names_resting, rests_on_cutoff, released, lent_released, valid_below, ArePoolRowsValid, IsLentOf}
 use Rattle.cip_cert.proofs.Sums.{ok_weaker}

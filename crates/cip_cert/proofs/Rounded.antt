@@ -7,10 +7,10 @@ use Rattle.cip_rational.proofs.Rational.Whole.{IsWhole-zero, IsWhole_of_test, te
 use Rattle.cip_frac.specs.Order.{same_rational, same_from_equal, equal_from_same}
 use Rattle.cip_problem.specs.Program.{Sides}
 use Rattle.cip_problem.specs.Activity.{value_at}
-use Rattle.cip_linear.specs.Aggregate.{Inequality, bound_of, only, quotient_of, single_bound, implied_sides}
-use Rattle.cip_linear.specs.Cuts.{CanRoundAt, CanRound}
+use Rattle.cip_problem.specs.Aggregate.{Inequality, bound_of, only, quotient_of, single_bound, implied_sides}
+use Rattle.cip_problem.specs.Cuts.{CanRoundAt, CanRound}
 use Rattle.cip_cert.specs.Checks.{chain, first_stop, rests_from, quotient_at, round_up_if, round_down_if, implied_low, implied_high}
-use Rattle.cip_row_rules.specs.RowRules.{stops_rounding}
+use Rattle.cip_node_rules.specs.RowRules.{stops_rounding}
 use Rattle.cip_cert.specs.Statements.{inward_low, inward_high}
 use Rattle.cip_cert.proofs.Sums.{ok_chain, ok_cond}
 use Rattle.cip_cert.proofs.Values.{one_value}

@@ -15,7 +15,7 @@ use Rattle.cip_problem.specs.Box.{no_sides}
 use Rattle.cip_cert.specs.declared.faults.CutFault.{CutFault}
 use Rattle.cip_cert.specs.Touched.{Tells}
 use Rattle.cip_cert.specs.Checks.{chain, first_stop, is_named, rest_added, own_rest_added, rests_from}
-use Rattle.cip_row_rules.specs.RowRules.{stops_rounding}
+use Rattle.cip_node_rules.specs.RowRules.{stops_rounding}
 use Rattle.cip_cert.proofs.Cleared.{zero_by}
 use Rattle.cip_cert.proofs.Pools.{same_default}
 

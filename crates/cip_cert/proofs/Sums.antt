@@ -19,8 +19,8 @@ use Rattle.cip_problem.specs.Box.{IsInBox, sides_at, box_inside}
 use Rattle.cip_problem.specs.Points.{IsSatisfied}
 use Rattle.cip_problem.proofs.Box.SideTests.{inner_box_holds}
 use Rattle.cip_problem.proofs.Points.AtPlaces.{satisfied_at}
-use Rattle.cip_linear.specs.Aggregate.{Part, IsPartOf, bound_row, HoldsAt, Inequality, total_activity, total_side}
-use Rattle.cip_linear.proofs.Parts.{part_holds, bound_part_holds, used_low, used_high}
+use Rattle.cip_problem.specs.Aggregate.{Part, IsPartOf, bound_row, HoldsAt, Inequality, total_activity, total_side}
+use Rattle.cip_problem.proofs.Parts.{part_holds, bound_part_holds, used_low, used_high}
 use Rattle.cip_lin.specs.declared.combos.RowId.{RowId}
 use Rattle.cip_lin.specs.declared.combos.RowId.TheVariants.{Own, Pool, Cutoff}
 use Rattle.cip_lin.specs.declared.combos.RowMultiple.{RowMultiple}
@@ -32,7 +32,7 @@ use Rattle.cip_cert.specs.declared.faults.CutFault.{CutFault}
 use Rattle.cip_cert.specs.Pool.{pool_row}
 use Rattle.cip_cert.specs.Lent.{Lent, KeptFits, Fits, Multiples, count_of}
 use Rattle.cip_cert.specs.Checks.{chain, placed, named_row, known, in_scope, side_part, row_part, column_terms, low_part, high_part, add_terms, add_side, add_part, add_row, add_low, add_high, add_rows, add_lows, add_highs, nothing, aggregate_of}
-use Rattle.cip_row_rules.specs.RowRules.{most_multiples}
+use Rattle.cip_node_rules.specs.RowRules.{most_multiples}
 use Rattle.cip_cert.specs.Follows.{FollowsAt, IsSum}
 
 -- ---- outcomes

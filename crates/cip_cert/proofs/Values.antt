@@ -9,7 +9,7 @@ use Rattle.cip_rational.proofs.Rational.Order.{≤ℚ_refl, ≤ℚ_of_lt, lt_of_
 use Rattle.cip_problem.specs.Program.{Sides}
 use Rattle.cip_problem.specs.Activity.{value_at}
 use Rattle.cip_problem.specs.BoxBound.{sum_if_both, product_at, least_cost, least_costs}
-use Rattle.cip_linear.specs.Aggregate.{Inequality, differences, bound_of, only}
+use Rattle.cip_problem.specs.Aggregate.{Inequality, differences, bound_of, only}
 use Rattle.cip_cert.specs.declared.faults.FaultPlace.TheVariants.{Column}
 use Rattle.cip_cert.specs.Checks.{chain, side_added, rest_added, rest_of, bound_from, is_named, own_rest_added, rests_from}
 use Rattle.cip_cert.proofs.Sums.{ok_chain, ok_weaker, ok_cond, product_value}

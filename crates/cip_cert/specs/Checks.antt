@@ -6,11 +6,11 @@ use Rattle.cip_rational.specs.Range.{difference_overflows, quotient_overflows}
 use Rattle.cip_problem.specs.Program.{Term, Sides, Row}
 use Rattle.cip_problem.specs.Activity.{value_at}
 use Rattle.cip_problem.specs.Box.{sides_at, box_inside}
-use Rattle.cip_linear.specs.Aggregate.{Part, Inequality}
-use Rattle.cip_linear.specs.Cuts.{rounded}
+use Rattle.cip_problem.specs.Aggregate.{Part, Inequality}
+use Rattle.cip_problem.specs.Cuts.{rounded}
 use Rattle.cip_frac.specs.declared.operations.Wide.{Wide as Overflow}
 use Rattle.cip_frac.specs.Outcomes.{product_added}
-use Rattle.cip_row_rules.specs.RowRules.{most_multiples, stops_rounding}
+use Rattle.cip_node_rules.specs.RowRules.{most_multiples, stops_rounding}
 use Rattle.cip_lin.specs.declared.combos.RowId.{RowId}
 use Rattle.cip_lin.specs.declared.combos.RowId.TheVariants.{Own, Pool, Cutoff}
 use Rattle.cip_lin.specs.declared.combos.RowMultiple.{RowMultiple}

@@ -7,7 +7,7 @@ use Rattle.cip_problem.specs.Program.{Sides}
 use Rattle.cip_problem.specs.Activity.{value_at}
 use Rattle.cip_problem.specs.Box.{IsInBox}
 use Rattle.cip_problem.specs.Points.{IsSatisfied, AreWhole}
-use Rattle.cip_linear.specs.Aggregate.{Part, AllHoldAt, Inequality, Holds, IsAggregate}
+use Rattle.cip_problem.specs.Aggregate.{Part, AllHoldAt, Inequality, Holds, IsAggregate}
 use Rattle.cip_cert.specs.Lent.{Lent}
 
 -- the rows that are lent hold at a point: a row of the pool where the point lies in its scope

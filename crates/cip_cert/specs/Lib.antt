@@ -7,5 +7,5 @@ pub mod Resting
 pub mod SparseRows
 pub mod Statements
 pub mod Touched
-pub use Rattle.cip_linear.specs.Aggregate
+pub use Rattle.cip_problem.specs.Aggregate
 pub use Rattle.cip_lin.specs.declared.rows.RowFault

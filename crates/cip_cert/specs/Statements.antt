@@ -3,9 +3,9 @@ use Rattle.std.specs.Prelude.{◌≡◌, ◌↔◌, ℕ, ◌≤◌, ◌<◌, Boo
 use Rattle.cip_rational.specs.Rational.{ℚ}
 use Rattle.cip_problem.specs.Program.{Sides, Program}
 use Rattle.cip_problem.specs.Activity.{value_at}
-use Rattle.cip_linear.specs.Aggregate.{Inequality, bound_of, only, implied_sides}
-use Rattle.cip_linear.specs.Improving.{IsValid}
-use Rattle.cip_linear.specs.Cuts.{CanRound, rounded_low, rounded_high}
+use Rattle.cip_problem.specs.Aggregate.{Inequality, bound_of, only, implied_sides}
+use Rattle.cip_problem.specs.Improving.{IsValid}
+use Rattle.cip_problem.specs.Cuts.{CanRound, rounded_low, rounded_high}
 use Rattle.cip_cert.specs.Lent.{Lent, Fits, Multiples}
 use Rattle.cip_cert.specs.Checks.{chain, aggregate_of, derived, first_stop, bound_from, rests_from, implied_low, implied_high}
 use Rattle.cip_cert.specs.Follows.{RowFollows, IsSum}

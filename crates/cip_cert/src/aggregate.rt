@@ -2,7 +2,7 @@
 ghost use Rattle.std.specs.Prelude.{◌≡◌, ◌≤◌, nat_lt, length, Ok, Err, MatchResult};
 ghost use Rattle.cip_cert.specs.Lent.{lent_of, Fits, multiples_of, count_of};
 ghost use Rattle.cip_cert.specs.Checks.{aggregate_of};
-ghost use Rattle.cip_row_rules.specs.RowRules.{most_multiples};
+ghost use Rattle.cip_node_rules.specs.RowRules.{most_multiples};
 
 use crate::entries::{add_highs, add_lows, add_rows};
 use crate::faults::CutFault;
@@ -10,7 +10,7 @@ use crate::rows::Rows;
 use crate::sparse::SparseRow;
 use cip_frac::Frac;
 use cip_lin::{Bounds, Combo};
-use cip_row_rules::are_too_many;
+use cip_node_rules::are_too_many;
 
 /// Whether a combination has more entries than are allowed.
 fn is_too_long(combo: &Combo) -> bool

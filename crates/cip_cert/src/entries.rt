@@ -4,7 +4,7 @@ ghost use Rattle.cip_problem.specs.Activity.{StandsBelow};
 ghost use Rattle.cip_cert.specs.Pool.{pool_row, AreRising};
 ghost use Rattle.cip_cert.specs.Lent.{lent_of, KeptFits, Fits};
 ghost use Rattle.cip_cert.specs.Checks.{chain, in_scope, named_row, add_part, row_part, add_row, add_low, add_high, add_rows, add_lows, add_highs};
-ghost use Rattle.cip_row_rules.specs.RowRules.{most_multiples};
+ghost use Rattle.cip_node_rules.specs.RowRules.{most_multiples};
 
 use crate::faults::CutFault;
 use crate::lookup::pool_place;

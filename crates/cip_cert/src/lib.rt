@@ -27,7 +27,7 @@ pub use calls::{
 };
 pub use cip_frac::Frac;
 pub use cip_lin::{Bounds, Row, RowFault, Sides, Term};
-pub use cip_row_rules::MOST_MULTIPLES;
+pub use cip_node_rules::MOST_MULTIPLES;
 pub use faults::{CutFault, FaultPlace};
 pub use laws::{
     aggregates_are_sums, bounds_are_those, rows_are_rounded_where_they_can, sides_are_those,

@@ -2,7 +2,7 @@
 ghost use Rattle.std.specs.Prelude.{◌≡◌, ◌≢◌, ◌≤◌, ◌<◌, length, slice_index_or, false, Some};
 ghost use Rattle.cip_rational.specs.Rational.{zeroℚ, le_test};
 ghost use Rattle.cip_cert.specs.Lent.{lent_of, Fits, multiples_of};
-ghost use Rattle.cip_cert.specs.Checks.{quotient_at, round_up_if, round_down_if, implied_low, implied_high, low_allowed, high_allowed, low_reduced, high_reduced};
+ghost use Rattle.cip_cert.specs.Checks.{quotient_at, implied_low, implied_high, low_allowed, high_allowed, low_reduced, high_reduced};
 
 use crate::checks::rests_row;
 use crate::faults::{CutFault, FaultPlace};

@@ -10,7 +10,7 @@ use crate::faults::{CutFault, FaultPlace};
 use crate::parts::sum_of;
 use cip_frac::Frac;
 use cip_lin::Sides;
-use cip_row_rules::stops;
+use cip_node_rules::stops;
 
 /// The first column whose coefficient doesn't let a row be rounded.
 pub(crate) fn first_stop(whole: &[bool], entries: &[Frac], touched: &[u32]) -> Option<usize>

@@ -8,20 +8,20 @@ use Rattle.cip_problem.specs.BoxBound.{box_bound}
 use Rattle.cip_problem.specs.WellFormed.{IsWellFormed}
 use Rattle.cip_problem.specs.Log.{Entry, Node}
 use Rattle.cip_problem.proofs.BoxBound.BelowCosts.{root_bound_holds}
-use Rattle.cip_linear.specs.Cuts.{HasWholeCosts}
-use Rattle.cip_linear.specs.Improving.{IsBoundIn}
-use Rattle.cip_leaves.specs.WideLeaf.{IsWideLeaf}
+use Rattle.cip_problem.specs.Cuts.{HasWholeCosts}
+use Rattle.cip_problem.specs.Improving.{IsBoundIn}
+use Rattle.cip_search.specs.WideLeaf.{IsWideLeaf}
 use Rattle.cip_lin.specs.declared.outcomes.Least.{Least}
 use Rattle.cip_lin.specs.declared.outcomes.Least.TheVariants.{Value, NoBound, Wide}
 use Rattle.cip_model.specs.Least.{least_cost_from}
 use Rattle.cip_model.specs.Meaning.{BoundHolds}
-use Rattle.cip_leaves.specs.Searched.{first_node}
+use Rattle.cip_search.specs.Searched.{first_node}
 use Rattle.cip_search.specs.SearchState.{IsWayBack, HasGivenBoxes}
 use Rattle.cip_search.proofs.Kept as searching
 use Rattle.cip_search.proofs.AsGiven as giving
 use Rattle.cip_search.proofs.GivenBoxes as boxing
 use Rattle.cip_search.proofs.Members.{only_one}
-use Rattle.cip_postsolve.specs.StepsBack.{StepsTaken, point_back, way_back}
+use Rattle.cip_presolve.specs.StepsBack.{StepsTaken, point_back, way_back}
 use Rattle.cip_tree.specs.Nodes.{Nodes}
 use Rattle.cip_tree.specs.Moves.{IsNew}
 use Rattle.cip_node_rules.specs.RootBounds.{least_value, rounded_if}

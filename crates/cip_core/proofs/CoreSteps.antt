@@ -6,13 +6,13 @@ use Rattle.cip_rational.specs.Rational.{ℚ, IsWhole}
 use Rattle.cip_problem.specs.Program.{Row, Program}
 use Rattle.cip_problem.specs.WellFormed.{IsWellFormed, columns}
 use Rattle.cip_problem.specs.Log.{End, Node, Split, Closed, Parked, matters}
-use Rattle.cip_linear.specs.Cuts.{HasWholeCosts}
-use Rattle.cip_linear.specs.Improving.{IsBoundIn, HasNoImproving, IsNoDearer}
+use Rattle.cip_problem.specs.Cuts.{HasWholeCosts}
+use Rattle.cip_problem.specs.Improving.{IsBoundIn, HasNoImproving, IsNoDearer}
 use Rattle.cip_rows.proofs.ValidPools.{last_valid, later_valid}
 use Rattle.cip_domain.proofs.Boxes.{length-narrowed}
 use Rattle.cip_cert.specs.declared.rows.PoolRow.{PoolRow}
-use Rattle.cip_leaves.specs.WideLeaf.{IsWideLeaf}
-use Rattle.cip_leaves.specs.Searched.{NoMore}
+use Rattle.cip_search.specs.WideLeaf.{IsWideLeaf}
+use Rattle.cip_search.specs.Searched.{NoMore}
 use Rattle.cip_search.specs.SearchState.{IsStuck, HasGivenBoxes}
 use Rattle.cip_search.proofs.Members.{here, later, is_kept, kept_passes}
 use Rattle.cip_search.proofs.GivenBoxes as boxing

@@ -2,7 +2,7 @@
 use Rattle.std.proofs.Common.{◌≡◌, ℕ, ◌+◌, ◌<◌, ◌≤◌, List, [], ◌∷◌, ◌++◌, length, get_or, Option, None, sym, ap, ◌∙◌, subst}
 use Rattle.cip_rational.specs.Rational.{ℚ, zeroℚ}
 use Rattle.cip_problem.specs.Program.{Term, Row}
-use Rattle.cip_linear.specs.Cuts.{terms_from}
+use Rattle.cip_problem.specs.Cuts.{terms_from}
 use Rattle.cip_rows.proofs.BuiltTerms.{Begun, begun_zero, begun_other, begun_all}
 
 -- a row that is built of costs, without sides

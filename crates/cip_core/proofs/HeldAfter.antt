@@ -5,7 +5,7 @@ use Rattle.cip_rational.proofs.Rational.Order.{≤ℚ_refl, ≤ℚ_of_lt, lt_of_
 use Rattle.cip_problem.specs.Program.{Program}
 use Rattle.cip_problem.specs.Points.{IsFeasible, cost_of}
 use Rattle.cip_problem.specs.WellFormed.{IsWellFormed, columns}
-use Rattle.cip_linear.specs.Improving.{IsNoDearer}
+use Rattle.cip_problem.specs.Improving.{IsNoDearer}
 use Rattle.cip_model.specs.Meaning.{VerdictHolds}
 use Rattle.cip_model.specs.Verdicts.{verdict_of}
 use Rattle.cip_model.proofs.Meaning.Point.{verdict_holds}

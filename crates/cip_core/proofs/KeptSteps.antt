@@ -12,9 +12,9 @@ use Rattle.cip_problem.specs.Choices.{choice_at, is_open, met, zero_sides}
 use Rattle.cip_problem.specs.Log.{Entry, Node, node_of, Split, Closed, Parked, low_of, high_of, low_node, high_node, CanSplit, matters}
 use Rattle.std.proofs.lemmas.List.Elements.{Contains-append_left, Contains-append_right, Contains-append_cases}
 use Rattle.cip_domain.specs.Changes.{narrowed}
-use Rattle.cip_linear.specs.Improving.{IsBoundIn, HasNoImproving, IsNoDearer}
-use Rattle.cip_leaves.specs.Searched.{first_node, nodes_given, NoMore}
-use Rattle.cip_leaves.specs.WideLeaf.{IsWideLeaf}
+use Rattle.cip_problem.specs.Improving.{IsBoundIn, HasNoImproving, IsNoDearer}
+use Rattle.cip_search.specs.Searched.{first_node, nodes_given, NoMore}
+use Rattle.cip_search.specs.WideLeaf.{IsWideLeaf}
 use Rattle.cip_search.specs.SearchState.{WayBack, HasGivenBoxes, IsAttained, IsStuck}
 use Rattle.cip_search.specs.Statements.{AreHalves}
 use Rattle.cip_search.proofs.Members.{here, later, here_or_later, kept_was_there}

@@ -2,13 +2,13 @@
 use Rattle.std.proofs.Common.{Bool, List, sym, subst}
 use Rattle.cip_problem.specs.Program.{Program}
 use Rattle.cip_problem.specs.WellFormed.{IsWellFormed}
-use Rattle.cip_leaves.specs.Leaf.{at_wholes}
+use Rattle.cip_search.specs.Leaf.{at_wholes}
 use Rattle.cip_search.specs.SearchState.{IsWayBack}
-use Rattle.cip_postsolve.specs.WholeParts.{with_wholes}
-use Rattle.cip_postsolve.proofs.PassedOn.{pair_way_back}
-use Rattle.cip_postsolve.specs.StepsBack.{StepsTaken, point_back, old_number, whole_of_left, way_back}
-use Rattle.cip_postsolve.specs.declared.presolved.Presolved.{Presolved}
-use Rattle.cip_postsolve.specs.PresolvedPrograms.{IsPresolved}
+use Rattle.cip_presolve.specs.WholeParts.{with_wholes}
+use Rattle.cip_presolve.proofs.PassedOn.{pair_way_back}
+use Rattle.cip_presolve.specs.StepsBack.{StepsTaken, point_back, old_number, whole_of_left, way_back}
+use Rattle.cip_presolve.specs.declared.left_programs.Presolved.{Presolved}
+use Rattle.cip_presolve.specs.PresolvedPrograms.{IsPresolved}
 use Rattle.cip_core.specs.CoreStates.{IsReducedBy}
 
 -- what presolve made of a program is reduced by its steps

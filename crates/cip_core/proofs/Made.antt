@@ -5,15 +5,15 @@ use Rattle.std.proofs.lemmas.List.{length-replicate}
 use Rattle.cip_rational.specs.Rational.{ℚ, zeroℚ}
 use Rattle.cip_problem.specs.Program.{Row, Program}
 use Rattle.cip_problem.specs.WellFormed.{columns}
-use Rattle.cip_linear.specs.Cuts.{HasWholeCosts, terms_from}
+use Rattle.cip_problem.specs.Cuts.{HasWholeCosts, terms_from}
 use Rattle.cip_incumbent.specs.HeldPoint.{Holding, nothing_held}
 use Rattle.cip_rows.specs.RowPools.{Pool}
 use Rattle.cip_search.specs.SearchState.{HasGivenBoxes}
 use Rattle.cip_tree.specs.Nodes.{Nodes}
 use Rattle.cip_tree.specs.Moves.{IsNew}
-use Rattle.cip_postsolve.specs.StepsBack.{way_back}
-use Rattle.cip_postsolve.specs.declared.presolved.Presolved.{Presolved}
-use Rattle.cip_postsolve.specs.PresolvedPrograms.{IsPresolved}
+use Rattle.cip_presolve.specs.StepsBack.{way_back}
+use Rattle.cip_presolve.specs.declared.left_programs.Presolved.{Presolved}
+use Rattle.cip_presolve.specs.PresolvedPrograms.{IsPresolved}
 use Rattle.cip_core.specs.Beginning.{IsRootBound, HasNotBegun}
 use Rattle.cip_core.specs.Entering.{own_region}
 use Rattle.cip_core.specs.KeptNodes.{cost_held, state_of, IsKept}

@@ -4,11 +4,11 @@ use Rattle.cip_rational.specs.Rational.{ℚ}
 use Rattle.cip_problem.specs.Program.{Program}
 use Rattle.cip_problem.specs.WellFormed.{IsWellFormed, columns}
 use Rattle.cip_incumbent.specs.declared.offers.Offered.{Offered}
-use Rattle.cip_postsolve.specs.StepsBack.{StepsTaken, point_back, form_outcome, OverflowsBack, FitsBack}
-use Rattle.cip_postsolve.specs.Forms.{placed}
-use Rattle.cip_postsolve.specs.PostsolveFaults.{IsPostsolveFault}
-use Rattle.cip_postsolve.specs.declared.faults.PostsolveFault.{PostsolveFault}
-use Rattle.cip_postsolve.specs.declared.faults.PostsolveFault.TheVariants.{Wide, NoMemory}
+use Rattle.cip_presolve.specs.StepsBack.{StepsTaken, point_back, form_outcome, OverflowsBack, FitsBack}
+use Rattle.cip_presolve.specs.Forms.{placed}
+use Rattle.cip_presolve.specs.PostsolveFaults.{IsPostsolveFault}
+use Rattle.cip_presolve.specs.declared.faults.PostsolveFault.{PostsolveFault}
+use Rattle.cip_presolve.specs.declared.faults.PostsolveFault.TheVariants.{Wide, NoMemory}
 use Rattle.cip_core.specs.CoreStates.{CoreState, held_of, IsReducedBy}
 use Rattle.cip_core.specs.Steps.{IsTried, IsOffered, IsTriedBack}
 

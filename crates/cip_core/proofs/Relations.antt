@@ -3,9 +3,9 @@ use Rattle.std.proofs.Common.{◌≡◌, inl, inr, Option, None, Some, IfSome, r
 use Rattle.cip_rational.specs.Rational.{ℚ, IsWhole}
 use Rattle.cip_rational.proofs.Rational.Order.{≤ℚ_trans}
 use Rattle.cip_problem.specs.Log.{Node}
-use Rattle.cip_linear.specs.Cuts.{HasWholeCosts}
-use Rattle.cip_linear.specs.Improving.{IsNoDearer, IsImproving}
-use Rattle.cip_linear.proofs.Improving.{fewer}
+use Rattle.cip_problem.specs.Cuts.{HasWholeCosts}
+use Rattle.cip_problem.specs.Improving.{IsNoDearer, IsImproving}
+use Rattle.cip_problem.proofs.Improving.{fewer}
 use Rattle.cip_search.proofs.Bounds.{no_more_itself}
 use Rattle.cip_search.proofs.Relaxed.{no_more_trans}
 use Rattle.cip_tree.specs.Nodes.{TakenNode, shown}

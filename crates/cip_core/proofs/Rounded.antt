@@ -6,10 +6,10 @@ use Rattle.cip_rational.proofs.Rational.Whole.{IsWhole-integer}
 use Rattle.cip_rational.proofs.Rational.Order.{≤ℚ_refl}
 use Rattle.cip_rational.proofs.Rational.Rounding.{le_ceil}
 use Rattle.cip_problem.specs.Program.{Sides, Program}
-use Rattle.cip_linear.specs.Improving.{IsBoundIn}
-use Rattle.cip_linear.specs.Cuts.{HasWholeCosts}
-use Rattle.cip_linear.proofs.Implied.{whole_bound}
-use Rattle.cip_leaves.specs.Searched.{NoMore}
+use Rattle.cip_problem.specs.Improving.{IsBoundIn}
+use Rattle.cip_problem.specs.Cuts.{HasWholeCosts}
+use Rattle.cip_problem.proofs.Implied.{whole_bound}
+use Rattle.cip_search.specs.Searched.{NoMore}
 use Rattle.cip_search.proofs.Relaxed.{no_more_trans}
 use Rattle.cip_core.specs.CoreStates.{CoreState, reduced_of}
 use Rattle.cip_core.specs.Steps.{IsRaisedTo}

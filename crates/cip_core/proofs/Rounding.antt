@@ -3,7 +3,7 @@ use Rattle.std.proofs.Common.{◌≡◌, ◌++◌, List, map, Option, None, Some
 use Rattle.std.specs.Borrow.{Bor}
 use Rattle.cip_rational.specs.Rational.{ℚ, ◌+ℚ◌}
 use Rattle.cip_problem.specs.Program.{Sides, Row, Program}
-use Rattle.cip_linear.specs.LinearProgram.{LinearProgram, CostsAtLeast}
+use Rattle.cip_problem.specs.LinearProgram.{LinearProgram, CostsAtLeast}
 use Rattle.cip_cert.specs.Lent.{Lent}
 use Rattle.cip_core.specs.NodeRows.{usable_rows}
 use Rattle.cip_core.specs.Relaxing.{node_program, ShowsBound}

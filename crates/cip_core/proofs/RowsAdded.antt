@@ -8,10 +8,10 @@ use Rattle.cip_problem.specs.Program.{Sides, Program}
 use Rattle.cip_problem.specs.Points.{IsSatisfied}
 use Rattle.cip_problem.specs.Activity.{StandsBelow}
 use Rattle.cip_problem.specs.WellFormed.{IsWellFormed, columns}
-use Rattle.cip_linear.specs.Cuts.{terms_from, row_of, cutoff_row}
-use Rattle.cip_linear.specs.Improving.{IsImproving, IsValid}
-use Rattle.cip_linear.proofs.Rows.{row_stands, row_satisfied, cutoff_satisfied}
-use Rattle.cip_linear.specs.Aggregate.{Inequality}
+use Rattle.cip_problem.specs.Cuts.{terms_from, row_of, cutoff_row}
+use Rattle.cip_problem.specs.Improving.{IsImproving, IsValid}
+use Rattle.cip_problem.proofs.Rows.{row_stands, row_satisfied, cutoff_satisfied}
+use Rattle.cip_problem.specs.Aggregate.{Inequality}
 use Rattle.cip_cert.specs.Lent.{KeptFits, Fits}
 use Rattle.cip_cert.specs.Resting.{valid_below, ArePoolRowsValid, IsLentOf}
 use Rattle.cip_rows.proofs.ValidPools.{more_valid}

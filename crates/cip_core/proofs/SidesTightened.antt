@@ -11,13 +11,13 @@ use Rattle.cip_problem.specs.Choices.{greater, lesser, met}
 use Rattle.cip_problem.specs.Log.{Node}
 use Rattle.cip_problem.proofs.Choices.Meeting.{between_met, set_in_box}
 use Rattle.cip_problem.proofs.Points.AtPlaces.{in_box_at}
-use Rattle.cip_linear.specs.Improving.{HoldsInBox}
+use Rattle.cip_problem.specs.Improving.{HoldsInBox}
 use Rattle.cip_lin.specs.declared.sides.Side.{Side}
 use Rattle.cip_domain.specs.Changes.{Region, Change, side_change, tightened}
 use Rattle.cip_domain.specs.Domain.{tightening}
 use Rattle.cip_domain.specs.declared.stores.Tightened.{Tightened}
 use Rattle.cip_domain.specs.declared.stores.Tightened.TheVariants.{Yes, Same, Empty}
-use Rattle.cip_leaves.specs.WideLeaf.{IsWideLeaf}
+use Rattle.cip_search.specs.WideLeaf.{IsWideLeaf}
 use Rattle.cip_search.proofs.Bounds.{no_more_itself}
 use Rattle.cip_search.proofs.Members.{here, later, here_or_later}
 use Rattle.cip_search.proofs.Kept as searching

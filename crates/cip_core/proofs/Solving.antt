@@ -1,7 +1,7 @@
 -- What Bland's list answers from the start of the first state holds, and so do its reasons.
 use Rattle.std.proofs.Common.{◌≡◌, Result, Ok, Err, ap, ◌∙◌, subst}
 use Rattle.std.specs.Prelude.{IfOk}
-use Rattle.cip_linear.specs.LinearProgram.{LinearProgram}
+use Rattle.cip_problem.specs.LinearProgram.{LinearProgram}
 use Rattle.cip_search.specs.ProgramState.{first_of_program}
 use Rattle.cip_bland.specs.EndAnswers.{Answer, answer}
 use Rattle.cip_bland.specs.Statements.{IsRight}

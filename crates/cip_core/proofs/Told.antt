@@ -9,8 +9,8 @@ use Rattle.cip_problem.specs.Program.{Sides, Row, Program}
 use Rattle.cip_problem.specs.Box.{IsInBox, box_inside}
 use Rattle.cip_problem.specs.Points.{IsSatisfied, cost_of}
 use Rattle.cip_problem.proofs.Box.SideTests.{inner_box_holds}
-use Rattle.cip_linear.specs.LinearProgram.{IsPoint, HasNoPoint}
-use Rattle.cip_linear.proofs.Rays.{ray_unbounded}
+use Rattle.cip_problem.specs.LinearProgram.{IsPoint, HasNoPoint}
+use Rattle.cip_problem.proofs.Rays.{ray_unbounded}
 use Rattle.cip_basis.specs.Improving.{IsImproving, IsBoundIn, HasNoImproving}
 use Rattle.cip_cert.specs.declared.rows.PoolRow.{PoolRow}
 use Rattle.cip_cert.specs.Lent.{Lent}

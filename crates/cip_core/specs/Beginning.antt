@@ -4,14 +4,14 @@ use Rattle.cip_rational.specs.Rational.{ℚ, integer, ceil}
 use Rattle.cip_problem.specs.Program.{Program}
 use Rattle.cip_problem.specs.WellFormed.{columns}
 use Rattle.cip_problem.specs.Box.{sides_at}
-use Rattle.cip_linear.specs.Cuts.{HasWholeCosts}
+use Rattle.cip_problem.specs.Cuts.{HasWholeCosts}
 use Rattle.cip_incumbent.specs.HeldPoint.{nothing_held}
 use Rattle.cip_model.specs.Least.{least_cost_from}
 use Rattle.cip_node_rules.specs.OpenColumns.{is_whole_at}
 use Rattle.cip_node_rules.specs.RootBounds.{least_value}
 use Rattle.cip_node_rules.specs.SplitRules.{AreNear}
 use Rattle.cip_tree.specs.Moves.{IsNew}
-use Rattle.cip_postsolve.specs.StepsBack.{StepsTaken}
+use Rattle.cip_presolve.specs.StepsBack.{StepsTaken}
 use Rattle.cip_core.specs.Entering.{own_region}
 use Rattle.cip_core.specs.CoreStates.{CoreState, IsKeptIn}
 

@@ -6,12 +6,12 @@ use Rattle.cip_problem.specs.Program.{Row, Program}
 use Rattle.cip_problem.specs.Codes.{program_code}
 use Rattle.cip_problem.specs.WellFormed.{columns}
 use Rattle.cip_problem.specs.Log.{Node, node_of}
-use Rattle.cip_linear.specs.Cuts.{HasWholeCosts}
-use Rattle.cip_leaves.specs.Searched.{nodes_given}
+use Rattle.cip_problem.specs.Cuts.{HasWholeCosts}
+use Rattle.cip_search.specs.Searched.{nodes_given}
 use Rattle.cip_search.specs.SearchState.{WayBack, HasGivenBoxes}
-use Rattle.cip_postsolve.specs.Pairs.{IsAssignment, IsPair}
-use Rattle.cip_postsolve.specs.StepsBack.{StepsTaken, steps_code, way_back}
-use Rattle.cip_postsolve.specs.StepsBack.{point_back, old_number, whole_of_left, whole_point, LeafFitsBack}
+use Rattle.cip_presolve.specs.Pairs.{IsAssignment, IsPair}
+use Rattle.cip_presolve.specs.StepsBack.{StepsTaken, steps_code, way_back}
+use Rattle.cip_presolve.specs.StepsBack.{point_back, old_number, whole_of_left, whole_point, LeafFitsBack}
 use Rattle.cip_incumbent.specs.HeldPoint.{Holding, holding_code}
 use Rattle.cip_cert.specs.Lent.{Lent}
 use Rattle.cip_cert.specs.Resting.{ArePoolRowsValid}

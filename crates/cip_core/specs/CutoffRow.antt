@@ -3,7 +3,7 @@ use Rattle.std.specs.Prelude.{Option, None, Some, if◌then◌else◌}
 use Rattle.cip_rational.specs.Rational.{ℚ, ◌-ℚ◌}
 use Rattle.cip_rational.specs.Range.{difference_overflows}
 use Rattle.cip_problem.specs.Program.{Row, Program}
-use Rattle.cip_linear.specs.Cuts.{terms_from}
+use Rattle.cip_problem.specs.Cuts.{terms_from}
 
 -- its high side, which is open where nothing is held, and where the difference overflows
 abbrev pub cutoff_side : Program → Option ℚ → Option ℚ

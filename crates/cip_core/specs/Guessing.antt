@@ -1,7 +1,7 @@
 -- What a basis that is guessed shows of the linear program of a node.
 use Rattle.std.specs.Prelude.{ℕ, List, IfSome}
 use Rattle.cip_problem.specs.Program.{Sides, Program}
-use Rattle.cip_linear.specs.LinearProgram.{IsPoint}
+use Rattle.cip_problem.specs.LinearProgram.{IsPoint}
 use Rattle.cip_cert.specs.Lent.{Lent}
 use Rattle.cip_core.specs.Relaxing.{node_program, ShowsBound, IsRelaxed}
 use Rattle.cip_core.specs.declared.guessing.Beside.{Beside}

@@ -7,8 +7,8 @@ use Rattle.cip_problem.specs.Program.{Sides, Program}
 use Rattle.cip_problem.specs.Box.{sides_at}
 use Rattle.cip_problem.specs.WellFormed.{columns}
 use Rattle.cip_problem.specs.Log.{Node, matters}
-use Rattle.cip_leaves.specs.Searched.{first_node}
-use Rattle.cip_leaves.specs.WideLeaf.{IsWideLeaf}
+use Rattle.cip_search.specs.Searched.{first_node}
+use Rattle.cip_search.specs.WideLeaf.{IsWideLeaf}
 use Rattle.cip_tree.specs.Nodes.{Nodes}
 use Rattle.cip_incumbent.specs.HeldPoint.{Holding, HoldsPointOf}
 use Rattle.cip_node_rules.specs.OpenColumns.{is_whole_at}

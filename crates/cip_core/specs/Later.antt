@@ -3,9 +3,9 @@ use Rattle.std.specs.Prelude.{◌≡◌, ◌⊎◌, ◌≤◌, false, List, IfSo
 use Rattle.cip_rational.specs.Rational.{ℚ, IsWhole}
 use Rattle.cip_problem.specs.Box.{IsInBox}
 use Rattle.cip_problem.specs.Log.{Node}
-use Rattle.cip_linear.specs.Cuts.{HasWholeCosts}
-use Rattle.cip_linear.specs.Improving.{HoldsInBox, IsNoDearer}
-use Rattle.cip_leaves.specs.Searched.{NoMore}
+use Rattle.cip_problem.specs.Cuts.{HasWholeCosts}
+use Rattle.cip_problem.specs.Improving.{HoldsInBox, IsNoDearer}
+use Rattle.cip_search.specs.Searched.{NoMore}
 use Rattle.cip_tree.specs.Nodes.{TakenNode, region_of, shown}
 use Rattle.cip_core.specs.CoreStates.{CoreState, reduced_of, held_of, IsAtWork}
 

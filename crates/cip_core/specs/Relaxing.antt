@@ -4,7 +4,7 @@ use Rattle.cip_rational.specs.Rational.{ℚ, ◌+ℚ◌, ◌≤ℚ◌, integer, 
 use Rattle.cip_rational.specs.Sums.{dot}
 use Rattle.cip_rational.specs.Range.{sum_overflows}
 use Rattle.cip_problem.specs.Program.{Sides, Program}
-use Rattle.cip_linear.specs.LinearProgram.{LinearProgram, IsPoint, HasNoPoint, CostsAtLeast, IsOptimal, IsRay}
+use Rattle.cip_problem.specs.LinearProgram.{LinearProgram, IsPoint, HasNoPoint, CostsAtLeast, IsOptimal, IsRay}
 use Rattle.cip_lin.specs.declared.combos.Combo.{Combo}
 use Rattle.cip_bland.specs.EndAnswers.{Certificate, Optimal, NoPoint, OutOfRange, LimitReached, answer}
 use Rattle.cip_bland.specs.Statements.{IsRight}

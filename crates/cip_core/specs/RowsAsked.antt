@@ -2,8 +2,8 @@
 use Rattle.std.specs.Prelude.{◌≡◌, Bool, List, Ok, Err, Result, if◌then◌else◌}
 use Rattle.cip_problem.specs.Program.{Sides}
 use Rattle.cip_problem.specs.WellFormed.{columns}
-use Rattle.cip_linear.specs.Cuts.{row_of}
-use Rattle.cip_linear.specs.Aggregate.{Inequality}
+use Rattle.cip_problem.specs.Cuts.{row_of}
+use Rattle.cip_problem.specs.Aggregate.{Inequality}
 use Rattle.cip_lin.specs.declared.combos.Combo.{Combo}
 use Rattle.cip_cert.specs.Checks.{derived}
 use Rattle.cip_cert.specs.Lent.{multiples_of}

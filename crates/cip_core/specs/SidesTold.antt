@@ -3,7 +3,7 @@ use Rattle.std.specs.Prelude.{◌≡◌, ◌≢◌, ℕ, ◌<◌, Bool, true, So
 use Rattle.cip_rational.specs.Rational.{ℚ}
 use Rattle.cip_problem.specs.Box.{no_sides, sides_at}
 use Rattle.cip_problem.specs.WellFormed.{columns}
-use Rattle.cip_linear.specs.Improving.{HoldsInBox}
+use Rattle.cip_problem.specs.Improving.{HoldsInBox}
 use Rattle.cip_lin.specs.declared.sides.Side.{Side}
 use Rattle.cip_domain.specs.Changes.{with_side, side_change}
 use Rattle.cip_domain.specs.Domain.{tightening}

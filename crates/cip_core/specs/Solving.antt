@@ -1,7 +1,7 @@
 -- What is said of an answer on the linear program of a node, by whichever rule it was found; and by which rule it is
 -- said that there is none.
 use Rattle.std.specs.Prelude.{◌≡◌, ℕ}
-use Rattle.cip_linear.specs.LinearProgram.{LinearProgram}
+use Rattle.cip_problem.specs.LinearProgram.{LinearProgram}
 use Rattle.cip_bland.specs.EndAnswers as list
 use Rattle.cip_bland.specs.EndAnswers.{answer}
 use Rattle.cip_bland.specs.Statements.{IsRight}

@@ -5,9 +5,9 @@ use Rattle.std.specs.List.Sorted.{IsPermutation}
 use Rattle.cip_rational.specs.Rational.{ℚ, integer, ceil}
 use Rattle.cip_problem.specs.Program.{Program}
 use Rattle.cip_problem.specs.Log.{End, Split, Closed, Parked, Node, matters}
-use Rattle.cip_linear.specs.Cuts.{HasWholeCosts}
-use Rattle.cip_linear.specs.Improving.{IsNoDearer}
-use Rattle.cip_leaves.specs.Searched.{NoMore}
+use Rattle.cip_problem.specs.Cuts.{HasWholeCosts}
+use Rattle.cip_problem.specs.Improving.{IsNoDearer}
+use Rattle.cip_search.specs.Searched.{NoMore}
 use Rattle.cip_model.specs.Verdicts.{verdict_of}
 use Rattle.cip_model.specs.declared.verdicts.Verdict.TheVariants.{Feasible}
 use Rattle.cip_incumbent.specs.HeldPoint.{offered, after_offer}
@@ -15,9 +15,9 @@ use Rattle.cip_incumbent.specs.declared.offers.Offered.{Offered}
 use Rattle.cip_rows.specs.RowPools.{Pool, kept_pool_rows}
 use Rattle.cip_tree.specs.Moves.{is_cheaper}
 use Rattle.cip_tree.specs.Nodes.{TakenNode, Nodes, base_at, shown}
-use Rattle.cip_postsolve.specs.StepsBack.{point_back, FitsBack}
-use Rattle.cip_postsolve.specs.PostsolveFaults.{IsPostsolveFault}
-use Rattle.cip_postsolve.specs.declared.faults.PostsolveFault.{PostsolveFault}
+use Rattle.cip_presolve.specs.StepsBack.{point_back, FitsBack}
+use Rattle.cip_presolve.specs.PostsolveFaults.{IsPostsolveFault}
+use Rattle.cip_presolve.specs.declared.faults.PostsolveFault.{PostsolveFault}
 use Rattle.cip_core.specs.CoreStates.{CoreState, reduced_of, held_of, IsKeptIn}
 use Rattle.cip_core.specs.Later.{IsLater}
 

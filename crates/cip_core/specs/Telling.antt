@@ -4,7 +4,7 @@ use Rattle.std.specs.List.{Contains}
 use Rattle.cip_rational.specs.Rational.{ℚ, integer, ceil}
 use Rattle.cip_problem.specs.Program.{Sides, Program}
 use Rattle.cip_problem.specs.Box.{IsInBox}
-use Rattle.cip_linear.specs.LinearProgram.{IsPoint, HasNoPoint}
+use Rattle.cip_problem.specs.LinearProgram.{IsPoint, HasNoPoint}
 use Rattle.cip_basis.specs.Improving.{IsImproving, IsValidRow, IsBoundIn, HasNoImproving}
 use Rattle.cip_cert.specs.declared.rows.PoolRow.{PoolRow}
 use Rattle.cip_cert.specs.Lent.{Lent}

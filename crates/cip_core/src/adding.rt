@@ -1,8 +1,8 @@
 //! Rows are added to the pool.
 ghost use Rattle.std.specs.Prelude.{◌≡◌, length, MatchResult, if◌then◌else◌};
 ghost use Rattle.cip_problem.specs.WellFormed.{columns};
-ghost use Rattle.cip_linear.specs.Cuts.{row_of};
-ghost use Rattle.cip_linear.specs.Improving.{IsValid};
+ghost use Rattle.cip_problem.specs.Cuts.{row_of};
+ghost use Rattle.cip_problem.specs.Improving.{IsValid};
 ghost use Rattle.cip_cert.specs.Resting.{valid_below};
 ghost use Rattle.cip_rows.specs.Adding.{IsAdded};
 ghost use Rattle.cip_core.specs.RowsAsked.{scope_of, IsAsked};

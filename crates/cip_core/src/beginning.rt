@@ -1,12 +1,12 @@
 //! What a search begins with.
 ghost use Rattle.std.specs.Prelude.{◌≡◌, [], None, IfOk, IfSome, MatchBool, length};
 ghost use Rattle.cip_problem.specs.WellFormed.{columns};
-ghost use Rattle.cip_linear.specs.Cuts.{HasWholeCosts};
-ghost use Rattle.cip_linear.specs.Improving.{IsBoundIn};
+ghost use Rattle.cip_problem.specs.Cuts.{HasWholeCosts};
+ghost use Rattle.cip_problem.specs.Improving.{IsBoundIn};
 ghost use Rattle.cip_tree.specs.Moves.{IsNew};
 ghost use Rattle.cip_search.specs.SearchState.{HasGivenBoxes};
-ghost use Rattle.cip_postsolve.specs.StepsBack.{way_back};
-ghost use Rattle.cip_postsolve.specs.PresolvedPrograms.{IsPresolved};
+ghost use Rattle.cip_presolve.specs.StepsBack.{way_back};
+ghost use Rattle.cip_presolve.specs.PresolvedPrograms.{IsPresolved};
 ghost use Rattle.cip_core.specs.Beginning.{IsRootBound, AreNearColumns, HasNotBegun};
 ghost use Rattle.cip_core.specs.Entering.{own_region};
 ghost use Rattle.cip_core.specs.KeptNodes.{IsKept, state_of};
@@ -20,7 +20,7 @@ use cip_frac::Frac;
 use cip_incumbent::Incumbent;
 use cip_model::Program;
 use cip_node_rules::rounded_least;
-use cip_postsolve::Presolved;
+use cip_presolve::Presolved;
 use cip_rows::RowPool;
 use cip_tree::Tree;
 use std::alloc::{AllocError, Global};

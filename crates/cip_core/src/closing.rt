@@ -1,9 +1,9 @@
 //! Nodes are taken up, and end without halves.
 ghost use Rattle.std.specs.Prelude.{◌≡◌, ◌++◌, ◌∷◌, [], false, MatchOption};
 ghost use Rattle.cip_problem.specs.Log.{Closed, Parked, AllFollow, matters};
-ghost use Rattle.cip_linear.specs.Improving.{HasNoImproving};
-ghost use Rattle.cip_leaves.specs.Searched.{first_node};
-ghost use Rattle.cip_leaves.specs.WideLeaf.{IsWideLeaf};
+ghost use Rattle.cip_problem.specs.Improving.{HasNoImproving};
+ghost use Rattle.cip_search.specs.Searched.{first_node};
+ghost use Rattle.cip_search.specs.WideLeaf.{IsWideLeaf};
 ghost use Rattle.cip_search.specs.SearchState.{IsStuck};
 ghost use Rattle.cip_tree.specs.Moves.{TakesFirst};
 ghost use Rattle.cip_tree.specs.Nodes.{box_of, shown};

@@ -1,7 +1,7 @@
 //! The cutoff row.
 ghost use Rattle.std.specs.Prelude.{◌≡◌, ◌≤◌, None, length, IfOk};
 ghost use Rattle.cip_problem.specs.Limits.{most_columns};
-ghost use Rattle.cip_linear.specs.Cuts.{terms_from};
+ghost use Rattle.cip_problem.specs.Cuts.{terms_from};
 ghost use Rattle.cip_core.specs.CutoffRow.{cutoff_side};
 
 use cip_frac::Frac;

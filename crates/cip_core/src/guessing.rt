@@ -4,7 +4,7 @@ ghost use Rattle.cip_rational.specs.Rational.{◌+ℚ◌, le_test};
 ghost use Rattle.cip_problem.specs.Choices.{greater};
 ghost use Rattle.cip_problem.specs.WellFormed.{columns};
 ghost use Rattle.cip_problem.specs.Program.{Sides, Row};
-ghost use Rattle.cip_linear.specs.LinearProgram.{IsPoint};
+ghost use Rattle.cip_problem.specs.LinearProgram.{IsPoint};
 ghost use Rattle.cip_cert.specs.Lent.{Lent};
 ghost use Rattle.cip_basis.specs.Shown.{IsReady, IsShown, program_of};
 ghost use Rattle.cip_core.specs.NodeRows.{usable_rows};

@@ -29,7 +29,7 @@ pub use beginning::root_bound;
 pub use bound_costs::are_costs_whole;
 pub use bound_laws::node_programs_tell;
 pub use cip_model::{Program, Verdict};
-pub use cip_postsolve::{PostsolveFault, Presolved, Steps, postsolve, whole_part};
+pub use cip_presolve::{PostsolveFault, Presolved, Steps, postsolve, whole_part};
 pub use cip_simplex::Start;
 pub use cores::Core;
 pub use laws::steps_compose;

@@ -3,7 +3,7 @@ ghost use Rattle.std.specs.Prelude.{◌≡◌, ◌≢◌, Err, length, MatchResu
 ghost use Rattle.cip_problem.specs.WellFormed.{columns};
 ghost use Rattle.cip_model.specs.Verdicts.{verdict_of};
 ghost use Rattle.cip_model.specs.declared.verdicts.Verdict.TheVariants.{Feasible};
-ghost use Rattle.cip_postsolve.specs.declared.faults.PostsolveFault.TheVariants.{NoMemory};
+ghost use Rattle.cip_presolve.specs.declared.faults.PostsolveFault.TheVariants.{NoMemory};
 ghost use Rattle.cip_core.specs.CoreStates.{reduced_of, IsAtWork};
 ghost use Rattle.cip_core.specs.CutoffRow.{with_high};
 ghost use Rattle.cip_core.specs.KeptNodes.{cost_held};
@@ -15,7 +15,7 @@ use crate::costs::side_of;
 use cip_frac::Frac;
 use cip_incumbent::{Incumbent, Offered};
 use cip_lin::Row;
-use cip_postsolve::{PostsolveFault, postsolve};
+use cip_presolve::{PostsolveFault, postsolve};
 use cip_tree::{Node, Tree};
 use std::alloc::Global;
 

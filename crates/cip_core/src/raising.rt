@@ -1,7 +1,7 @@
 //! Bounds of nodes in work.
 ghost use Rattle.std.specs.Prelude.{◌≡◌, Some, MatchBool};
-ghost use Rattle.cip_linear.specs.Improving.{IsBoundIn};
-ghost use Rattle.cip_leaves.specs.Searched.{NoMore};
+ghost use Rattle.cip_problem.specs.Improving.{IsBoundIn};
+ghost use Rattle.cip_search.specs.Searched.{NoMore};
 ghost use Rattle.cip_tree.specs.Nodes.{box_of};
 ghost use Rattle.cip_core.specs.CoreStates.{reduced_of, held_of, IsAtWork};
 ghost use Rattle.cip_core.specs.Later.{IsLaterAt};

@@ -1,8 +1,7 @@
 //! Single entries and values of a dictionary, each formed at its place.
 ghost use Rattle.std.specs.Prelude.{◌≡◌, ◌∷◌, [], Some, None, MatchResult};
 ghost use Rattle.cip_rational.specs.Rational.{◌+ℚ◌, ◌-ℚ◌, ◌*ℚ◌, lt_test, is_zero};
-ghost use Rattle.cip_rational.specs.Range.{difference_overflows};
-ghost use Rattle.cip_bland.specs.Operations.{first_overflow, product_at, sum_at, Difference, Product, Sum, placed};
+ghost use Rattle.cip_bland.specs.Operations.{first_overflow, product_at, sum_at, Difference, Product, placed};
 ghost use Rattle.cip_dict.specs.Values.{IsAdded};
 
 use crate::fault::OutOfRange;

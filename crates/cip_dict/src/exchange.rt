@@ -9,7 +9,7 @@ ghost use Rattle.cip_dict.specs.Lists.{basic_in, entry_in};
 ghost use Rattle.cip_dict.specs.Pivots.{solved_by, solved_operations_by, substituted_by, substituted_operations_by};
 ghost use Rattle.cip_dict.specs.Row.{row_in, taken_form, AreMarked, HasRows, HasRowsAfter, HasSpelled};
 ghost use Rattle.cip_bland.specs.Dictionary.{standing_value};
-ghost use Rattle.cip_bland.specs.Exchange.{CanExchange, exchanged};
+ghost use Rattle.cip_bland.specs.Exchange.{CanExchange};
 ghost use Rattle.cip_bland.specs.MoveOperations.{exchange_operations};
 ghost use Rattle.cip_dict.specs.MoveFaults.{IsMoveFault};
 ghost use Rattle.cip_dict.specs.State.{state, HasLists, HasRoom};

@@ -2,13 +2,10 @@
 ghost use Rattle.std.specs.Prelude.{◌≡◌, ℕ, ◌+◌, ◌-◌, ◌<◌, ◌≤◌, ◌^◌, ◌++◌, [], length, Some, None, MatchResult, IfOk, OnOk, replicate, slice_set, slice_index_or, if◌then◌else◌};
 ghost use Rattle.cip_rational.specs.Rational.{zeroℚ, ◌+ℚ◌, ◌*ℚ◌};
 ghost use Rattle.cip_problem.specs.Activity.{value_at};
-ghost use Rattle.cip_problem.specs.Box.{sides_at};
 ghost use Rattle.cip_bland.specs.Tables.{table, each, form};
-ghost use Rattle.cip_bland.specs.Dictionary.{standing_value};
-ghost use Rattle.cip_bland.specs.FirstState.{first, first_stand, form_operations, first_operations};
-ghost use Rattle.cip_bland.specs.Operations.{first_overflow, value_place, sum_at};
-ghost use Rattle.cip_dict.specs.Lists.{basic_in};
-ghost use Rattle.cip_dict.specs.Row.{row_in, row_length, HasRows};
+ghost use Rattle.cip_bland.specs.FirstState.{first, first_stand, first_operations};
+ghost use Rattle.cip_bland.specs.Operations.{first_overflow};
+ghost use Rattle.cip_dict.specs.Row.{row_in, row_length};
 ghost use Rattle.cip_dict.specs.Entries.{entry_from, AreWithin, system_in, IsRowFault, IsFirstFault};
 ghost use Rattle.cip_dict.specs.FirstLists.{stand_in, cost_in, column_value, row_form, row_operations, row_of_entries, column_values_of, value_operations_at, value_operations};
 ghost use Rattle.cip_dict.specs.State.{state, HasLists, HasRoom};

@@ -2,9 +2,7 @@
 ghost use Rattle.std.specs.Prelude.{◌≡◌, ℕ, ◌<◌, ◌^◌, true, false, length, Some, None, MatchResult, slice_index_or};
 ghost use Rattle.cip_rational.specs.Rational.{◌+ℚ◌};
 ghost use Rattle.cip_problem.specs.Activity.{value_at};
-ghost use Rattle.cip_problem.specs.Box.{sides_at};
 ghost use Rattle.cip_bland.specs.Tables.{least};
-ghost use Rattle.cip_bland.specs.Dictionary.{standing_value};
 ghost use Rattle.cip_bland.specs.Exchange.{CanFlip, other_stand};
 ghost use Rattle.cip_bland.specs.Operations.{first_overflow};
 ghost use Rattle.cip_bland.specs.MoveOperations.{first_line, flip_operations};

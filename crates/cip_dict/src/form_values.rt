@@ -5,7 +5,7 @@ ghost use Rattle.cip_problem.specs.Activity.{value_at};
 ghost use Rattle.cip_bland.specs.Tables.{form};
 ghost use Rattle.cip_bland.specs.FirstState.{form_operations};
 ghost use Rattle.cip_bland.specs.Operations.{first_overflow, value_place, sum_at};
-ghost use Rattle.cip_dict.specs.SparseLines.{Kept, entry_on, AreKept};
+ghost use Rattle.cip_dict.specs.SparseLines.{entry_on, AreKept};
 
 use crate::entries::sum;
 use crate::fault::OutOfRange;

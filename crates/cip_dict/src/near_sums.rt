@@ -3,7 +3,7 @@ ghost use Rattle.std.specs.Prelude.{◌≡◌, ℕ, ◌^◌, ◌*◌, ◌<◌, �
 ghost use Rattle.cip_rational.specs.Range.{magnitude};
 ghost use Rattle.cip_dict.specs.Pivots.{put_by};
 ghost use Rattle.cip_dict.specs.SparseLines.{AreKept};
-ghost use Rattle.cip_dict.specs.WholeLines.{over, AreBelow, whole_at, wholes_of};
+ghost use Rattle.cip_dict.specs.WholeLines.{over, AreBelow, wholes_of};
 ghost use Rattle.cip_dict.specs.declared.near_sums.Put.TheVariants.{Written};
 
 use crate::pivots::Pivot;

@@ -6,8 +6,8 @@ ghost use Rattle.cip_problem.specs.Activity.{value_at};
 ghost use Rattle.cip_bland.specs.Tables.{form};
 ghost use Rattle.cip_bland.specs.FirstState.{form_operations};
 ghost use Rattle.cip_bland.specs.Operations.{first_overflow, value_place, sum_at};
-ghost use Rattle.cip_dict.specs.SparseLines.{entry_on, AreKept, IsPlace};
-ghost use Rattle.cip_dict.specs.WholeLines.{Whole, over, IsWhole};
+ghost use Rattle.cip_dict.specs.SparseLines.{entry_on, AreKept};
+ghost use Rattle.cip_dict.specs.WholeLines.{over, IsWhole};
 
 use crate::entries::{sum, vanishes};
 use crate::fault::OutOfRange;

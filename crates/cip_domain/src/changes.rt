@@ -1,6 +1,5 @@
 //! Changes of one column.
 ghost use Rattle.std.specs.Prelude.{◌≡◌, None, Some};
-ghost use Rattle.cip_problem.specs.Program.{Open};
 ghost use Rattle.cip_problem.specs.Box.{low_inside, high_inside};
 ghost use Rattle.cip_problem.specs.Choices.{met};
 ghost use Rattle.cip_domain.specs.Domain.{is_settled as is_settled_lem};

@@ -2,7 +2,7 @@
 use Rattle.std.proofs.Common.{◌≡◌, true, false, Option, None, Some, sym, ◌∙◌, true≢false}
 use Rattle.cip_rational.specs.Rational.{ℚ}
 use Rattle.cip_rational.proofs.Rational.Order.{le_of_test, test_of_le, lt_of_le_test, ≤ℚ_of_lt}
-use Rattle.cip_leaves.specs.Searched.{NoMore}
+use Rattle.cip_search.specs.Searched.{NoMore}
 use Rattle.cip_endings.specs.LeastBounds.{is_no_more}
 
 pub no_more_tells : (bound other : Option ℚ) → is_no_more bound other ≡ true → NoMore bound other

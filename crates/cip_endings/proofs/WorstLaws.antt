@@ -4,9 +4,9 @@ use Rattle.std.proofs.lemmas.List.Elements.{Contains-append_cases}
 use Rattle.cip_rational.specs.Rational.{ℚ}
 use Rattle.cip_problem.specs.Program.{Program}
 use Rattle.cip_problem.specs.Log.{Node}
-use Rattle.cip_leaves.specs.Leaf.{Leaf}
-use Rattle.cip_leaves.specs.Searched.{NoMore}
-use Rattle.cip_leaves.specs.WideLeaf.{Shown}
+use Rattle.cip_search.specs.Leaf.{Leaf}
+use Rattle.cip_search.specs.Searched.{NoMore}
+use Rattle.cip_search.specs.WideLeaf.{Shown}
 use Rattle.cip_search.proofs.Members.{only_one, none_in}
 use Rattle.cip_search.proofs.Bounds.{no_more_itself}
 use Rattle.cip_search.proofs.Relaxed.{no_more_trans}

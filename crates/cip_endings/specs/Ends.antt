@@ -2,7 +2,7 @@
 use Rattle.std.specs.Prelude.{◌≡◌, Bool, true, false, Option, None, Some, IsSome}
 use Rattle.cip_rational.specs.Rational.{ℚ}
 use Rattle.cip_problem.specs.Log.{matters}
-use Rattle.cip_leaves.specs.Leaf.{Leaf}
+use Rattle.cip_search.specs.Leaf.{Leaf}
 use Rattle.cip_report.specs.Shown.{Shown}
 use Rattle.cip_report.specs.declared.figures.Ended.{Ended}
 use Rattle.cip_report.specs.declared.figures.Ended.TheVariants.{Optimal, Infeasible, Unbounded, NodeLimit}

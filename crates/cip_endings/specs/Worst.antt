@@ -4,8 +4,8 @@ use Rattle.std.specs.Prelude.{◌≡◌, List, [], ◌∷◌, ◌++◌, Option, 
 use Rattle.cip_rational.specs.Rational.{ℚ}
 use Rattle.cip_problem.specs.Program.{Program}
 use Rattle.cip_problem.specs.Log.{Node}
-use Rattle.cip_leaves.specs.Leaf.{Leaf}
-use Rattle.cip_leaves.specs.WideLeaf.{Shown}
+use Rattle.cip_search.specs.Leaf.{Leaf}
+use Rattle.cip_search.specs.WideLeaf.{Shown}
 use Rattle.cip_search.specs.SearchState.{WayBack, IsWideBack}
 use Rattle.cip_search.specs.EndLaws.{IsFirstLeastNode}
 use Rattle.cip_report.specs.LeafAnswers.{shown_as}

@@ -1,6 +1,6 @@
 //! Sets of kinds of events.
 ghost use Rattle.std.specs.Prelude.{◌≡◌, ◌≢◌, true, false};
-ghost use Rattle.cip_events.specs.Events.{place_of, wants};
+ghost use Rattle.cip_events.specs.Events.{wants};
 ghost use Rattle.cip_events.specs.declared.events.EventKind.{EventKind as Kind};
 
 use crate::events::EventKind;

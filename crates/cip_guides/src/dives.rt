@@ -4,7 +4,7 @@ use crate::wholes::{is_whole_at, nearest, rough_distance};
 use cip_frac::Frac;
 use cip_lin::{Row, Side, Sides};
 use cip_plugin::View;
-use cip_row_sums::{Implied, Narrowing, Region, Source, Watched, list_implied, short};
+use cip_tighten::{Implied, Narrowing, Region, Source, Watched, list_implied, short};
 use std::alloc::{AllocError, Global};
 
 // The most columns of a dive whose first value is given up for another.

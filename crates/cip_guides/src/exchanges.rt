@@ -4,7 +4,7 @@ use crate::wholes::is_whole_at;
 use cip_frac::Frac;
 use cip_lin::Row;
 use cip_plugin::View;
-use cip_row_sums::ColumnRows;
+use cip_tighten::ColumnRows;
 use std::alloc::{AllocError, Global};
 
 /// A point, and what each row comes to at it.

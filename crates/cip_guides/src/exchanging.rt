@@ -11,7 +11,7 @@ use crate::wholes::is_whole_at;
 use cip_frac::Frac;
 use cip_lin::Term;
 use cip_plugin::{Guess, Heuristic, Plugin, View};
-use cip_row_sums::{is_long, rough, short};
+use cip_tighten::{is_long, rough, short};
 use std::alloc::{AllocError, Global};
 
 // The part of a share that it has.

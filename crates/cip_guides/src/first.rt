@@ -6,7 +6,7 @@ use crate::splits::split_at;
 use cip_frac::Frac;
 use cip_lin::Sides;
 use cip_plugin::{BranchRule, Plugin, Split, View};
-use cip_row_sums::short;
+use cip_tighten::short;
 use std::alloc::{AllocError, Global};
 
 /// A branching rule: the first whole column whose value at the last point isn't whole, at that value rounded down.

@@ -1,5 +1,5 @@
 //! What splits cost, by column and direction.
-use cip_row_sums::UNIT;
+use cip_tighten::UNIT;
 use std::alloc::{AllocError, Global};
 
 /// Which half of a split.

@@ -8,7 +8,7 @@ use crate::splits::{rough_part, split_at};
 use cip_frac::Frac;
 use cip_lin::Sides;
 use cip_plugin::{BranchRule, Plugin, Split, View};
-use cip_row_sums::{UNIT, cost_of, short};
+use cip_tighten::{UNIT, cost_of, short};
 use std::alloc::{AllocError, Global};
 
 /// A branching rule: the whole column by whose split both halves are expected to cost most. What a column costs for

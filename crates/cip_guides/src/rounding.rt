@@ -8,7 +8,7 @@ use crate::locks::Locks;
 use crate::wholes::nearest;
 use cip_frac::Frac;
 use cip_plugin::{Guess, Heuristic, Plugin, View};
-use cip_row_sums::{cost_of, has_fraction, most_cost, rough};
+use cip_tighten::{cost_of, has_fraction, most_cost, rough};
 use std::alloc::{AllocError, Global};
 
 // From here on rough values aren't told apart.

@@ -5,7 +5,7 @@ ghost use Rattle.cip_guides.specs.PointSplits.{IsAtValue};
 use cip_frac::Frac;
 use cip_lin::Sides;
 use cip_plugin::Split;
-use cip_row_sums::{UNIT, rough};
+use cip_tighten::{UNIT, rough};
 
 // The greatest size of a number at which a column is split.
 const MOST: u128 = 1 << 100;

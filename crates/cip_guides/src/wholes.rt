@@ -1,6 +1,6 @@
 //! Whole columns, and the whole numbers next to a value.
 use cip_frac::Frac;
-use cip_row_sums::{UNIT, rough};
+use cip_tighten::{UNIT, rough};
 
 /// Whether a column is whole.
 pub(crate) fn is_whole_at(whole: &[bool], col: u32) -> bool {

@@ -2,7 +2,7 @@
 use cip_frac::Frac;
 use cip_lin::Row;
 use cip_plugin::View;
-use cip_row_sums::short;
+use cip_tighten::short;
 use std::alloc::AllocError;
 
 /// A class of rows. Each row is in one.

@@ -7,7 +7,7 @@ use crate::rounding::Rounding;
 use crate::tries::Tries;
 use cip_lin::RowId;
 use cip_plugin::{ConsHandler, Cut, Enforced, Plugin, Reduction, View};
-use cip_row_sums::{Implied, MOST_REDUCTIONS, Patience, Watched, add_reductions};
+use cip_tighten::{Implied, MOST_REDUCTIONS, Patience, Watched, add_reductions};
 use std::alloc::{AllocError, Global};
 
 // Behind a call that brought sides so many go by from this node on: other propagators look at the same rows.

@@ -2,7 +2,7 @@
 use cip_frac::Frac;
 use cip_lin::{Row, RowId};
 use cip_plugin::{Cut, View};
-use cip_row_sums::{
+use cip_tighten::{
     Aim, Candidates, Gains, Shifted, Standing, Stop, Sum, activity, rounded_cut, tight_row,
     unless_refused,
 };

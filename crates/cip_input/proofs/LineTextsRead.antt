@@ -5,8 +5,8 @@ use Rattle.std.proofs.lemmas.Bool.{leb-true, leb-false}
 use Rattle.std.proofs.lemmas.List.{length-take, take_all}
 use Rattle.cip_io.specs.Store.{StoreTells}
 use Rattle.cip_problem.specs.Limits.{longest_text}
-use Rattle.cip_line_texts.specs.LineTexts.{Reading, outcome_of, outcome_of_lines, outcome_of_start, HasResult, HasFault}
-use Rattle.cip_line_texts.proofs.LineOutcomes.{described}
+use Rattle.cip_text_rules.specs.LineTexts.{Reading, outcome_of, outcome_of_lines, outcome_of_start, HasResult, HasFault}
+use Rattle.cip_text_rules.proofs.LineOutcomes.{described}
 use Rattle.cip_input.specs.TextPulls.{most_pulled, IsAllRead}
 use Rattle.cip_input.specs.TextsRead.{ReadsText, RefusesText}
 

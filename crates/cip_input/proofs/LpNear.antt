@@ -9,16 +9,16 @@ use Rattle.cip_rational.proofs.Rational.Extremes.{absolute-negate}
 use Rattle.cip_problem.specs.Program.{Sides, Program}
 use Rattle.cip_problem.specs.NearSides.{IsNear, HasNearSides}
 use Rattle.cip_rational.specs.Numeral.{value_of, numeral_of}
-use Rattle.cip_mps_rules.specs.MpsWords.{is_too_fine, bound_number, is_in}
-use Rattle.cip_mps_rules.specs.MpsStepStatements.{ValuesAreTested}
-use Rattle.cip_line_texts.specs.LineStatements.{known_after, IsEndReached, NeedsNoEnd}
-use Rattle.cip_line_texts.proofs.LineEnded.{result_found, holds_open}
-use Rattle.cip_lp_rules.specs.LpWords.{LpPart, NoPart, Costs, Constraints, Bounds, Generals, Binaries, End, Relation, AtMost, EqualTo, AtLeast}
-use Rattle.cip_lp_rules.specs.LpTokens.{Token, Opening, OutsideSection, Free, Infinite, Number, Name, Sign, Colon, Relates, BadToken}
-use Rattle.cip_lp_rules.specs.LpPlaces.{Amount, unit, Limit, limit_of, is_equality, agree, flipped, Given, goes_on, Place, Start, Labelled, FirstName, FirstSign, FirstNumber, SecondStart, SecondSign, SecondNumber, SecondName, AfterTerm, TermSign, TermNumber, LastDue, LastSign, BoundName, BoundDue, BoundSign, LimitSign, LimitRead, LimitDue, BoundedName, Where, Event, Fails, Opens, NamesObjective, Begins, AddsCost, AddsConstant, Adds, Ends, Mentions, SetsLow, SetsHigh, SetsBoth, MakesWhole, MakesBinary, Reads, fails, moves, says, says_both}
-use Rattle.cip_lp_rules.specs.LpGrammar.{is_name, is_colon, goes_behind, row_ends, zero_ends, settled_cost, settled_row, settled_in, settled, with_value, with_number, amount_in, limit_in, with_limit, cost_read, second_term, last_value, front_read, row_read, is_wrong, side_of, bound_set, bound_value, bound_front, bound_read, general_read, binary_read, may_end, is_past, is_out_of_order, opened, section_read, outside_read, read_in, read, events_of}
-use Rattle.cip_lp_rules.specs.LpFacts.{LpFacts, default_sides, sides_of, column_number, with_column, with_row, with_part, facts_with, facts_after}
-use Rattle.cip_lp_rules.specs.LpOutcome.{LpContext, no_context, token_fault, context_with, is_end, lp_tokens, HasLpProgram}
+use Rattle.cip_text_rules.specs.MpsWords.{is_too_fine, bound_number, is_in}
+use Rattle.cip_text_rules.specs.MpsStepStatements.{ValuesAreTested}
+use Rattle.cip_text_rules.specs.LineStatements.{known_after, IsEndReached, NeedsNoEnd}
+use Rattle.cip_text_rules.proofs.LineEnded.{result_found, holds_open}
+use Rattle.cip_text_rules.specs.LpWords.{LpPart, NoPart, Costs, Constraints, Bounds, Generals, Binaries, End, Relation, AtMost, EqualTo, AtLeast}
+use Rattle.cip_text_rules.specs.LpTokens.{Token, Opening, OutsideSection, Free, Infinite, Number, Name, Sign, Colon, Relates, BadToken}
+use Rattle.cip_text_rules.specs.LpPlaces.{Amount, unit, Limit, limit_of, is_equality, agree, flipped, Given, goes_on, Place, Start, Labelled, FirstName, FirstSign, FirstNumber, SecondStart, SecondSign, SecondNumber, SecondName, AfterTerm, TermSign, TermNumber, LastDue, LastSign, BoundName, BoundDue, BoundSign, LimitSign, LimitRead, LimitDue, BoundedName, Where, Event, Fails, Opens, NamesObjective, Begins, AddsCost, AddsConstant, Adds, Ends, Mentions, SetsLow, SetsHigh, SetsBoth, MakesWhole, MakesBinary, Reads, fails, moves, says, says_both}
+use Rattle.cip_text_rules.specs.LpGrammar.{is_name, is_colon, goes_behind, row_ends, zero_ends, settled_cost, settled_row, settled_in, settled, with_value, with_number, amount_in, limit_in, with_limit, cost_read, second_term, last_value, front_read, row_read, is_wrong, side_of, bound_set, bound_value, bound_front, bound_read, general_read, binary_read, may_end, is_past, is_out_of_order, opened, section_read, outside_read, read_in, read, events_of}
+use Rattle.cip_text_rules.specs.LpFacts.{LpFacts, default_sides, sides_of, column_number, with_column, with_row, with_part, facts_with, facts_after}
+use Rattle.cip_text_rules.specs.LpOutcome.{LpContext, no_context, token_fault, context_with, is_end, lp_tokens, HasLpProgram}
 use Rattle.cip_input.proofs.NearSides.{zero_near, one_near, bound_near}
 
 -- ---- what is said

@@ -5,11 +5,11 @@ use Rattle.cip_io.specs.Faults.{Rose}
 use Rattle.cip_io.specs.Store.{StoreTells}
 use Rattle.cip_problem.specs.Program.{Choice, Program}
 use Rattle.cip_problem.specs.Choices.{choice_at}
-use Rattle.cip_mps_rules.specs.MpsOutcome.{mps_reading}
-use Rattle.cip_mps_rules.specs.MpsStatements.{ProgramsAreWellFormed}
-use Rattle.cip_mps_rules.specs.MpsStepStatements.{ValuesAreTested}
-use Rattle.cip_lp_rules.specs.LpOutcome.{lp_reading}
-use Rattle.cip_lp_rules.specs.LpStatements.{LpProgramsAreWellFormed}
+use Rattle.cip_text_rules.specs.MpsOutcome.{mps_reading}
+use Rattle.cip_text_rules.specs.MpsStatements.{ProgramsAreWellFormed}
+use Rattle.cip_text_rules.specs.MpsStepStatements.{ValuesAreTested}
+use Rattle.cip_text_rules.specs.LpOutcome.{lp_reading}
+use Rattle.cip_text_rules.specs.LpStatements.{LpProgramsAreWellFormed}
 use Rattle.cip_input.specs.LimitedModels.{HasNearOwn, IsLimited, ProgramsAreLimited}
 use Rattle.cip_blocks.specs.ReadFault.{ReadFault}
 use Rattle.cip_blocks.specs.ReadFault.TheVariants as reader

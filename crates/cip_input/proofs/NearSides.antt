@@ -9,17 +9,17 @@ use Rattle.cip_rational.specs.Rational.{ℚ, integer, absolute, ratio, whole, ne
 use Rattle.cip_rational.proofs.Rational.Order.{lt_of_le_test}
 use Rattle.cip_problem.specs.Program.{Plain, Open, Program}
 use Rattle.cip_problem.specs.Choices.{choice_at, greater, open_sides}
-use Rattle.cip_line_texts.specs.Lines.{Record, Section, Entry}
+use Rattle.cip_text_rules.specs.Lines.{Record, Section, Entry}
 use Rattle.cip_rational.specs.Numeral.{Numeral, Exact, NotANumber, Huge, TooFine, value_of, numeral_of, is_minus}
-use Rattle.cip_mps_rules.specs.MpsWords.{Part, NoPart, Title, Sense, Rows, Columns, RightSides, Ranges, Bounds, End, BoundKind, Low, High, Fixed, WholeLow, WholeHigh, Unbounded, NoLow, NoHigh, Binary, SemiContinuous, section_of, bound_kind_of, has_value, marker_of, is_infinity, is_negative, near_or_huge, bound_number}
-use Rattle.cip_mps_rules.specs.MpsSayings.{Saying, Skipped, Misplaced, ColumnLine, RightSideLine, RangeLine, BoundLine, LinePlace, opening, section_said, sense_said, row_said, one_value, two_values, is_marker, marker_said, column_said, of_set, right_side_said, range_said, no_value, valued_bound, plain_bound, typed_bound, bound_said, fields_said, said}
-use Rattle.cip_mps_rules.specs.MpsFacts.{GivenColumn, GivenBound, Facts, facts_with, bounds_in}
-use Rattle.cip_mps_rules.specs.MpsBounds.{Bounded, unbounded, with_bound, bounded_by, settled, bounds_of, all_bounds, own_sides, is_semi, column_sides, choice_of}
-use Rattle.cip_mps_rules.specs.MpsProgram.{program_of}
-use Rattle.cip_mps_rules.specs.MpsOutcome.{Context, said_in, HasProgram}
-use Rattle.cip_mps_rules.proofs.Quiet.{Keeps}
-use Rattle.cip_mps_rules.proofs.Outcomes.{of_program}
-use Rattle.cip_mps_rules.specs.MpsStepStatements.{is_far_value, ValuesAreTested}
+use Rattle.cip_text_rules.specs.MpsWords.{Part, NoPart, Title, Sense, Rows, Columns, RightSides, Ranges, Bounds, End, BoundKind, Low, High, Fixed, WholeLow, WholeHigh, Unbounded, NoLow, NoHigh, Binary, SemiContinuous, section_of, bound_kind_of, has_value, marker_of, is_infinity, is_negative, near_or_huge, bound_number}
+use Rattle.cip_text_rules.specs.MpsSayings.{Saying, Skipped, Misplaced, ColumnLine, RightSideLine, RangeLine, BoundLine, LinePlace, opening, section_said, sense_said, row_said, one_value, two_values, is_marker, marker_said, column_said, of_set, right_side_said, range_said, no_value, valued_bound, plain_bound, typed_bound, bound_said, fields_said, said}
+use Rattle.cip_text_rules.specs.MpsFacts.{GivenColumn, GivenBound, Facts, facts_with, bounds_in}
+use Rattle.cip_text_rules.specs.MpsBounds.{Bounded, unbounded, with_bound, bounded_by, settled, bounds_of, all_bounds, own_sides, is_semi, column_sides, choice_of}
+use Rattle.cip_text_rules.specs.MpsProgram.{program_of}
+use Rattle.cip_text_rules.specs.MpsOutcome.{Context, said_in, HasProgram}
+use Rattle.cip_text_rules.proofs.Quiet.{Keeps}
+use Rattle.cip_text_rules.proofs.Outcomes.{of_program}
+use Rattle.cip_text_rules.specs.MpsStepStatements.{is_far_value, ValuesAreTested}
 use Rattle.cip_problem.specs.NearSides.{IsNear, HasNearSides}
 use Rattle.cip_input.specs.LimitedModels.{HasNearOwn}
 

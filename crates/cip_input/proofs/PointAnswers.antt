@@ -6,7 +6,7 @@ use Rattle.cip_text.specs.TextFaults.{IsToldBy}
 use Rattle.cip_text.specs.PieceReaders.{IsFed}
 use Rattle.cip_text.specs.declared.text_faults.ReadFault.{ReadFault}
 use Rattle.cip_text.specs.declared.text_faults.ReadFault.TheVariants.{Faulty, NoMemory}
-use Rattle.cip_point_rules.specs.PointRules.{point_reading}
+use Rattle.cip_text_rules.specs.PointRules.{point_reading}
 use Rattle.cip_input.specs.declared.kinds.PointKind.{PointKind}
 use Rattle.cip_input.specs.PointKindTexts.{kind_number}
 use Rattle.cip_input.specs.PointReaders.{IsFaultOf}

@@ -4,7 +4,7 @@ use Rattle.std.specs.Result.{IsErrAnd}
 use Rattle.std.proofs.Common.{refl, sym, ap, ◌∙◌, subst}
 use Rattle.cip_io.specs.Faults.{Rose}
 use Rattle.cip_io.specs.Store.{StoreTells}
-use Rattle.cip_line_texts.specs.LineTexts.{Reading, HasFault}
+use Rattle.cip_text_rules.specs.LineTexts.{Reading, HasFault}
 use Rattle.cip_blocks.specs.ReadFault.{ReadFault}
 use Rattle.cip_blocks.specs.ReadFault.TheVariants as reader
 use Rattle.cip_blocks.specs.TextFaults.{IsFaultBy}

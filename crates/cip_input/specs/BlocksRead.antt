@@ -4,7 +4,7 @@
 use Rattle.std.specs.Prelude.{ℕ, List, Option}
 use Rattle.cip_io.specs.Store.{StoreTells}
 use Rattle.cip_problem.specs.Program.{Program}
-use Rattle.cip_line_texts.specs.LineTexts.{HasResult, HasFault}
+use Rattle.cip_text_rules.specs.LineTexts.{HasResult, HasFault}
 use Rattle.cip_problem.specs.BlockParts.{Blocks}
 use Rattle.cip_blocks.specs.BlockRules.{block_reading}
 use Rattle.cip_blocks.specs.BlockKindTexts.{kind_number}

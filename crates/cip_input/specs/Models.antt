@@ -5,8 +5,8 @@ use lib.Chars.{codes}
 use Rattle.std.specs.Prelude.{ℕ, ◌==◌, Bool, true, false, List}
 use Rattle.std.specs.List.{ends_with}
 use Rattle.cip_problem.specs.Program.{Program}
-use Rattle.cip_mps_rules.specs.MpsOutcome.{HasProgram, HasFault}
-use Rattle.cip_lp_rules.specs.LpOutcome.{HasLpProgram, HasLpFault}
+use Rattle.cip_text_rules.specs.MpsOutcome.{HasProgram, HasFault}
+use Rattle.cip_text_rules.specs.LpOutcome.{HasLpProgram, HasLpFault}
 use Rattle.cip_mps.specs.MpsKindTexts.{kind_number as mps_kind_number, kind_text as mps_kind_text}
 use Rattle.cip_lp.specs.LpKindTexts.{kind_number as lp_kind_number, kind_text as lp_kind_text}
 use Rattle.cip_input.specs.declared.model_kinds.ModelKind.{ModelKind}

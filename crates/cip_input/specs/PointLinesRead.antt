@@ -2,10 +2,10 @@
 use Rattle.std.specs.Prelude.{◌≡◌, ℕ, List, Option, None}
 use Rattle.cip_rational.specs.Rational.{ℚ}
 use Rattle.cip_problem.specs.Program.{Program}
-use Rattle.cip_mps_rules.specs.MpsRules.{least}
-use Rattle.cip_line_texts.specs.LineTexts.{Reading}
-use Rattle.cip_point_rules.specs.PointRules.{PointLine}
-use Rattle.cip_point_rules.specs.PointSteps.{point_tests, values_with, point_steps}
+use Rattle.cip_text_rules.specs.MpsRules.{least}
+use Rattle.cip_text_rules.specs.LineTexts.{Reading}
+use Rattle.cip_text_rules.specs.PointRules.{PointLine}
+use Rattle.cip_text_rules.specs.PointSteps.{point_tests, values_with, point_steps}
 use Rattle.cip_input.specs.declared.point_lines.PointLines.{PointLines}
 
 -- the program of which columns are given

@@ -3,11 +3,11 @@
 use Rattle.std.specs.Prelude.{List, Option}
 use Rattle.cip_rational.specs.Rational.{ℚ}
 use Rattle.cip_problem.specs.Program.{Program}
-use Rattle.cip_line_texts.specs.LineTexts.{Reading}
-use Rattle.cip_line_texts.specs.LineStream.{Stream}
+use Rattle.cip_text_rules.specs.LineTexts.{Reading}
+use Rattle.cip_text_rules.specs.LineStream.{Stream}
 use Rattle.cip_text.specs.PieceCuts.{Cut, cut_of}
 use Rattle.cip_text.specs.PieceStands.{StandsAt}
-use Rattle.cip_point_rules.specs.PointRules.{PointLine}
+use Rattle.cip_text_rules.specs.PointRules.{PointLine}
 use Rattle.cip_input.specs.declared.point_text.PointText.{PointText}
 use Rattle.cip_input.specs.PointLinesRead as lines
 

@@ -5,7 +5,7 @@ use Rattle.std.specs.Prelude.{ℕ, List, Option}
 use Rattle.cip_rational.specs.Rational.{ℚ}
 use Rattle.cip_io.specs.Store.{StoreTells}
 use Rattle.cip_problem.specs.Program.{Program}
-use Rattle.cip_line_texts.specs.LineTexts.{HasResult, HasFault}
+use Rattle.cip_text_rules.specs.LineTexts.{HasResult, HasFault}
 use Rattle.cip_input.specs.PointRules.{point_reading}
 use Rattle.cip_input.specs.PointKindTexts.{kind_number}
 use Rattle.cip_input.specs.declared.kinds.PointKind.{PointKind}

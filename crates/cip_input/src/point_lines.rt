@@ -2,19 +2,19 @@
 ghost use Rattle.std.specs.Prelude.{◌≡◌, ◌<◌, ◌≤◌, ◌∷◌, [], ℕ, vec_len, length, map, replicate, false, None, MatchOption, IfSome, IfOk, unwrap_or, is_none};
 ghost use Rattle.std.specs.List.{list_any};
 ghost use Rattle.cip_rational.specs.Rational.{zeroℚ};
-ghost use Rattle.cip_line_texts.specs.Lines.{is_line_feed};
+ghost use Rattle.cip_text_rules.specs.Lines.{is_line_feed};
 ghost use Rattle.cip_rational.specs.FractionText.{fraction_of};
 ghost use Rattle.cip_text.specs.TextLines.{fields_left};
-ghost use Rattle.cip_line_texts.specs.LineStream.{Going, line_read};
+ghost use Rattle.cip_text_rules.specs.LineStream.{Going, line_read};
 ghost use Rattle.cip_text.specs.PieceStands.{progress_after};
-ghost use Rattle.cip_point_rules.specs.PointRules.{BadLine, ValueLine, line_said};
-ghost use Rattle.cip_point_rules.specs.PointSteps.{no_values};
+ghost use Rattle.cip_text_rules.specs.PointRules.{BadLine, ValueLine, line_said};
+ghost use Rattle.cip_text_rules.specs.PointSteps.{no_values};
 
 use cip_frac::Frac;
 use cip_model::Program;
-use cip_point_rules::numbers_are_of_names;
-use cip_point_rules::point_steps::point_lines_have_tests;
 use cip_text::{Fields, fields_of, fraction};
+use cip_text_rules::point_steps::point_lines_have_tests;
+use cip_text_rules::step_laws::numbers_are_of_names;
 use std::alloc::{AllocError, Global};
 
 /// What the lines that have ended gave: a value for each column of the program, once it was given.

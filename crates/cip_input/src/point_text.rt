@@ -3,22 +3,22 @@ ghost use Rattle.std.specs.Prelude.{◌≡◌, ◌+◌, ◌<◌, ◌≤◌, ◌�
 ghost use Rattle.std.specs.List.{list_any};
 ghost use Rattle.cip_rational.specs.Rational.{ℚ};
 ghost use Rattle.cip_problem.specs.Limits.{longest_text};
-ghost use Rattle.cip_line_texts.specs.Lines.{is_line_feed};
-ghost use Rattle.cip_line_texts.specs.LineTexts.{outcome_of};
-ghost use Rattle.cip_line_texts.specs.LineStream.{Stream, byte_read, stream_of};
+ghost use Rattle.cip_text_rules.specs.Lines.{is_line_feed};
+ghost use Rattle.cip_text_rules.specs.LineTexts.{outcome_of};
+ghost use Rattle.cip_text_rules.specs.LineStream.{Stream, byte_read, stream_of};
 ghost use Rattle.cip_text.specs.PieceFaults.{has_kind_to};
 ghost use Rattle.cip_text.specs.PieceCuts.{no_bytes, cut_of, known_fault};
 ghost use Rattle.cip_text.specs.PieceStands.{IsRead, IsLastRead, outcome_with};
 ghost use Rattle.cip_problem.specs.NamesOnce.{StandOnce};
-ghost use Rattle.cip_point_rules.specs.PointRules.{point_reading};
-ghost use Rattle.cip_point_rules.specs.PointSteps.{no_values};
+ghost use Rattle.cip_text_rules.specs.PointRules.{point_reading};
+ghost use Rattle.cip_text_rules.specs.PointSteps.{no_values};
 
 use crate::kinds::PointKind;
 use crate::point_lines::PointLines;
 use cip_frac::Frac;
 use cip_model::Program;
-use cip_point_rules::point_steps::{point_faults_of_ended_lines, points_are_read};
 use cip_text::{KnownFault, PieceText, Pieces, ReadFault, TextFault, cut_line, told};
+use cip_text_rules::point_steps::{point_faults_of_ended_lines, points_are_read};
 use std::alloc::{AllocError, Global};
 
 /// The number of the kind of a text that is too long.
@@ -140,10 +140,10 @@ impl<'a> PointText<'a> {
 
 impl<'a> PieceText for PointText<'a> {
     ghost use Rattle.std.specs.Prelude.{◌≡◌, [], IfSome, MatchResult};
-    ghost use Rattle.cip_line_texts.specs.LineTexts.{HasResult};
+    ghost use Rattle.cip_text_rules.specs.LineTexts.{HasResult};
     ghost use Rattle.cip_text.specs.EndedFaults.{IsKnownFault};
     ghost use Rattle.cip_text.specs.TextFaults.{IsToldBy};
-    ghost use Rattle.cip_point_rules.specs.PointRules.{point_reading};
+    ghost use Rattle.cip_text_rules.specs.PointRules.{point_reading};
     ghost use Rattle.cip_input.specs.PointKindTexts.{kind_number};
     ghost use Rattle.cip_input.specs.PointReaders.{HasCome, IsFaultOf};
     ghost use Rattle.cip_input.specs.PointTexts.{program_of};

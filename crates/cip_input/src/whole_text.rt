@@ -1,7 +1,7 @@
 //! Reading a text of a point that is there as a whole.
 ghost use Rattle.std.specs.Prelude.{MatchResult};
-ghost use Rattle.cip_line_texts.specs.LineTexts.{HasResult};
-ghost use Rattle.cip_point_rules.specs.PointRules.{point_reading};
+ghost use Rattle.cip_text_rules.specs.LineTexts.{HasResult};
+ghost use Rattle.cip_text_rules.specs.PointRules.{point_reading};
 ghost use Rattle.cip_input.specs.PointReaders.{IsFaultOf};
 
 use crate::kinds::PointKind;

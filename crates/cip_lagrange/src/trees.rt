@@ -2,7 +2,7 @@
 ghost use Rattle.std.specs.Prelude.{◌≡◌, ◌<◌, ◌≤◌, ◌^◌, ◌+◌, ◌*◌, true, length, None, Ok, Err, IfOk};
 ghost use Rattle.cip_rational.specs.Rational.{minimum};
 ghost use Rattle.cip_cert.specs.Lent.{lent_of, Fits};
-ghost use Rattle.cip_lagrange.specs.TreeOutcomes.{node_in, half_of, can_split, split_fault, lesser_bound, bound_leaf, empty_leaf, tree_outcome};
+ghost use Rattle.cip_lagrange.specs.TreeOutcomes.{node_in, half_of, can_split, lesser_bound, bound_leaf, empty_leaf, tree_outcome};
 
 use crate::answers::{TreeBound, TreeFault};
 use crate::regions::{Half, TreeRegion};

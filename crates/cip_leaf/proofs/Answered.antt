@@ -4,7 +4,7 @@ use Rattle.std.proofs.lemmas.List.{length-map, length-append}
 use Rattle.cip_rational.specs.Rational.{ℚ}
 use Rattle.cip_problem.specs.Program.{Program}
 use Rattle.cip_problem.specs.WellFormed.{IsWellFormed}
-use Rattle.cip_linear.specs.LinearProgram.{LinearProgram}
+use Rattle.cip_problem.specs.LinearProgram.{LinearProgram}
 use Rattle.cip_bland.specs.Dictionary.{Dictionary}
 use Rattle.cip_bland.specs.FirstState.{first_operations}
 use Rattle.cip_bland.specs.ProgramState.{system_of, first_of_program}
@@ -18,10 +18,10 @@ use Rattle.cip_bland.specs.declared.steps.Step.TheVariants as step
 use Rattle.cip_simplex.specs.LpAnswers.{IsAnswer}
 use Rattle.cip_simplex.specs.LpShape.{IsSolvable}
 use Rattle.cip_simplex.specs.declared.answers.LpAnswer.TheVariants.{Optimal, Infeasible, Unbounded, Wide, Limit}
-use Rattle.cip_leaves.specs.Leaf.{IsPointOf}
-use Rattle.cip_leaves.specs.LeafProgram.{at_continuous, row_of_leaf, program_of_leaf}
-use Rattle.cip_leaves.specs.WideLeaf.{MovesOverflow}
-use Rattle.cip_leaves.proofs.Merged.{leaf_proper, point_on}
+use Rattle.cip_search.specs.Leaf.{IsPointOf}
+use Rattle.cip_search.specs.LeafProgram.{at_continuous, row_of_leaf, program_of_leaf}
+use Rattle.cip_search.specs.WideLeaf.{MovesOverflow}
+use Rattle.cip_search.proofs.Merged.{leaf_proper, point_on}
 use Rattle.cip_leaf.specs.LeafAnswers.{EndsInOptimum, EndsInRay, EndsOutOfRange}
 
 -- ---- the program can be solved

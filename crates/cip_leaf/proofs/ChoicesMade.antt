@@ -16,10 +16,10 @@ use Rattle.cip_problem.specs.Choices.{choice_at, Allows, is_open, open_count, de
 use Rattle.cip_problem.proofs.Choices.Decided as problem
 use Rattle.cip_problem.specs.Points.{IsFeasible}
 use Rattle.cip_problem.specs.WellFormed.{IsSemi, IsChoice, IsWellFormed}
-use Rattle.cip_linear.specs.LinearProgram.{StaysBetween}
+use Rattle.cip_problem.specs.LinearProgram.{StaysBetween}
 use Rattle.cip_lin.specs.ChoiceParts.{is_allowed}
 use Rattle.cip_lin.proofs.AllowedValues.{allowed_from}
-use Rattle.cip_leaves.specs.Leaf.{Leaf}
+use Rattle.cip_search.specs.Leaf.{Leaf}
 use Rattle.cip_model.specs.declared.verdicts.Place.TheVariants.{Row as AtRow, Cost}
 use Rattle.cip_model.specs.declared.verdicts.Verdict.{Verdict}
 use Rattle.cip_model.specs.Rays.{RaySumsFit, IsShownRay}

@@ -6,15 +6,15 @@ use Rattle.cip_rational.proofs.Linear.{linear_le}
 use Rattle.cip_problem.specs.Program.{Program}
 use Rattle.cip_problem.specs.WellFormed.{IsWellFormed, columns}
 use Rattle.cip_problem.specs.Points.{cost_of}
-use Rattle.cip_linear.specs.LinearProgram.{LinearProgram, IsOptimal}
+use Rattle.cip_problem.specs.LinearProgram.{LinearProgram, IsOptimal}
 use Rattle.cip_bland.specs.EndAnswers as def
 use Rattle.cip_bland.specs.NoRepeat.{whole_answer}
 use Rattle.cip_bland.specs.Statements.{IsRight, ShowsOptimum}
 use Rattle.cip_bland.proofs.ListEnds.{answers_end}
-use Rattle.cip_leaves.specs.Leaf.{IsLeaf, IsPointOf}
-use Rattle.cip_leaves.specs.LeafProgram.{at_continuous, merged, program_of_leaf}
-use Rattle.cip_leaves.specs.WideLeaf.{AtPlace, SumOverflows, EndOverflows, IsWideBy}
-use Rattle.cip_leaves.proofs.Merged.{leaf_proper, point_back, point_on, cost_split, merged-long}
+use Rattle.cip_search.specs.Leaf.{IsLeaf, IsPointOf}
+use Rattle.cip_search.specs.LeafProgram.{at_continuous, merged, program_of_leaf}
+use Rattle.cip_search.specs.WideLeaf.{AtPlace, SumOverflows, EndOverflows, IsWideBy}
+use Rattle.cip_search.proofs.Merged.{leaf_proper, point_back, point_on, cost_split, merged-long}
 use Rattle.cip_model.specs.declared.verdicts.Place.{Place}
 use Rattle.cip_model.specs.declared.verdicts.Verdict.{Verdict}
 use Rattle.cip_model.specs.declared.verdicts.Verdict.TheVariants.{Feasible, Wide}

@@ -3,7 +3,7 @@ use Rattle.std.proofs.Common.{◌≡◌, ◌⊎◌, inl, inr, ℕ, zero, suc, �
 use Rattle.std.specs.Prelude.{is_some}
 use Rattle.std.proofs.lemmas.Option.{none-some, same_Some}
 use Rattle.cip_rational.specs.Rational.{ℚ, ◌*ℚ◌, is_zero}
-use Rattle.cip_linear.specs.LinearProgram.{LinearProgram}
+use Rattle.cip_problem.specs.LinearProgram.{LinearProgram}
 use Rattle.cip_bland.specs.Tables.{each}
 use Rattle.cip_bland.specs.Operations.{Placed, Sum, Product, placed, overflows, first_overflow, value_place}
 use Rattle.cip_bland.specs.FirstState.{System, columns_of, first_value, form_operations, first_operations}
@@ -13,7 +13,7 @@ use Rattle.cip_bland.specs.declared.places.Line.{Line}
 use Rattle.cip_bland.specs.declared.places.Line.TheVariants as line
 use Rattle.cip_bland.specs.declared.places.EntryPlace as dictionary
 use Rattle.cip_bland.specs.MoveList.{is_out_of_range}
-use Rattle.cip_leaves.specs.WideLeaf.{state_place, FirstValueOverflows}
+use Rattle.cip_search.specs.WideLeaf.{state_place, FirstValueOverflows}
 use Rattle.cip_model.specs.declared.verdicts.Place.{Place}
 use Rattle.cip_model.specs.declared.verdicts.Place.TheVariants.{Row, Cost}
 use Rattle.cip_leaf.specs.FirstPlaces.{line_of, IsValueLine}

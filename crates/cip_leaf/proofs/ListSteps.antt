@@ -5,7 +5,7 @@ use Rattle.std.specs.Prelude.{map}
 use Rattle.std.proofs.Math.ListN.{get_or}
 use Rattle.cip_rational.specs.Rational.{ℚ}
 use Rattle.cip_problem.specs.Activity.{value_at}
-use Rattle.cip_leaves.specs.LeafProgram.{at_continuous, merged}
+use Rattle.cip_search.specs.LeafProgram.{at_continuous, merged}
 use Rattle.cip_leaf.specs.Building.{numbers_from}
 
 -- an entry goes over from what is left to what is made

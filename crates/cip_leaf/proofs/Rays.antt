@@ -10,16 +10,16 @@ use Rattle.cip_problem.specs.Program.{Term, Sides, Row, Program}
 use Rattle.cip_problem.specs.WellFormed.{IsWellFormed}
 use Rattle.cip_problem.specs.Activity.{activity, value_at}
 use Rattle.cip_problem.specs.Points.{cost_of}
-use Rattle.cip_linear.specs.LinearProgram.{LinearProgram, IsPoint, StaysBetween, IsRay as IsLinearRay}
+use Rattle.cip_problem.specs.LinearProgram.{LinearProgram, IsPoint, StaysBetween, IsRay as IsLinearRay}
 use Rattle.cip_frac.specs.declared.operations.Wide.{Wide as Overflow}
 use Rattle.cip_frac.specs.Outcomes.{dot_from}
 use Rattle.cip_bland.specs.EndAnswers as def
 use Rattle.cip_bland.specs.NoRepeat.{whole_answer}
 use Rattle.cip_bland.specs.Statements.{IsRight, ShowsUnbounded}
-use Rattle.cip_leaves.specs.Leaf.{IsLeaf, IsPointOf}
-use Rattle.cip_leaves.specs.LeafProgram.{at_continuous, merged, continuous_terms, shifted, row_of_leaf, program_of_leaf}
-use Rattle.cip_leaves.specs.WideLeaf.{AtPlace, SumOverflows, EndOverflows, IsWideBy}
-use Rattle.cip_leaves.proofs.Merged.{activity_split, dot_split, point_back, merged-long}
+use Rattle.cip_search.specs.Leaf.{IsLeaf, IsPointOf}
+use Rattle.cip_search.specs.LeafProgram.{at_continuous, merged, continuous_terms, shifted, row_of_leaf, program_of_leaf}
+use Rattle.cip_search.specs.WideLeaf.{AtPlace, SumOverflows, EndOverflows, IsWideBy}
+use Rattle.cip_search.proofs.Merged.{activity_split, dot_split, point_back, merged-long}
 use Rattle.cip_model.specs.declared.verdicts.Place.{Place}
 use Rattle.cip_model.specs.declared.verdicts.Place.TheVariants.{Row as AtRow, Cost}
 use Rattle.cip_model.specs.declared.verdicts.Verdict.TheVariants.{Feasible, Wide}

@@ -9,7 +9,7 @@ use Rattle.cip_problem.specs.Program.{Term}
 use Rattle.cip_problem.specs.Activity.{StandsBelow}
 use Rattle.cip_problem.specs.RowTerms.{no_term, column_at, AreTerms}
 use Rattle.cip_lin.specs.RowFaults.{CanStandAfter}
-use Rattle.cip_leaves.specs.LeafProgram.{at_continuous, is_continuous, new_number, continuous_terms}
+use Rattle.cip_search.specs.LeafProgram.{at_continuous, is_continuous, new_number, continuous_terms}
 use Rattle.cip_leaf.specs.Building.{numbers_from}
 
 -- ---- columns

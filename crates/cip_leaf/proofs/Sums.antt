@@ -15,11 +15,11 @@ use Rattle.cip_frac.specs.declared.operations.Wide.{Wide as Overflow}
 use Rattle.cip_frac.specs.declared.operations.Operation.TheVariants.{Sum}
 use Rattle.cip_frac.specs.Outcomes.{and_then, product_added, dot_from}
 use Rattle.cip_lin.specs.RowSums.{activity_from}
-use Rattle.cip_leaves.specs.Leaf.{IsLeaf, IsLeafIn}
-use Rattle.cip_leaves.specs.Wide.{InRow, fixed_values, added, then_sum, row_part, cost_part, is_wide_row, IsWideAt}
-use Rattle.cip_leaves.specs.LeafProgram.{is_continuous, merged}
-use Rattle.cip_leaves.specs.WideLeaf.{SumOverflows}
-use Rattle.cip_leaves.proofs.Merged.{continuous_value}
+use Rattle.cip_search.specs.Leaf.{IsLeaf, IsLeafIn}
+use Rattle.cip_search.specs.Wide.{InRow, fixed_values, added, then_sum, row_part, cost_part, is_wide_row, IsWideAt}
+use Rattle.cip_search.specs.LeafProgram.{is_continuous, merged}
+use Rattle.cip_search.specs.WideLeaf.{SumOverflows}
+use Rattle.cip_search.proofs.Merged.{continuous_value}
 use Rattle.cip_model.specs.Meaning.{Overflows, RowOverflows}
 use Rattle.cip_model.specs.Rays.{RayOverflows}
 use Rattle.cip_model.specs.declared.verdicts.Place.{Place}

@@ -6,10 +6,10 @@ use Rattle.cip_rational.proofs.Rational.Order.{≤ℚ_refl}
 use Rattle.cip_problem.specs.Program.{Sides, Program}
 use Rattle.cip_problem.specs.WellFormed.{IsWellFormed, columns}
 use Rattle.cip_problem.specs.Points.{IsFeasible, cost_of}
-use Rattle.cip_leaves.specs.Leaf.{IsLeaf, IsLeafIn, IsPointOf, at_wholes}
-use Rattle.cip_leaves.specs.Wide.{Place as WidePlace, InRow, InCost, fixed_values, IsWideAt}
-use Rattle.cip_leaves.proofs.Points.{all_wholes, whole_leaf}
-use Rattle.cip_leaves.specs.WideLeaf.{AtPlace, SumOverflows, IsWideBy}
+use Rattle.cip_search.specs.Leaf.{IsLeaf, IsLeafIn, IsPointOf, at_wholes}
+use Rattle.cip_search.specs.Wide.{Place as WidePlace, InRow, InCost, fixed_values, IsWideAt}
+use Rattle.cip_search.proofs.Points.{all_wholes, whole_leaf}
+use Rattle.cip_search.specs.WideLeaf.{AtPlace, SumOverflows, IsWideBy}
 use Rattle.cip_model.specs.declared.verdicts.Place.{Place}
 use Rattle.cip_model.specs.declared.verdicts.Verdict.{Verdict}
 use Rattle.cip_model.specs.declared.verdicts.Verdict.TheVariants.{Feasible, Wide}

@@ -6,8 +6,8 @@ use Rattle.cip_problem.specs.Choices.{zero_sides}
 use Rattle.cip_problem.specs.Activity.{activity}
 use Rattle.cip_frac.specs.declared.operations.Wide.{Wide as Overflow}
 use Rattle.cip_lin.specs.RowSums.{activity_from}
-use Rattle.cip_leaves.specs.Wide.{shift_overflows}
-use Rattle.cip_leaves.specs.LeafProgram.{continuous_terms, shifted}
+use Rattle.cip_search.specs.Wide.{shift_overflows}
+use Rattle.cip_search.specs.LeafProgram.{continuous_terms, shifted}
 use Rattle.cip_leaf.specs.declared.rows.RowFault.{RowFault}
 use Rattle.cip_leaf.specs.declared.rows.RowFault.TheVariants as row_fault
 use Rattle.cip_leaf.specs.declared.rows.RowsFault.{RowsFault}

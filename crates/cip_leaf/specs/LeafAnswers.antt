@@ -3,16 +3,16 @@ use Rattle.std.specs.Prelude.{◌≡◌, ℕ, List, length}
 use Rattle.cip_rational.specs.Rational.{ℚ, ◌≤ℚ◌}
 use Rattle.cip_problem.specs.Program.{Row, Program}
 use Rattle.cip_problem.specs.Points.{cost_of}
-use Rattle.cip_linear.specs.LinearProgram.{LinearProgram, IsOptimal}
-use Rattle.cip_linear.specs.Falling.{FallsWithoutEnd}
+use Rattle.cip_problem.specs.LinearProgram.{LinearProgram, IsOptimal}
+use Rattle.cip_problem.specs.Falling.{FallsWithoutEnd}
 use Rattle.cip_bland.specs.declared.moves.Move.{Move}
 use Rattle.cip_bland.specs.EndAnswers.{Certificate, Optimal, Unbounded, OutOfRange}
 use Rattle.cip_bland.specs.NoRepeat.{whole_answer}
 use Rattle.cip_problem.specs.Choices.{decided}
-use Rattle.cip_leaves.specs.Leaf.{IsPointOf, Leaf, IsPointOfLeaf}
-use Rattle.cip_leaves.specs.Wide as wide
-use Rattle.cip_leaves.specs.LeafProgram.{program_of_leaf}
-use Rattle.cip_leaves.specs.WideLeaf as wide_leaf
+use Rattle.cip_search.specs.Leaf.{IsPointOf, Leaf, IsPointOfLeaf}
+use Rattle.cip_search.specs.Wide as wide
+use Rattle.cip_search.specs.LeafProgram.{program_of_leaf}
+use Rattle.cip_search.specs.WideLeaf as wide_leaf
 use Rattle.cip_model.specs.declared.verdicts.Place.{Place}
 use Rattle.cip_model.specs.declared.verdicts.Place.TheVariants.{Row as AtRow, Cost}
 use Rattle.cip_model.specs.declared.verdicts.Verdict.TheVariants.{Feasible}

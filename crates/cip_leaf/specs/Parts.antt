@@ -2,7 +2,7 @@
 use Rattle.std.specs.Prelude.{◌≡◌, List}
 use Rattle.cip_rational.specs.Rational.{ℚ}
 use Rattle.cip_problem.specs.Program.{Program}
-use Rattle.cip_leaves.specs.LeafProgram.{program_of_leaf}
+use Rattle.cip_search.specs.LeafProgram.{program_of_leaf}
 use Rattle.cip_leaf.specs.declared.leaves.Parts.{Parts}
 
 abbrev pub IsProgramOf : Program → List ℚ → Parts → Type 0

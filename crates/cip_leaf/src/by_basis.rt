@@ -3,7 +3,7 @@ ghost use Rattle.std.specs.Prelude.{◌≡◌, IfOk, IfSome};
 ghost use Rattle.cip_problem.specs.WellFormed.{IsWellFormed};
 ghost use Rattle.cip_simplex.specs.LpShape.{IsSolvable};
 ghost use Rattle.cip_basis.specs.Shown.{IsShown};
-ghost use Rattle.cip_leaves.specs.Leaf.{IsLeaf};
+ghost use Rattle.cip_search.specs.Leaf.{IsLeaf};
 ghost use Rattle.cip_leaf.specs.LeafAnswers.{IsValuesAnswer};
 ghost use Rattle.cip_leaf.specs.Parts.{IsProgramOf};
 

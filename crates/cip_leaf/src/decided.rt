@@ -6,7 +6,7 @@ ghost use Rattle.cip_problem.specs.WellFormed.{IsWellFormed, columns};
 ghost use Rattle.cip_model.specs.Meaning.{VerdictHolds};
 ghost use Rattle.cip_model.specs.Rays.{IsShownRay};
 ghost use Rattle.cip_model.specs.Verdicts.{verdict_of};
-ghost use Rattle.cip_leaves.specs.LeafProgram.{at_continuous};
+ghost use Rattle.cip_search.specs.LeafProgram.{at_continuous};
 
 use crate::lists::{continuous_sides, decided_sides};
 use cip_frac::Frac;

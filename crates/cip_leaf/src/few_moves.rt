@@ -1,10 +1,10 @@
 //! What few moves show of a leaf.
 ghost use Rattle.std.specs.Prelude.{◌≡◌, IfOk, IfSome};
-ghost use Rattle.cip_linear.specs.LinearProgram.{IsPoint};
+ghost use Rattle.cip_problem.specs.LinearProgram.{IsPoint};
 ghost use Rattle.cip_problem.specs.WellFormed.{IsWellFormed};
 ghost use Rattle.cip_simplex.specs.Reached.{Holds};
-ghost use Rattle.cip_leaves.specs.Leaf.{IsLeaf};
-ghost use Rattle.cip_leaves.specs.LeafProgram.{program_of_leaf};
+ghost use Rattle.cip_search.specs.Leaf.{IsLeaf};
+ghost use Rattle.cip_search.specs.LeafProgram.{program_of_leaf};
 ghost use Rattle.cip_leaf.specs.LeafAnswers.{IsValuesAnswer, IsOptimalThere};
 
 use crate::answers::LeafAnswer;

@@ -1,13 +1,13 @@
 //! Where the first state of a linear program is out of range.
 ghost use Rattle.std.specs.Prelude.{◌≡◌, ℕ, ◌+◌, ◌<◌, ◌≤◌, ◌^◌, ◌++◌, length, map, true, IfOk};
 ghost use Rattle.cip_problem.specs.RowTerms.{AreTerms};
-ghost use Rattle.cip_linear.specs.Multipliers.{row_sides};
+ghost use Rattle.cip_problem.specs.Multipliers.{row_sides};
 ghost use Rattle.cip_bland.specs.FirstState.{first_operations};
 ghost use Rattle.cip_bland.specs.ProgramState.{terms_at, system_of};
 ghost use Rattle.cip_bland.specs.MoveList.{is_out_of_range};
 ghost use Rattle.cip_simplex.specs.LpEntries.{entry_of, entries_in};
 ghost use Rattle.cip_simplex.specs.LpShape.{IsSolvable};
-ghost use Rattle.cip_leaves.specs.WideLeaf.{FirstValueOverflows};
+ghost use Rattle.cip_search.specs.WideLeaf.{FirstValueOverflows};
 ghost use Rattle.cip_leaf.specs.FirstPlaces.{line_of, IsValueLine};
 ghost use Rattle.cip_leaf.specs.LeafAnswers.{place_of};
 

@@ -2,7 +2,7 @@
 ghost use Rattle.std.specs.Prelude.{◌≡◌, ◌+◌, ◌≤◌, [], length, slice_get, IfOk};
 ghost use Rattle.cip_problem.specs.Activity.{value_at};
 ghost use Rattle.cip_problem.specs.Limits.{most_columns};
-ghost use Rattle.cip_leaves.specs.LeafProgram as program;
+ghost use Rattle.cip_search.specs.LeafProgram as program;
 ghost use Rattle.cip_problem.specs.Choices.{decided_box};
 ghost use Rattle.cip_leaf.specs.Building.{numbers_from, sides_made, made_more};
 

@@ -6,9 +6,9 @@ ghost use Rattle.cip_problem.specs.Limits.{most_rows};
 ghost use Rattle.cip_problem.specs.RowTerms.{AreTerms};
 ghost use Rattle.cip_lin.specs.RowFaults.{CanStandAfter};
 ghost use Rattle.cip_lin.specs.RowSums.{activity_from};
-ghost use Rattle.cip_leaves.specs.Wide.{shift_overflows};
-ghost use Rattle.cip_leaves.specs.LeafProgram.{continuous_terms};
-ghost use Rattle.cip_leaves.specs.LeafProgram as program;
+ghost use Rattle.cip_search.specs.Wide.{shift_overflows};
+ghost use Rattle.cip_search.specs.LeafProgram.{continuous_terms};
+ghost use Rattle.cip_search.specs.LeafProgram as program;
 ghost use Rattle.cip_leaf.specs.Building.{numbers_from, left_of, IsRowFault, IsRowsFault};
 
 use cip_frac::{Frac, Wide};

@@ -1,6 +1,6 @@
 //! Leaves of a program whose columns are all whole.
 ghost use Rattle.std.specs.Prelude.{◌≡◌, true, All, IfOk, MatchBool};
-ghost use Rattle.cip_leaves.specs.Leaf.{IsLeaf};
+ghost use Rattle.cip_search.specs.Leaf.{IsLeaf};
 ghost use Rattle.cip_leaf.specs.LeafAnswers.{IsValuesAnswer};
 
 use crate::answers::{LeafAnswer, Shown};

@@ -3,11 +3,11 @@ use Rattle.std.proofs.Common.{◌≡◌, ℕ, ◌+◌, ◌<◌, ◌≤◌, true,
 use Rattle.std.specs.Prelude.{nat_lt}
 use Rattle.std.proofs.lemmas.Bool.{cond-true, cond-false, lt-ltb, le-ltb}
 use Rattle.cip_problem.specs.Limits.{longest_text}
-use Rattle.cip_line_texts.specs.Lines.{is_line_feed}
-use Rattle.cip_line_texts.specs.LineStream.{Progress, Going}
+use Rattle.cip_text_rules.specs.Lines.{is_line_feed}
+use Rattle.cip_text_rules.specs.LineStream.{Progress, Going}
 use Rattle.cip_text.specs.declared.faults.KnownFault.{KnownFault}
 use Rattle.cip_text.specs.PieceStands.{progress_of}
-use Rattle.cip_lp_rules.specs.LpBytes.{LpBytes, part_read, behind, in_comment, is_cut, byte_put, feed_put, last_put, byte_taken}
+use Rattle.cip_text_rules.specs.LpBytes.{LpBytes, part_read, behind, in_comment, is_cut, byte_put, feed_put, last_put, byte_taken}
 
 -- ---- a byte of the line
 

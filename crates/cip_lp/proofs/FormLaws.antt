@@ -4,8 +4,8 @@ use Rattle.std.specs.Prelude.{nat_lt, slice_get, slice_index_or}
 use Rattle.std.specs.List.{list_all}
 use Rattle.std.proofs.lemmas.Bool.{and_from, and_parts}
 use Rattle.cip_problem.specs.Program.{Term}
-use Rattle.cip_lp_rules.specs.LpFacts.{FormTerm, terms_of}
-use Rattle.cip_lp_rules.specs.LpSound.{form_rises}
+use Rattle.cip_text_rules.specs.LpFacts.{FormTerm, terms_of}
+use Rattle.cip_text_rules.specs.LpSound.{form_rises}
 
 -- a number that all numbers of a list pass
 at_place : {X : Type 0} (p : X → Bool) (xs : List X) (k : ℕ) (x : X) → list_all p xs ≡ true → slice_get xs k ≡ Some x → p x ≡ true

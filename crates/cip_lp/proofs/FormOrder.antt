@@ -7,8 +7,8 @@ use Rattle.std.proofs.lemmas.Bool.{and_parts, ltb-true, eq-eqb, ne_eqb, cases_or
 use Rattle.std.proofs.lemmas.List.Elements.{All-head, All-tail, All-contains_itself}
 use Rattle.std.proofs.lemmas.List.Sums.{sum_by-cons, AllPass-from_list_all}
 use Rattle.std.proofs.lemmas.List.Sorted.{IsPermutation-refl, IsPermutation-sym, IsPermutation-trans, IsPermutation-cons, IsPermutation-middle, IsPermutation-append_left, All-permutation, sum_by-IsPermutation, list_any-IsPermutation}
-use Rattle.cip_lp_rules.specs.LpFacts.{FormTerm, form_with, has_term}
-use Rattle.cip_lp_rules.specs.LpSound.{form_rises}
+use Rattle.cip_text_rules.specs.LpFacts.{FormTerm, form_with, has_term}
+use Rattle.cip_text_rules.specs.LpSound.{form_rises}
 use Rattle.cip_lp.specs.LpForms.{form_of}
 
 -- ---- a form has the numbers that came

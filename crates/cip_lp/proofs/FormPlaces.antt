@@ -3,7 +3,7 @@ use Rattle.std.proofs.Common.{◌≡◌, ◌⊎◌, inl, inr, ℕ, zero, suc, �
 use Rattle.std.specs.Prelude.{slice_get}
 use Rattle.std.proofs.lemmas.Bool.{eqb-true, eq-eqb, cases_eq, false_from_ne_true, false≢true}
 use Rattle.std.proofs.lemmas.List.Sums.{fold_push}
-use Rattle.cip_lp_rules.specs.LpFacts.{FormTerm, form_with, has_term}
+use Rattle.cip_text_rules.specs.LpFacts.{FormTerm, form_with, has_term}
 use Rattle.cip_lp.specs.LpForms.{form_of, is_of, stands_at, ArePlaced}
 use Rattle.cip_lp.proofs.FormOrder.{has_same}
 

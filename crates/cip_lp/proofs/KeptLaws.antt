@@ -6,15 +6,15 @@ use Rattle.std.proofs.lemmas.List.Elements.{All-nil}
 use Rattle.cip_problem.specs.Limits.{most_columns}
 use Rattle.cip_problem.specs.Program.{Row, Sides}
 use Rattle.cip_rational.specs.Rational.{ℚ, zeroℚ}
-use Rattle.cip_mps_rules.specs.MpsWords.{number_in, is_in}
-use Rattle.cip_mps_rules.specs.MpsRules.{rule, least}
-use Rattle.cip_mps_rules.proofs.Quiet.{right_false}
-use Rattle.cip_lp_rules.specs.LpWords.{LpPart, Costs, Constraints}
-use Rattle.cip_lp_rules.specs.LpPlaces.{Amount, Event, Fails, Opens, NamesObjective, Begins, AddsCost, AddsConstant, Adds, Ends, Mentions, SetsLow, SetsHigh, SetsBoth, MakesWhole, MakesBinary}
-use Rattle.cip_lp_rules.specs.LpFacts.{FormTerm, LpFacts, nothing_said, default_sides, is_named, name_of_row, is_again, is_column_too_many, is_entry_too_many, is_long, form_with, form_term, column_number, minimized, entries_with, with_column, with_cost, with_term, with_row, terms_of, with_part, event_fault, facts_with}
-use Rattle.cip_lp_rules.specs.LpSound.{form_rises}
-use Rattle.cip_lp_rules.proofs.LpEvents.{unbroken}
-use Rattle.cip_lp_rules.proofs.LpFits.{first_sound, event_kept, number_within}
+use Rattle.cip_text_rules.specs.MpsWords.{number_in, is_in}
+use Rattle.cip_text_rules.specs.MpsRules.{rule, least}
+use Rattle.cip_text_rules.proofs.Quiet.{right_false}
+use Rattle.cip_text_rules.specs.LpWords.{LpPart, Costs, Constraints}
+use Rattle.cip_text_rules.specs.LpPlaces.{Amount, Event, Fails, Opens, NamesObjective, Begins, AddsCost, AddsConstant, Adds, Ends, Mentions, SetsLow, SetsHigh, SetsBoth, MakesWhole, MakesBinary}
+use Rattle.cip_text_rules.specs.LpFacts.{FormTerm, LpFacts, nothing_said, default_sides, is_named, name_of_row, is_again, is_column_too_many, is_entry_too_many, is_long, form_with, form_term, column_number, minimized, entries_with, with_column, with_cost, with_term, with_row, terms_of, with_part, event_fault, facts_with}
+use Rattle.cip_text_rules.specs.LpSound.{form_rises}
+use Rattle.cip_text_rules.proofs.LpEvents.{unbroken}
+use Rattle.cip_text_rules.proofs.LpFits.{first_sound, event_kept, number_within}
 use Rattle.cip_lp.specs.LpDrafts.{is_among, IsKeptLp}
 
 -- ---- names of rows

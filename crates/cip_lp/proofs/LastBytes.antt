@@ -1,6 +1,6 @@
 -- The last of the bytes that are kept.
 use Rattle.std.proofs.Common.{◌≡◌, ℕ, zero, suc, ◌-◌, ◌<◌, false, List, [], ◌∷◌, length, None, Some, slice_get, refl, ap, ◌∙◌, arith}
-use Rattle.cip_lp_rules.specs.LpParts.{ends_before, ends_with}
+use Rattle.cip_text_rules.specs.LpParts.{ends_before, ends_with}
 
 last_at : (bytes : List ℕ) (n last byte : ℕ) → length bytes ≡ suc n → slice_get bytes n ≡ Some last → ends_with bytes byte ≡ ends_before last byte
 last_at [] n last byte l e = absurd (omega (arith, l))

@@ -1,16 +1,16 @@
 -- What is read of a line.
 use Rattle.std.proofs.Common.{◌≡◌, ℕ, Bool, true, false, cond, List, [], ◌∷◌, Option, None, Some, refl, sym, ap, ◌∙◌}
 use Rattle.std.specs.Prelude.{is_some, MatchOption}
-use Rattle.cip_line_texts.specs.LineEnds.{Stage, Open, Ended}
-use Rattle.cip_line_texts.specs.LineStream.{Going, progress_at, item_read}
+use Rattle.cip_text_rules.specs.LineEnds.{Stage, Open, Ended}
+use Rattle.cip_text_rules.specs.LineStream.{Going, progress_at, item_read}
 use Rattle.cip_text.specs.PieceStands.{progress_after}
 use Rattle.cip_lp.specs.declared.line_tokens.Token as code
 use Rattle.cip_lp.specs.LpLines.{token_shown}
-use Rattle.cip_lp_rules.specs.LpTokens.{Token}
-use Rattle.cip_lp_rules.specs.LpOutcome.{LpContext, context_with, is_end, lp_reading}
+use Rattle.cip_text_rules.specs.LpTokens.{Token}
+use Rattle.cip_text_rules.specs.LpOutcome.{LpContext, context_with, is_end, lp_reading}
 use Rattle.cip_lp.specs.declared.line_reader.LineReader.{LineReader}
-use Rattle.cip_lp_rules.specs.LpBytes.{tokens_read}
-use Rattle.cip_lp_rules.proofs.TakenTexts.{tokens_failed}
+use Rattle.cip_text_rules.specs.LpBytes.{tokens_read}
+use Rattle.cip_text_rules.proofs.TakenTexts.{tokens_failed}
 use Rattle.cip_lp.specs.LinesRead.{stage_of, AreOver, IsTaken}
 use Rattle.cip_lp.specs.declared.statements.Statements.{Statements}
 use Rattle.cip_lp.specs.LpStages.{context_of}

@@ -4,9 +4,9 @@ use Rattle.std.specs.Prelude.{option_map, IsErr, MatchResult}
 use Rattle.std.specs.Result.{IsErrAnd}
 use Rattle.std.proofs.lemmas.List.{append-nil, append_assoc}
 use Rattle.cip_problem.specs.Program.{Program}
-use Rattle.cip_line_texts.specs.LineEnds.{Stage}
-use Rattle.cip_line_texts.specs.LineTexts.{Outcome, Means, outcome_at, outcome_of, HasFault}
-use Rattle.cip_line_texts.specs.LineStream.{Progress, Going, Failed, outcome_from}
+use Rattle.cip_text_rules.specs.LineEnds.{Stage}
+use Rattle.cip_text_rules.specs.LineTexts.{Outcome, Means, outcome_at, outcome_of, HasFault}
+use Rattle.cip_text_rules.specs.LineStream.{Progress, Going, Failed, outcome_from}
 use Rattle.cip_text.specs.declared.faults.KnownFault.{KnownFault}
 use Rattle.cip_text.specs.declared.text_faults.TextFault.{TextFault}
 use Rattle.cip_text.specs.declared.text_faults.ReadFault.{ReadFault}
@@ -16,9 +16,9 @@ use Rattle.cip_text.specs.PieceReaders.{IsFed}
 use Rattle.cip_text.specs.PieceFaults.{first_fault, has_kind_to}
 use Rattle.cip_text.specs.PieceStands.{progress_of, progress_after, outcome_with}
 use Rattle.cip_text.proofs.Streams.{few_kinds}
-use Rattle.cip_lp_rules.specs.LpOutcome.{LpContext, lp_reading, told_kind, HasLpFault}
-use Rattle.cip_lp_rules.specs.LpBytes.{LpBytes, part_read, behind, beyond, text_taken, IsTold}
-use Rattle.cip_lp_rules.specs.LpTakenTexts.{last_line, TakenFaultsStay, TakenTextsComeOut}
+use Rattle.cip_text_rules.specs.LpOutcome.{LpContext, lp_reading, told_kind, HasLpFault}
+use Rattle.cip_text_rules.specs.LpBytes.{LpBytes, part_read, behind, beyond, text_taken, IsTold}
+use Rattle.cip_text_rules.specs.LpTakenTexts.{last_line, TakenFaultsStay, TakenTextsComeOut}
 use Rattle.cip_lp.specs.declared.kinds.LpKind.{LpKind}
 use Rattle.cip_lp.specs.declared.lp_text.LpText.{LpText}
 use Rattle.cip_lp.specs.LpKindTexts.{kind_number}

@@ -1,9 +1,9 @@
 -- The first piece of a line, as a pattern cuts the line.
 use Rattle.std.proofs.Common.{◌≡◌, ℕ, zero, suc, ◌-◌, ◌<◌, ◌≤◌, true, false, List, [], ◌∷◌, length, take, drop, get_or, refl, sym, ap, ◌∙◌, arith}
-use Rattle.cip_lp_rules.specs.LpWords.{Piece, first_piece, first_rest}
-use Rattle.cip_lp_rules.specs.LpTokens.{line_pieces}
-use Rattle.cip_line_texts.specs.Lines.{is_blank}
-use Rattle.cip_lp_rules.proofs.LpPieceLaws.{piece_cut, blank_cut}
+use Rattle.cip_text_rules.specs.LpWords.{Piece, first_piece, first_rest}
+use Rattle.cip_text_rules.specs.LpTokens.{line_pieces}
+use Rattle.cip_text_rules.specs.Lines.{is_blank}
+use Rattle.cip_text_rules.proofs.LpPieceLaws.{piece_cut, blank_cut}
 use Rattle.cip_lp.specs.LpPieces.{begins_nothing}
 
 -- what a pattern calls the rest of a line

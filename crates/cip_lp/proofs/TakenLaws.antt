@@ -1,10 +1,10 @@
 -- What a token says, behind what it settles.
 use Rattle.std.proofs.Common.{◌≡◌, ℕ, true, false, List, [], ◌∷◌, ◌++◌, Option, None, Some, Result, Ok, Err, refl, sym, ap, ◌∙◌}
 use Rattle.std.specs.Prelude.{is_some, IfOk}
-use Rattle.cip_lp_rules.specs.LpTokens.{Token}
-use Rattle.cip_lp_rules.specs.LpPlaces.{Event, Where}
-use Rattle.cip_lp_rules.specs.LpGrammar.{settled, read}
-use Rattle.cip_lp_rules.specs.LpFacts.{LpFacts, event_fault, facts_with, or_later, first_fault, facts_after}
+use Rattle.cip_text_rules.specs.LpTokens.{Token}
+use Rattle.cip_text_rules.specs.LpPlaces.{Event, Where}
+use Rattle.cip_text_rules.specs.LpGrammar.{settled, read}
+use Rattle.cip_text_rules.specs.LpFacts.{LpFacts, event_fault, facts_with, or_later, first_fault, facts_after}
 use Rattle.cip_lp.specs.declared.statements.Statements.{Statements}
 use Rattle.cip_lp.specs.LpStages.{where_of}
 use Rattle.cip_lp.specs.LpTaken.{AreTaken, IsTokenTaken}

@@ -5,12 +5,12 @@ use Rattle.cip_rational.specs.Rational.{ℚ, zeroℚ, oneℚ, negate, lt_test}
 use Rattle.cip_rational.proofs.Rational.Order.{≤ℚ_antisymm, le_of_lt_test}
 use Rattle.cip_rational.proofs.Rational.Ring.{negate_negate, negate_zero, one_is_not_zero}
 use Rattle.cip_rational.specs.Numeral.{Numeral, value_of, numeral_of}
-use Rattle.cip_mps_rules.specs.MpsWords.{is_zero, is_too_fine, bound_number}
-use Rattle.cip_mps_rules.specs.MpsProgram.{number}
-use Rattle.cip_mps_rules.specs.MpsState.{is_zero_value}
-use Rattle.cip_mps_rules.proofs.Told.{zero_is_zero, value_zero}
-use Rattle.cip_lp_rules.specs.LpPlaces.{signed_by, unit, limit_of, fails}
-use Rattle.cip_lp_rules.specs.LpGrammar.{with_value, number_kind}
+use Rattle.cip_text_rules.specs.MpsWords.{is_zero, is_too_fine, bound_number}
+use Rattle.cip_text_rules.specs.MpsProgram.{number}
+use Rattle.cip_text_rules.specs.MpsState.{is_zero_value}
+use Rattle.cip_text_rules.proofs.Told.{zero_is_zero, value_zero}
+use Rattle.cip_text_rules.specs.LpPlaces.{signed_by, unit, limit_of, fails}
+use Rattle.cip_text_rules.specs.LpGrammar.{with_value, number_kind}
 use Rattle.cip_lp.specs.LpAmounts.{amount_shown}
 use Rattle.cip_lp.specs.declared.numbers.Limit.{Limit as KeptLimit}
 use Rattle.cip_lp.specs.LpLimits.{limit_from}

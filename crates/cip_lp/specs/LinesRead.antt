@@ -1,11 +1,11 @@
 -- What the code keeps of the lines that have ended.
 --     stage_of lines      the stage of the text behind them
 use Rattle.std.specs.Prelude.{◌≡◌, ℕ, if◌then◌else◌, List, Option, None}
-use Rattle.cip_line_texts.specs.LineEnds.{Stage, Open, Ended}
-use Rattle.cip_line_texts.specs.LineStream.{Going}
-use Rattle.cip_lp_rules.specs.LpTokens.{Token}
-use Rattle.cip_lp_rules.specs.LpOutcome.{LpContext, token_fault, context_with, is_end}
-use Rattle.cip_lp_rules.specs.LpBytes.{tokens_read}
+use Rattle.cip_text_rules.specs.LineEnds.{Stage, Open, Ended}
+use Rattle.cip_text_rules.specs.LineStream.{Going}
+use Rattle.cip_text_rules.specs.LpTokens.{Token}
+use Rattle.cip_text_rules.specs.LpOutcome.{LpContext, token_fault, context_with, is_end}
+use Rattle.cip_text_rules.specs.LpBytes.{tokens_read}
 use Rattle.cip_lp.specs.LpEvents.{IsLpKind}
 use Rattle.cip_lp.specs.LpStages.{context_of}
 use Rattle.cip_lp.specs.declared.line_reader.LineReader.{LineReader}

@@ -2,8 +2,8 @@
 use Rattle.std.specs.Prelude.{Bool, refl}
 use Rattle.std.specs.Coded.{Coded, code_by, coded×, coded_bool}
 use Rattle.cip_rational.specs.Rational.{ℚ, coded_ℚ}
-use Rattle.cip_mps_rules.specs.MpsState.{is_zero_value}
-use Rattle.cip_lp_rules.specs.LpPlaces.{Amount}
+use Rattle.cip_text_rules.specs.MpsState.{is_zero_value}
+use Rattle.cip_text_rules.specs.LpPlaces.{Amount}
 
 -- a number
 abbrev pub amount_shown : ℚ → Amount

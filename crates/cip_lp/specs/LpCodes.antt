@@ -4,7 +4,7 @@ use Rattle.std.specs.Coded.{Coded, code_by, coded×, coded_ℕ, coded_bool, code
 use Rattle.cip_rational.specs.Rational.{ℚ, coded_ℚ}
 use Rattle.cip_problem.specs.Program.{Row, Sides}
 use Rattle.cip_problem.specs.Codes.{names_code, row_code, sides_code}
-use Rattle.cip_lp_rules.specs.LpFacts.{FormTerm, LpFacts}
+use Rattle.cip_text_rules.specs.LpFacts.{FormTerm, LpFacts}
 use Rattle.cip_lp.specs.LpForms.{term_code}
 
 -- a name, if there is one

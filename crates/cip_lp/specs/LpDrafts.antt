@@ -1,8 +1,8 @@
 -- What the code keeps of the tokens that were read, as facts.
 use Rattle.std.specs.Prelude.{◌≡◌, ℕ, Bool, false, List, Option, None, Some, option_map}
-use Rattle.cip_mps_rules.specs.MpsWords.{is_in}
-use Rattle.cip_lp_rules.specs.LpFacts.{LpFacts}
-use Rattle.cip_lp_rules.specs.LpSound.{IsSoundLp}
+use Rattle.cip_text_rules.specs.MpsWords.{is_in}
+use Rattle.cip_text_rules.specs.LpFacts.{LpFacts}
+use Rattle.cip_text_rules.specs.LpSound.{IsSoundLp}
 use Rattle.cip_lp.specs.declared.draft.LpDraft.TheInside.{Inside}
 
 -- the facts

@@ -1,7 +1,7 @@
 -- What is taken of one thing more that is said.
 use Rattle.std.specs.Prelude.{◌≡◌, ℕ, ◌<◌, ◌≤◌, Option, None, IfSome}
-use Rattle.cip_lp_rules.specs.LpPlaces.{Event}
-use Rattle.cip_lp_rules.specs.LpFacts.{LpFacts, event_fault, facts_with}
+use Rattle.cip_text_rules.specs.LpPlaces.{Event}
+use Rattle.cip_text_rules.specs.LpFacts.{LpFacts, event_fault, facts_with}
 
 -- the kind of a fault, where there is one, is from 1 to 11
 abbrev pub IsLpKind : Option ℕ → Type 0

@@ -4,8 +4,8 @@
 use Rattle.std.specs.Prelude.{◌≡◌, ℕ, ◌==◌, Bool, true, false, List, [], Option, None, Some, refl, fold, slice_get}
 use Rattle.std.specs.Coded.{Coded, code_by, coded×, coded_ℕ, coded_bool}
 use Rattle.cip_rational.specs.Rational.{ℚ, coded_ℚ}
-use Rattle.cip_mps_rules.specs.MpsState.{is_zero_value}
-use Rattle.cip_lp_rules.specs.LpFacts.{FormTerm, form_with, has_term}
+use Rattle.cip_text_rules.specs.MpsState.{is_zero_value}
+use Rattle.cip_text_rules.specs.LpFacts.{FormTerm, form_with, has_term}
 
 -- the number of a column
 abbrev pub term_shown : ℕ → ℚ → FormTerm

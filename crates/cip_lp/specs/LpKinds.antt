@@ -2,8 +2,8 @@
 use lib.Chars.{codes}
 use Rattle.std.specs.Prelude.{ℕ, true, false, List}
 use Rattle.std.specs.Str.{str_to_ascii_lowercase}
-use Rattle.cip_mps_rules.specs.MpsWords.{Word}
-use Rattle.cip_lp_rules.specs.LpWords as text
+use Rattle.cip_text_rules.specs.MpsWords.{Word}
+use Rattle.cip_text_rules.specs.LpWords as text
 use Rattle.cip_lp.specs.declared.words.LpPart.{LpPart}
 use Rattle.cip_lp.specs.declared.words.LpPart.TheVariants.{NoPart, Minimize, Maximize, Constraints, Bounds, Generals, Binaries, End}
 use Rattle.cip_lp.specs.declared.words.Relation.{Relation}

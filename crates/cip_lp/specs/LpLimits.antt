@@ -1,7 +1,7 @@
 -- Values of bounds, as the code keeps them: where there is none, the sign of infinity.
 use Rattle.std.specs.Prelude.{Bool, Option, None, Some}
 use Rattle.cip_rational.specs.Rational.{ℚ}
-use Rattle.cip_lp_rules.specs.LpPlaces as places
+use Rattle.cip_text_rules.specs.LpPlaces as places
 use Rattle.cip_lp.specs.declared.numbers.Limit.{Limit}
 
 -- the value of a bound

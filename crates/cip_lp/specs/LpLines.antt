@@ -1,8 +1,8 @@
 -- The tokens of a line that are still to come, as the code hands them out.
 --     tokens_left tokens      the tokens
 use Rattle.std.specs.Prelude.{List}
-use Rattle.cip_lp_rules.specs.LpTokens as tokens
-use Rattle.cip_lp_rules.specs.LpTokens.{tokens_from}
+use Rattle.cip_text_rules.specs.LpTokens as tokens
+use Rattle.cip_text_rules.specs.LpTokens.{tokens_from}
 use Rattle.cip_lp.specs.declared.line_tokens.Token.{Token}
 use Rattle.cip_lp.specs.declared.line_tokens.Token.TheVariants.{Opening, OutsideSection, Reserved, Free, Infinite, Number, Name, Sign, Colon, Relates, Bad}
 use Rattle.cip_lp.specs.declared.line_tokens.LineTokens.{LineTokens}

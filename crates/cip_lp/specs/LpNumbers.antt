@@ -1,7 +1,7 @@
 -- Numbers of rows, of the objective and of bounds, as they are read.
 use Rattle.std.specs.Prelude.{◌≡◌, ℕ, ◌<◌, ◌≤◌, Bool, List}
-use Rattle.cip_lp_rules.specs.LpPlaces.{Amount, Where, Reads, fails}
-use Rattle.cip_lp_rules.specs.LpGrammar.{amount_in, limit_in, with_number, with_limit}
+use Rattle.cip_text_rules.specs.LpPlaces.{Amount, Where, Reads, fails}
+use Rattle.cip_text_rules.specs.LpGrammar.{amount_in, limit_in, with_number, with_limit}
 use Rattle.cip_lp.specs.declared.numbers.Limit.{Limit}
 use Rattle.cip_lp.specs.LpLimits.{limit_shown}
 

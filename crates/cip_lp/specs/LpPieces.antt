@@ -1,8 +1,8 @@
 -- The pieces of a line, as the code hands them out.
 use Rattle.std.specs.Prelude.{ℕ, Bool, false, ◌||◌, List, [], ◌∷◌}
-use Rattle.cip_line_texts.specs.Lines.{is_blank}
-use Rattle.cip_lp_rules.specs.LpWords as text
-use Rattle.cip_lp_rules.specs.LpTokens.{is_comment}
+use Rattle.cip_text_rules.specs.Lines.{is_blank}
+use Rattle.cip_text_rules.specs.LpWords as text
+use Rattle.cip_text_rules.specs.LpTokens.{is_comment}
 use Rattle.cip_lp.specs.declared.pieces.Piece.{Piece}
 use Rattle.cip_lp.specs.declared.pieces.Piece.TheVariants.{Word, Number, Sign, Colon, Relates, Nothing}
 use Rattle.cip_lp.specs.LpKinds.{relation_shown}

@@ -4,8 +4,8 @@ use Rattle.cip_text.specs.declared.faults.KnownFault.{KnownFault}
 use Rattle.cip_text.specs.declared.text_faults.TextFault.{TextFault}
 use Rattle.cip_text.specs.declared.text_faults.ReadFault.{ReadFault}
 use Rattle.cip_text.specs.TextFaults.{IsFaultBy}
-use Rattle.cip_lp_rules.specs.LpOutcome.{told_kind, HasLpFault}
-use Rattle.cip_lp_rules.specs.LpBytes.{text_taken, IsTold}
+use Rattle.cip_text_rules.specs.LpOutcome.{told_kind, HasLpFault}
+use Rattle.cip_text_rules.specs.LpBytes.{text_taken, IsTold}
 use Rattle.cip_lp.specs.declared.kinds.LpKind.{LpKind}
 use Rattle.cip_lp.specs.declared.lp_text.LpText.{LpText}
 use Rattle.cip_lp.specs.LpKindTexts.{kind_number}

@@ -2,11 +2,11 @@
 --     where_of statements      the section and the place of the next token
 use Rattle.std.specs.Prelude.{Bool, not, ◌&&◌, ◌||◌, if◌then◌else◌, Option, None, Some}
 use Rattle.cip_rational.specs.Rational.{ℚ}
-use Rattle.cip_lp_rules.specs.LpTokens.{Token}
-use Rattle.cip_lp_rules.specs.LpPlaces as places
-use Rattle.cip_lp_rules.specs.LpWords.{Relation, AtMost}
-use Rattle.cip_lp_rules.specs.LpGrammar.{is_name, goes_behind, low_side, high_side}
-use Rattle.cip_lp_rules.specs.LpOutcome.{LpContext}
+use Rattle.cip_text_rules.specs.LpTokens.{Token}
+use Rattle.cip_text_rules.specs.LpPlaces as places
+use Rattle.cip_text_rules.specs.LpWords.{Relation, AtMost}
+use Rattle.cip_text_rules.specs.LpGrammar.{is_name, goes_behind, low_side, high_side}
+use Rattle.cip_text_rules.specs.LpOutcome.{LpContext}
 use Rattle.cip_lp.specs.LpKinds.{part_shown, relation_shown}
 use Rattle.cip_lp.specs.LpLimits.{limit_shown}
 use Rattle.cip_lp.specs.declared.places.Stage.{Stage}

@@ -1,9 +1,9 @@
 -- What is taken of a token.
 use Rattle.std.specs.Prelude.{◌≡◌, ℕ, Option, None}
-use Rattle.cip_lp_rules.specs.LpTokens.{Token}
-use Rattle.cip_lp_rules.specs.LpPlaces.{Reads}
-use Rattle.cip_lp_rules.specs.LpFacts.{first_fault, facts_after}
-use Rattle.cip_lp_rules.specs.LpOutcome.{token_fault, context_with}
+use Rattle.cip_text_rules.specs.LpTokens.{Token}
+use Rattle.cip_text_rules.specs.LpPlaces.{Reads}
+use Rattle.cip_text_rules.specs.LpFacts.{first_fault, facts_after}
+use Rattle.cip_text_rules.specs.LpOutcome.{token_fault, context_with}
 use Rattle.cip_lp.specs.LpEvents.{IsLpKind}
 use Rattle.cip_lp.specs.declared.statements.Statements.{Statements}
 use Rattle.cip_lp.specs.LpStages.{where_of, context_of}

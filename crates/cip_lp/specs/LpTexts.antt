@@ -1,10 +1,10 @@
 -- An LP text as far as it came.
 --     shown_of text      what is known of it, as it is taken byte by byte
-use Rattle.cip_line_texts.specs.LineEnds.{Stage}
-use Rattle.cip_line_texts.specs.LineStream.{Progress}
+use Rattle.cip_text_rules.specs.LineEnds.{Stage}
+use Rattle.cip_text_rules.specs.LineStream.{Progress}
 use Rattle.cip_text.specs.PieceStands.{progress_of}
-use Rattle.cip_lp_rules.specs.LpOutcome.{LpContext}
-use Rattle.cip_lp_rules.specs.LpBytes.{LpBytes}
+use Rattle.cip_text_rules.specs.LpOutcome.{LpContext}
+use Rattle.cip_text_rules.specs.LpBytes.{LpBytes}
 use Rattle.cip_lp.specs.declared.lp_text.LpText.{LpText}
 use Rattle.cip_lp.specs.LinesRead as lines
 

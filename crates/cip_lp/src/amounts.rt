@@ -1,7 +1,7 @@
 //! Numbers with their signs.
 ghost use Rattle.std.specs.Prelude.{◌≡◌};
-ghost use Rattle.cip_lp_rules.specs.LpPlaces as places;
-ghost use Rattle.cip_mps_rules.specs.MpsState.{is_zero_value};
+ghost use Rattle.cip_text_rules.specs.LpPlaces as places;
+ghost use Rattle.cip_text_rules.specs.MpsState.{is_zero_value};
 
 use cip_frac::Frac;
 use std::marker::Model;
@@ -21,7 +21,7 @@ pub fn is_zero(value: Frac) -> bool
 }
 
 impl Model for Amount {
-    ghost use Rattle.cip_lp_rules.specs.LpPlaces as places;
+    ghost use Rattle.cip_text_rules.specs.LpPlaces as places;
     ghost use Rattle.cip_lp.specs.LpAmounts.{amount_code, amount_shown};
 
     ghost Value = { places.Amount };

@@ -1,8 +1,8 @@
 //! Tokens of Bounds, Generals and Binaries.
 ghost use Rattle.std.specs.Prelude.{◌≡◌, ◌∷◌, [], IfOk, OnOk};
-ghost use Rattle.cip_lp_rules.specs.LpPlaces as places;
-ghost use Rattle.cip_lp_rules.specs.LpFacts.{facts_with};
-ghost use Rattle.cip_lp_rules.specs.LpGrammar.{bound_read, bound_front, bound_set, bound_value, bound_related, limit_related, limit_in, with_limit, general_read, binary_read};
+ghost use Rattle.cip_text_rules.specs.LpPlaces as places;
+ghost use Rattle.cip_text_rules.specs.LpFacts.{facts_with};
+ghost use Rattle.cip_text_rules.specs.LpGrammar.{bound_read, bound_front, bound_set, bound_value, bound_related, limit_related, limit_in, with_limit, general_read, binary_read};
 ghost use Rattle.cip_lp.specs.LpKinds.{relation_shown};
 ghost use Rattle.cip_lp.specs.LpLines.{token_shown};
 ghost use Rattle.cip_lp.specs.LpLimits.{limit_shown};

@@ -2,9 +2,9 @@
 ghost use Rattle.std.specs.Prelude.{◌≡◌, ◌<◌, ◌++◌, ◌∷◌, [], false, None, length, IfOk, OnOk, OnErr, IfSome, is_none, ◌&&◌, nat_le};
 ghost use Rattle.cip_rational.specs.Rational.{zeroℚ};
 ghost use Rattle.cip_problem.specs.Limits.{most_columns};
-ghost use Rattle.cip_mps_rules.specs.MpsWords.{number_in};
-ghost use Rattle.cip_lp_rules.specs.LpFacts as facts;
-ghost use Rattle.cip_lp_rules.specs.LpPlaces.{Mentions};
+ghost use Rattle.cip_text_rules.specs.MpsWords.{number_in};
+ghost use Rattle.cip_text_rules.specs.LpFacts as facts;
+ghost use Rattle.cip_text_rules.specs.LpPlaces.{Mentions};
 ghost use Rattle.cip_lp.specs.LpDrafts.{IsKeptLp};
 ghost use Rattle.cip_lp.specs.LpEvents.{IsTaken};
 

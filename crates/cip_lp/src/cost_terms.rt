@@ -1,9 +1,9 @@
 //! Terms of the objective and of rows.
 ghost use Rattle.std.specs.Prelude.{◌≡◌, ◌<◌, ◌≤◌, slice_set, vec_len, IfOk, IfSome};
 ghost use Rattle.cip_problem.specs.Limits.{most_columns, most_entries};
-ghost use Rattle.cip_mps_rules.specs.MpsWords.{number_in};
-ghost use Rattle.cip_lp_rules.specs.LpFacts as facts;
-ghost use Rattle.cip_lp_rules.specs.LpPlaces.{NamesObjective, AddsCost, AddsConstant, Adds};
+ghost use Rattle.cip_text_rules.specs.MpsWords.{number_in};
+ghost use Rattle.cip_text_rules.specs.LpFacts as facts;
+ghost use Rattle.cip_text_rules.specs.LpPlaces.{NamesObjective, AddsCost, AddsConstant, Adds};
 ghost use Rattle.cip_lp.specs.LpEvents.{IsTaken};
 
 use crate::Amount;

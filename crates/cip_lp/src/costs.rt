@@ -1,7 +1,7 @@
 //! Tokens of the objective.
 ghost use Rattle.std.specs.Prelude.{◌≡◌, None, IfOk};
-ghost use Rattle.cip_lp_rules.specs.LpPlaces as places;
-ghost use Rattle.cip_lp_rules.specs.LpGrammar.{cost_read};
+ghost use Rattle.cip_text_rules.specs.LpPlaces as places;
+ghost use Rattle.cip_text_rules.specs.LpGrammar.{cost_read};
 ghost use Rattle.cip_lp.specs.LpLines.{token_shown};
 ghost use Rattle.cip_lp.specs.LpStages.{given_of, place_at, where_of};
 ghost use Rattle.cip_lp.specs.LpTaken.{AreTaken};

@@ -32,7 +32,7 @@ pub struct LpDraft {
 }
 
 impl Model for LpDraft {
-    ghost use Rattle.cip_lp_rules.specs.LpFacts.{LpFacts};
+    ghost use Rattle.cip_text_rules.specs.LpFacts.{LpFacts};
     ghost use Rattle.cip_lp.specs.LpCodes.{facts_code};
     ghost use Rattle.cip_lp.specs.LpDrafts.{facts_in, IsKeptLp};
 

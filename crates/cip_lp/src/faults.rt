@@ -2,7 +2,7 @@
 ghost use Rattle.std.specs.Prelude.{◌≡◌, Some, true, option_map};
 ghost use Rattle.cip_text.specs.PieceFaults.{has_kind_to};
 ghost use Rattle.cip_text.specs.TextFaults.{IsSaid};
-ghost use Rattle.cip_lp_rules.specs.LpOutcome.{told_kind};
+ghost use Rattle.cip_text_rules.specs.LpOutcome.{told_kind};
 ghost use Rattle.cip_lp.specs.LpKindTexts.{kind_number};
 ghost use Rattle.cip_lp.specs.LpReaders.{as_told};
 

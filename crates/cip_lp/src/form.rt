@@ -1,8 +1,8 @@
 //! The form in hand: the numbers of its columns.
 ghost use Rattle.std.specs.Prelude.{◌≡◌, ◌<◌, ◌++◌, ◌∷◌, [], ℕ, nat_lt, true, Some, slice_get, vec_len, vec_capacity, OnOk, IfOk};
 ghost use Rattle.std.specs.List.{list_all};
-ghost use Rattle.cip_lp_rules.specs.LpFacts as facts;
-ghost use Rattle.cip_lp_rules.specs.LpSound.{form_rises};
+ghost use Rattle.cip_text_rules.specs.LpFacts as facts;
+ghost use Rattle.cip_text_rules.specs.LpSound.{form_rises};
 ghost use Rattle.cip_lp.specs.LpForms.{form_of};
 
 use crate::{Amount, is_zero};
@@ -19,7 +19,7 @@ pub(crate) struct FormTerm {
 }
 
 impl Model for FormTerm {
-    ghost use Rattle.cip_lp_rules.specs.LpFacts as facts;
+    ghost use Rattle.cip_text_rules.specs.LpFacts as facts;
     ghost use Rattle.cip_lp.specs.LpForms.{term_code, term_shown};
 
     ghost Value = { facts.FormTerm };
@@ -33,7 +33,7 @@ impl Model for FormTerm {
 
 impl FormTerm {
     ghost use Rattle.std.specs.Prelude.{◌≡◌};
-    ghost use Rattle.cip_lp_rules.specs.LpFacts as facts;
+    ghost use Rattle.cip_text_rules.specs.LpFacts as facts;
 
     /// The number of a column.
     pub(crate) fn of(column: u32, amount: &Amount) -> FormTerm
@@ -57,7 +57,7 @@ pub(crate) struct Form {
 impl Model for Form {
     ghost use Rattle.std.specs.Prelude.{List};
     ghost use Rattle.std.specs.Coded.{coded_list};
-    ghost use Rattle.cip_lp_rules.specs.LpFacts as facts;
+    ghost use Rattle.cip_text_rules.specs.LpFacts as facts;
     ghost use Rattle.cip_lp.specs.LpForms.{term_code, form_of, ArePlaced};
 
     ghost Value = { List facts.FormTerm };
@@ -93,8 +93,8 @@ fn make_room(
 
 impl Form {
     ghost use Rattle.std.specs.Prelude.{◌≡◌, [], true, OnOk, OnErr, IfOk};
-    ghost use Rattle.cip_lp_rules.specs.LpFacts as facts;
-    ghost use Rattle.cip_lp_rules.specs.LpSound.{form_rises};
+    ghost use Rattle.cip_text_rules.specs.LpFacts as facts;
+    ghost use Rattle.cip_text_rules.specs.LpSound.{form_rises};
 
     /// No number yet.
     pub(crate) fn new(alloc: Global) -> Form

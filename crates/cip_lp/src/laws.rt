@@ -2,7 +2,7 @@
 // The function here does nothing. Its contract is a law, so that the check proves it.
 ghost use Rattle.cip_lp.specs.LpReaders.{KnownLpFaultsStay};
 
-use cip_lp_rules::lp_taken::taken_faults_stay;
+use cip_text_rules::lp_taken::taken_faults_stay;
 
 /// A fault that is known before a text ends is the text's, whatever follows, and stays known: so every later call of a
 /// reader answers it.

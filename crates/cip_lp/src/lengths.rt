@@ -3,7 +3,7 @@ ghost use Rattle.std.specs.Prelude.{◌≡◌, ◌≤◌, ◌<◌, ◌+◌, leng
 ghost use Rattle.std.specs.Char.{is_ascii_digit};
 ghost use Rattle.std.specs.List.{prefix_len};
 ghost use Rattle.cip_rational.specs.Numeral as number;
-ghost use Rattle.cip_lp_rules.specs.LpWords as text;
+ghost use Rattle.cip_text_rules.specs.LpWords as text;
 
 /// Whether a name begins with this byte.
 pub(crate) fn begins_name(byte: u8) -> bool

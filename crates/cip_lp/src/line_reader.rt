@@ -1,10 +1,10 @@
 //! Reading the tokens of a text, one after another.
 ghost use Rattle.std.specs.Prelude.{◌≡◌, ◌∷◌, ℕ, false, IfOk, MatchOption};
-ghost use Rattle.cip_line_texts.specs.LineStream.{Going};
+ghost use Rattle.cip_text_rules.specs.LineStream.{Going};
 ghost use Rattle.cip_text.specs.PieceStands.{progress_after};
-ghost use Rattle.cip_lp_rules.specs.LpOutcome as text;
-ghost use Rattle.cip_lp_rules.specs.LpOutcome.{LpContext, lp_reading};
-ghost use Rattle.cip_lp_rules.specs.LpBytes.{tokens_read};
+ghost use Rattle.cip_text_rules.specs.LpOutcome as text;
+ghost use Rattle.cip_text_rules.specs.LpOutcome.{LpContext, lp_reading};
+ghost use Rattle.cip_text_rules.specs.LpBytes.{tokens_read};
 ghost use Rattle.cip_lp.specs.LpLines.{token_shown, tokens_left};
 ghost use Rattle.cip_lp.specs.LpEvents.{IsLpKind};
 ghost use Rattle.cip_lp.specs.LpStages.{context_of};

@@ -1,10 +1,10 @@
 //! The tokens of a line.
 ghost use Rattle.std.specs.Prelude.{◌≡◌, ◌∷◌, [], map, false, MatchOption, option_map, if◌then◌else◌};
 ghost use lib.Chars.{codes};
-ghost use Rattle.cip_lp_rules.specs.LpWords as text;
-ghost use Rattle.cip_lp_rules.specs.LpTokens as tokens;
-ghost use Rattle.cip_lp_rules.specs.LpTokens.{line_pieces, token_of, tokens_with, front_tokens, plain_word};
-ghost use Rattle.cip_lp.specs.LpKinds.{part_shown, meaning_shown};
+ghost use Rattle.cip_text_rules.specs.LpWords as text;
+ghost use Rattle.cip_text_rules.specs.LpTokens as tokens;
+ghost use Rattle.cip_text_rules.specs.LpTokens.{line_pieces, token_of, tokens_with, front_tokens, plain_word};
+ghost use Rattle.cip_lp.specs.LpKinds.{meaning_shown};
 ghost use Rattle.cip_lp.specs.LpPieces.{piece_shown};
 ghost use Rattle.cip_lp.specs.LpLines.{token_shown, tokens_left};
 

@@ -1,24 +1,24 @@
 //! An LP text, byte by byte.
 ghost use Rattle.std.specs.Prelude.{◌≡◌, ◌+◌, ◌<◌, ◌≤◌, [], ◌∷◌, ℕ, List, None, true, false, OnOk, IfOk, fold};
 ghost use Rattle.cip_problem.specs.Limits.{longest_text};
-ghost use Rattle.cip_line_texts.specs.Lines as text;
-ghost use Rattle.cip_line_texts.specs.LineEnds.{Stage};
-ghost use Rattle.cip_line_texts.specs.LineStream.{Progress};
-ghost use Rattle.cip_line_texts.specs.LineTexts.{outcome_of};
+ghost use Rattle.cip_text_rules.specs.Lines as text;
+ghost use Rattle.cip_text_rules.specs.LineEnds.{Stage};
+ghost use Rattle.cip_text_rules.specs.LineStream.{Progress};
+ghost use Rattle.cip_text_rules.specs.LineTexts.{outcome_of};
 ghost use Rattle.cip_text.specs.PieceFaults.{has_kind_to, first_fault};
 ghost use Rattle.cip_text.specs.PieceStands.{progress_of, outcome_with};
-ghost use Rattle.cip_lp_rules.specs.LpOutcome.{LpContext, lp_reading};
-ghost use Rattle.cip_lp_rules.specs.LpBytes as taken;
-ghost use Rattle.cip_lp_rules.specs.LpBytes.{part_read, with_last, byte_taken, text_taken};
-ghost use Rattle.cip_lp_rules.specs.LpParts.{ends_with};
-ghost use Rattle.cip_lp_rules.specs.LpTakenTexts.{last_line};
+ghost use Rattle.cip_text_rules.specs.LpOutcome.{LpContext, lp_reading};
+ghost use Rattle.cip_text_rules.specs.LpBytes as taken;
+ghost use Rattle.cip_text_rules.specs.LpBytes.{part_read, with_last, byte_taken, text_taken};
+ghost use Rattle.cip_text_rules.specs.LpParts.{ends_with};
+ghost use Rattle.cip_text_rules.specs.LpTakenTexts.{last_line};
 
 use crate::faults::answer;
 use crate::kinds::LpKind;
 use crate::line_reader::LineReader;
 use crate::{LineTokens, Program, ends_before, hangs};
-use cip_lp_rules::lp_taken::{taken_faults_stay, taken_texts_come_out};
 use cip_text::{KnownFault, PieceText, ReadFault, TextFault};
+use cip_text_rules::lp_taken::{taken_faults_stay, taken_texts_come_out};
 use std::alloc::{AllocError, Global};
 use std::mem;
 
@@ -66,7 +66,7 @@ fn fault_on(line: usize, kind: Option<u32>) -> Option<KnownFault>
 
 impl LpText {
     ghost use Rattle.std.specs.Prelude.{MatchResult};
-    ghost use Rattle.cip_lp_rules.specs.LpOutcome.{HasLpProgram};
+    ghost use Rattle.cip_text_rules.specs.LpOutcome.{HasLpProgram};
     ghost use Rattle.cip_lp.specs.LpReaders.{IsFaultOf};
     ghost use Rattle.cip_lp.specs.LpTexts.{stage_of, bytes_of, shown_of};
 
@@ -330,7 +330,7 @@ impl LpText {
 
 impl PieceText for LpText {
     ghost use Rattle.std.specs.Prelude.{[], IsSomeAnd, MatchResult};
-    ghost use Rattle.cip_lp_rules.specs.LpOutcome.{HasLpProgram};
+    ghost use Rattle.cip_text_rules.specs.LpOutcome.{HasLpProgram};
     ghost use Rattle.cip_lp.specs.LpReaders.{HasCome, IsAnswered, IsFaultOf};
 
     type Start = Global;

@@ -1,6 +1,6 @@
 //! Numbers behind signs.
 ghost use Rattle.std.specs.Prelude.{◌≡◌, MatchOption, MatchResult};
-ghost use Rattle.cip_lp_rules.specs.LpPlaces as places;
+ghost use Rattle.cip_text_rules.specs.LpPlaces as places;
 ghost use Rattle.cip_lp.specs.LpLimits.{limit_from};
 ghost use Rattle.cip_lp.specs.LpNumbers.{IsAmount, IsNoAmount, IsLimit, IsTooFine};
 

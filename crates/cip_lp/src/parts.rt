@@ -1,8 +1,8 @@
 //! Where the tokens of a line have ended, whatever follows.
 ghost use Rattle.std.specs.Prelude.{◌≡◌, option_map};
 ghost use Rattle.cip_rational.specs.Numeral as number;
-ghost use Rattle.cip_lp_rules.specs.LpTokens.{line_pieces};
-ghost use Rattle.cip_lp_rules.specs.LpParts as parts;
+ghost use Rattle.cip_text_rules.specs.LpTokens.{line_pieces};
+ghost use Rattle.cip_text_rules.specs.LpParts as parts;
 ghost use Rattle.cip_lp.specs.LpKinds.{meaning_shown};
 
 use crate::lengths::is_name_byte;

@@ -1,11 +1,11 @@
 //! A line is cut into pieces.
 ghost use Rattle.std.specs.Prelude.{◌≡◌, ◌+◌, ◌-◌, ◌∷◌, [], length, take, drop, false, MatchOption, if◌then◌else◌};
 ghost use Rattle.std.specs.List.{prefix_len};
-ghost use Rattle.cip_line_texts.specs.Lines as lines;
-ghost use Rattle.cip_lp_rules.specs.LpWords as text;
-ghost use Rattle.cip_lp_rules.specs.LpTokens as tokens;
-ghost use Rattle.cip_lp_rules.specs.LpTokens.{line_pieces, has_colon};
-ghost use Rattle.cip_lp_rules.specs.LpParts.{is_over};
+ghost use Rattle.cip_text_rules.specs.Lines as lines;
+ghost use Rattle.cip_text_rules.specs.LpWords as text;
+ghost use Rattle.cip_text_rules.specs.LpTokens as tokens;
+ghost use Rattle.cip_text_rules.specs.LpTokens.{line_pieces, has_colon};
+ghost use Rattle.cip_text_rules.specs.LpParts.{is_over};
 ghost use Rattle.cip_lp.specs.LpKinds.{relation_shown};
 ghost use Rattle.cip_lp.specs.LpPieces.{piece_shown, begins_blank, begins_nothing};
 
@@ -100,7 +100,7 @@ fn behind_mark(byte: u8, behind: &[u8]) -> &[u8]
 }
 
 /// A text that no blank begins; nothing where it begins a comment.
-#[tactic(auto, using(cip_lp_rules::proofs::LpPieceLaws::comment_cut))]
+#[tactic(auto, using(cip_text_rules::proofs::LpPieceLaws::comment_cut))]
 fn without_comment(bytes: &[u8]) -> &[u8]
     requires { begins_blank bytes.now ≡ false }
     ensures same { line_pieces result.now ≡ line_pieces bytes.now }

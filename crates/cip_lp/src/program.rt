@@ -1,6 +1,6 @@
 //! The first facts, and the program that was said.
 ghost use Rattle.std.specs.Prelude.{◌≡◌, IfOk};
-ghost use Rattle.cip_lp_rules.specs.LpFacts as facts;
+ghost use Rattle.cip_text_rules.specs.LpFacts as facts;
 ghost use Rattle.cip_model.specs.Programs.{is_maximize};
 
 use crate::draft::LpDraft;

@@ -1,7 +1,7 @@
 //! Relations, and the sides that they say of rows and bounds.
 ghost use Rattle.std.specs.Prelude.{◌≡◌};
-ghost use Rattle.cip_lp_rules.specs.LpPlaces as places;
-ghost use Rattle.cip_lp_rules.specs.LpGrammar as grammar;
+ghost use Rattle.cip_text_rules.specs.LpPlaces as places;
+ghost use Rattle.cip_text_rules.specs.LpGrammar as grammar;
 ghost use Rattle.cip_lp.specs.LpKinds.{relation_shown};
 ghost use Rattle.cip_lp.specs.LpLimits.{limit_shown};
 

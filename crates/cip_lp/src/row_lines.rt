@@ -1,10 +1,10 @@
 //! Rows and sections.
 ghost use Rattle.std.specs.Prelude.{◌≡◌, ◌++◌, ◌∷◌, [], None, Some, false, IfOk, OnOk, OnErr};
 ghost use Rattle.cip_rational.specs.NumberText.{natural_text};
-ghost use Rattle.cip_mps_rules.specs.MpsWords.{is_in};
-ghost use Rattle.cip_lp_rules.specs.LpWords as text;
-ghost use Rattle.cip_lp_rules.specs.LpFacts as facts;
-ghost use Rattle.cip_lp_rules.specs.LpPlaces.{Opens, Begins, Ends};
+ghost use Rattle.cip_text_rules.specs.MpsWords.{is_in};
+ghost use Rattle.cip_text_rules.specs.LpWords as text;
+ghost use Rattle.cip_text_rules.specs.LpFacts as facts;
+ghost use Rattle.cip_text_rules.specs.LpPlaces.{Opens, Begins, Ends};
 ghost use Rattle.cip_lp.specs.LpEvents.{IsTaken};
 
 use crate::columns::is_long;

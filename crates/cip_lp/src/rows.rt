@@ -1,7 +1,7 @@
 //! Tokens of rows.
 ghost use Rattle.std.specs.Prelude.{◌≡◌, ◌&&◌, None, Some, IfOk};
-ghost use Rattle.cip_lp_rules.specs.LpPlaces as places;
-ghost use Rattle.cip_lp_rules.specs.LpGrammar.{row_read, front_read, first_related, second_term, second_name, second_related, form_related};
+ghost use Rattle.cip_text_rules.specs.LpPlaces as places;
+ghost use Rattle.cip_text_rules.specs.LpGrammar.{row_read, front_read, first_related, second_term, second_name, second_related, form_related};
 ghost use Rattle.cip_lp.specs.LpKinds.{relation_shown};
 ghost use Rattle.cip_lp.specs.LpLines.{token_shown};
 ghost use Rattle.cip_lp.specs.LpStages.{first_of, given_of, place_at, where_of};

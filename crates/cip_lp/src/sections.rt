@@ -1,9 +1,9 @@
 //! Section words, and tokens by their section.
 ghost use Rattle.std.specs.Prelude.{◌≡◌, IfOk};
-ghost use Rattle.cip_lp_rules.specs.LpPlaces.{Opens, fails};
-ghost use Rattle.cip_lp_rules.specs.LpFacts.{facts_with};
-ghost use Rattle.cip_lp_rules.specs.LpGrammar as grammar;
-ghost use Rattle.cip_lp_rules.specs.LpGrammar.{section_read, outside_read, read_in, read, may_end, opened};
+ghost use Rattle.cip_text_rules.specs.LpPlaces.{Opens, fails};
+ghost use Rattle.cip_text_rules.specs.LpFacts.{facts_with};
+ghost use Rattle.cip_text_rules.specs.LpGrammar as grammar;
+ghost use Rattle.cip_text_rules.specs.LpGrammar.{section_read, outside_read, read_in, read, may_end, opened};
 ghost use Rattle.cip_lp.specs.LpKinds.{part_shown};
 ghost use Rattle.cip_lp.specs.LpLines.{token_shown};
 ghost use Rattle.cip_lp.specs.LpStages.{place_at, where_of};

@@ -1,9 +1,9 @@
 //! What the tokens before a token say, now that it is known.
 ghost use Rattle.std.specs.Prelude.{◌≡◌, None, true, IfOk, OnOk};
-ghost use Rattle.cip_lp_rules.specs.LpPlaces as places;
-ghost use Rattle.cip_lp_rules.specs.LpFacts.{facts_with};
-ghost use Rattle.cip_lp_rules.specs.LpGrammar as grammar;
-ghost use Rattle.cip_lp_rules.specs.LpGrammar.{settled, settled_cost, settled_row, zero_ends, goes_behind};
+ghost use Rattle.cip_text_rules.specs.LpPlaces as places;
+ghost use Rattle.cip_text_rules.specs.LpFacts.{facts_with};
+ghost use Rattle.cip_text_rules.specs.LpGrammar as grammar;
+ghost use Rattle.cip_text_rules.specs.LpGrammar.{settled, settled_cost, settled_row, zero_ends, goes_behind};
 ghost use Rattle.cip_lp.specs.LpLines.{token_shown};
 ghost use Rattle.cip_lp.specs.LpStages.{first_of, given_of, goes_on_with, place_at, where_of};
 ghost use Rattle.cip_lp.specs.LpTaken.{AreTaken};

@@ -1,7 +1,7 @@
 //! Sides of columns, and columns that are whole.
 ghost use Rattle.std.specs.Prelude.{◌≡◌};
-ghost use Rattle.cip_lp_rules.specs.LpFacts as facts;
-ghost use Rattle.cip_lp_rules.specs.LpPlaces.{SetsLow, SetsHigh, SetsBoth, MakesWhole, MakesBinary};
+ghost use Rattle.cip_text_rules.specs.LpFacts as facts;
+ghost use Rattle.cip_text_rules.specs.LpPlaces.{SetsLow, SetsHigh, SetsBoth, MakesWhole, MakesBinary};
 
 use crate::draft::LpDraft;
 use cip_frac::Frac;

@@ -1,9 +1,9 @@
 //! The statements of a text, as far as its tokens have come.
 ghost use Rattle.std.specs.Prelude.{◌≡◌, IfOk};
-ghost use Rattle.cip_lp_rules.specs.LpOutcome as text;
-ghost use Rattle.cip_lp_rules.specs.LpFacts as facts;
+ghost use Rattle.cip_text_rules.specs.LpOutcome as text;
+ghost use Rattle.cip_text_rules.specs.LpFacts as facts;
 ghost use Rattle.cip_lp.specs.LpLines.{token_shown};
-ghost use Rattle.cip_lp_rules.specs.LpPlaces as places;
+ghost use Rattle.cip_text_rules.specs.LpPlaces as places;
 ghost use Rattle.cip_lp.specs.LpStages.{place_at, context_of};
 ghost use Rattle.cip_lp.specs.LpTaken.{IsTokenTaken};
 

@@ -1,8 +1,8 @@
 //! Terms and numbers of forms, and values of rows.
 ghost use Rattle.std.specs.Prelude.{◌≡◌, ◌∷◌, [], None, Some, IfOk, OnOk, if◌then◌else◌, false};
-ghost use Rattle.cip_lp_rules.specs.LpPlaces as places;
-ghost use Rattle.cip_lp_rules.specs.LpPlaces.{AddsCost, Adds, Begins, says, moves};
-ghost use Rattle.cip_lp_rules.specs.LpGrammar.{amount_in, with_number, row_ends};
+ghost use Rattle.cip_text_rules.specs.LpPlaces as places;
+ghost use Rattle.cip_text_rules.specs.LpPlaces.{AddsCost, Adds, Begins, says, moves};
+ghost use Rattle.cip_text_rules.specs.LpGrammar.{amount_in, with_number, row_ends};
 ghost use Rattle.cip_lp.specs.LpKinds.{relation_shown};
 ghost use Rattle.cip_lp.specs.LpStages.{first_of, given_of, row_low, row_high, where_of};
 ghost use Rattle.cip_lp.specs.LpTaken.{AreTaken};

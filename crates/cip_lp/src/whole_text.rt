@@ -1,6 +1,6 @@
 //! Reading an LP text that is there as a whole.
 ghost use Rattle.std.specs.Prelude.{MatchResult};
-ghost use Rattle.cip_lp_rules.specs.LpOutcome.{HasLpProgram};
+ghost use Rattle.cip_text_rules.specs.LpOutcome.{HasLpProgram};
 ghost use Rattle.cip_lp.specs.LpReaders.{IsFaultOf};
 
 use crate::Program;

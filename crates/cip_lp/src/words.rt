@@ -2,8 +2,8 @@
 ghost use lib.Chars.{codes};
 ghost use Rattle.std.specs.Prelude.{◌≡◌, map, option_map, if◌then◌else◌};
 ghost use Rattle.std.specs.Str.{bytes_eq, str_to_ascii_lowercase};
-ghost use Rattle.cip_mps_rules.specs.MpsWords.{meaning_in};
-ghost use Rattle.cip_lp_rules.specs.LpWords as text;
+ghost use Rattle.cip_text_rules.specs.MpsWords.{meaning_in};
+ghost use Rattle.cip_text_rules.specs.LpWords as text;
 ghost use Rattle.cip_lp.specs.LpKinds.{meaning_shown, word_shown};
 
 /// A section of a text.

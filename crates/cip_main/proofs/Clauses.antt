@@ -5,13 +5,13 @@ use Rattle.cip_io.specs.Faults.{Rose}
 use Rattle.cip_io.specs.Store.{StoreTells}
 use Rattle.cip_problem.specs.Program.{Program}
 use Rattle.cip_problem.specs.Log.{root, leaf_count}
-use Rattle.cip_mps_rules.specs.MpsOutcome.{mps_reading}
-use Rattle.cip_lp_rules.specs.LpOutcome.{lp_reading, told_kind}
+use Rattle.cip_text_rules.specs.MpsOutcome.{mps_reading}
+use Rattle.cip_text_rules.specs.LpOutcome.{lp_reading, told_kind}
 use Rattle.cip_rational.specs.Rational.{ℚ}
-use Rattle.cip_line_texts.specs.LineTexts.{Reading, Outcome, outcome_of, HasResult, HasFault as HasLineFault}
-use Rattle.cip_line_texts.specs.LineTexts as texts
-use Rattle.cip_block_rules.specs.BlockRules.{block_reading}
-use Rattle.cip_point_rules.specs.PointRules.{point_reading}
+use Rattle.cip_text_rules.specs.LineTexts.{Reading, Outcome, outcome_of, HasResult, HasFault as HasLineFault}
+use Rattle.cip_text_rules.specs.LineTexts as texts
+use Rattle.cip_text_rules.specs.BlockRules.{block_reading}
+use Rattle.cip_text_rules.specs.PointRules.{point_reading}
 use Rattle.cip_main.specs.Models.{is_lp_name, HasProgramAs, HasFaultAs, HasModel, HasModelFault, is_lp_kind, model_kind_number}
 use Rattle.cip_main.specs.ModelKind.{ModelKind}
 use Rattle.cip_main.specs.TextFault.{TextFault}
@@ -19,21 +19,21 @@ use Rattle.cip_main.specs.BlockKindTexts.{kind_number as block_kind_number}
 use Rattle.cip_main.specs.BlockKind.{BlockKind}
 use Rattle.cip_main.specs.PointKindTexts.{kind_number as point_kind_number}
 use Rattle.cip_main.specs.PointKind.{PointKind}
-use Rattle.cip_tasks.specs.Jobs.{Limits, Job, Solve, Check, Generate, usual_limits}
-use Rattle.cip_tasks.specs.Generated.{generated}
-use Rattle.cip_answers.specs.Checks.{check_status}
+use Rattle.cip_input.specs.Jobs.{Limits, Job, Solve, Check, Generate, usual_limits}
+use Rattle.cip_input.specs.Generated.{generated}
+use Rattle.cip_search.specs.Checks.{check_status}
 use Rattle.cip_model.specs.Verdicts.{verdict_of}
-use Rattle.cip_tasks.specs.declared.refusals.FaultyText.{FaultyText}
-use Rattle.cip_tasks.specs.declared.refusals.FaultyText.TheVariants.{Model, Blocks, Point}
-use Rattle.cip_answers.specs.Figures.{NodeLimit, Gap, Wide, NoMemory as LacksMemory, exit_status}
+use Rattle.cip_input.specs.declared.refusals.FaultyText.{FaultyText}
+use Rattle.cip_input.specs.declared.refusals.FaultyText.TheVariants.{Model, Blocks, Point}
+use Rattle.cip_search.specs.Figures.{NodeLimit, Gap, Wide, NoMemory as LacksMemory, exit_status}
 use Rattle.cip_search.specs.SearchEnds.{ReachesGap}
 use Rattle.cip_search.specs.Headline.{IsSpent, EndsWith, EndsItself}
 use Rattle.cip_search.proofs.Ends.{budgets_suffice}
-use Rattle.cip_tasks.specs.declared.plain.Plain.{Plain}
-use Rattle.cip_tasks.specs.declared.plain.Plain.TheVariants.{Usage, ReadFault, Refused, NoMemory}
+use Rattle.cip_input.specs.declared.plain.Plain.{Plain}
+use Rattle.cip_input.specs.declared.plain.Plain.TheVariants.{Usage, ReadFault, Refused, NoMemory}
 use Rattle.cip_main.specs.Answering.{self_told, IsLogged}
 use Rattle.cip_main.specs.Checking.{checked}
-use Rattle.cip_tasks.specs.Plain.{plain_status}
+use Rattle.cip_input.specs.Plain.{plain_status}
 use Rattle.cip_events.specs.declared.traces.Trace.{Trace}
 use Rattle.cip_problem.specs.Log.{Entry}
 use Rattle.cip_main.specs.Kits.{Stock, less_off}
@@ -41,8 +41,8 @@ use Rattle.cip_main.specs.KitsServed.{is_alone, IsKitAfter}
 use Rattle.cip_main.specs.Running.{Call, HasProgram, HasFault, IsStoreSound, IsSinkSound, GivesPlain, IsOfText, IsOfSeed, drawn_as, IsAnswered, IsChecked, TellsVerdict, ArePulled, BlocksAreRead, Ran, gives_plain, gives_figures, gives_verdict, IsStatus, write_fault, TellsBy, TellsTruth, Asks, AsksOf, AsksWith, AsksToCheck, RefusesBlocks, IsCutShort, Headline, BreaksSome, CheckClause, HasBlocksFault, HasPointFault, IsFirstFault, TellsModelFault, TellsBlockFault, TellsPointFault, UsageClause, behind_up_to, PullsToFault, ReadFaultClause, RefusedClause, WriteFaultClause, SpentLog, FiguresReachGap, GapLog, OverflowClause, MemoryClause, WorksBy, TellsWork, WorkClause, TellsKit, AsksForSearch, KitClause, Runs}
 use Rattle.cip_main.specs.Saying.{Says}
 use Rattle.cip_main.specs.Work.{IsKitOf}
-use Rattle.cip_tasks.specs.Tasks.{TaskCause, model_of, model_in, second_of, FailsBehind, HasFaultyModel, HasFaultyBlocks, HasFaultyPoint}
-use Rattle.cip_tasks.proofs.Readings.{told, some_job}
+use Rattle.cip_input.specs.Tasks.{TaskCause, model_of, model_in, second_of, FailsBehind, HasFaultyModel, HasFaultyBlocks, HasFaultyPoint}
+use Rattle.cip_input.proofs.TasksRead.{told, some_job}
 use Rattle.cip_main.proofs.Statuses.{says_usage, says_read_fault, says_refused, says_no_memory, plain_below_five, plain_not_one, plain_not_ten, plain_not_eleven, plain_not_thirteen, plain_is, is_breach, is_overflow, figures_not_one, figures_not_two, figures_not_three, figures_not_four, figures_not_five, is_spent, is_near, gap_by_word, is_wide, exit_is, verdict_not_two, verdict_not_three, verdict_not_four, verdict_not_five, verdict_not_six, verdict_not_ten, verdict_not_thirteen, verdict_is}
 
 -- ---- the status of a call

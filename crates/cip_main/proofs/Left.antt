@@ -5,11 +5,11 @@ use Rattle.cip_rational.specs.Rational.{ℚ}
 use Rattle.cip_problem.specs.Program.{Program}
 use Rattle.cip_problem.specs.Points.{printed}
 use Rattle.cip_problem.specs.Log.{Entry}
-use Rattle.cip_leaves.specs.Searched.{IsLeast, IsOneOf, IsCovered}
+use Rattle.cip_search.specs.Searched.{IsLeast, IsOneOf, IsCovered}
 use Rattle.cip_search.specs.SearchEnds as ends
 use Rattle.cip_search.specs.SearchEnds.{Ended, Held, Answer, IsHeldPoint, EndHolds, IsSettled}
 use Rattle.cip_search.specs.SearchAnswers.{IsSearchAnswer}
-use Rattle.cip_answers.specs.Figures.{Infeasible, Unbounded}
+use Rattle.cip_search.specs.Figures.{Infeasible, Unbounded}
 use Rattle.cip_search.specs.Headline.{cost_of_printed}
 use Rattle.cip_search.specs.Printed.{status_of, printed_held, figures_of}
 use Rattle.cip_solve.specs.Solved.{IsShownBeside, RayIsShown}

@@ -5,7 +5,7 @@ use Rattle.cip_events.specs.declared.traces.Trace.{Trace}
 use Rattle.cip_io.specs.Sink.{SinkTells}
 use Rattle.cip_problem.specs.Program.{Program}
 use Rattle.cip_problem.specs.Log.{Entry}
-use Rattle.cip_answers.specs.Figures.{NoMemory, exit_status}
+use Rattle.cip_search.specs.Figures.{NoMemory, exit_status}
 use Rattle.cip_input.specs.LimitedModels.{IsLimited}
 use Rattle.cip_report.specs.Answers.{AnswerFits, figures_of, status_of}
 use Rattle.cip_report.specs.declared.figures.Ended.{Ended}
@@ -23,7 +23,7 @@ use Rattle.cip_solve.proofs.Fits.{answer_fits}
 use Rattle.cip_solve.proofs.PassedOn.{still_few}
 use Rattle.cip_main.specs.Answering.{Telling, AddsLog, AddsNone, IsLogged}
 use Rattle.cip_main.specs.Work.{Searched, TellsWhatIsLeft, Works, kit_of, goes_alone, IsKitOf}
-use Rattle.cip_tasks.specs.Jobs.{Limits, usual_limits, usual_nodes}
+use Rattle.cip_input.specs.Jobs.{Limits, usual_limits, usual_nodes}
 use Rattle.cip_main.specs.Saying.{Says}
 use Rattle.cip_main.proofs.TrueFigures.{lacks, are_true, figures_same}
 use Rattle.cip_main.proofs.Left.{left_of}

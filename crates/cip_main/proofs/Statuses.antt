@@ -3,14 +3,14 @@ use Rattle.std.specs.Prelude.{◌≡◌, ◌≢◌, List, refl}
 use Rattle.std.proofs.Common.{arith}
 use lib.Chars.{codes}
 use Rattle.cip_rational.specs.Rational.{ℚ}
-use Rattle.cip_leaves.specs.Leaf.{Leaf}
-use Rattle.cip_answers.specs.Figures.{Overflow, Status, Optimal, Infeasible, Unbounded, Wide, NodeLimit, Gap, NoMemory as LacksMemory, status_word, exit_status}
-use Rattle.cip_answers.proofs.AnswerTexts.{apart}
-use Rattle.cip_answers.specs.Checks.{Checked, Feasible, BreaksBound, BreaksWhole, BreaksRow, WideRow, WideCost, check_status}
-use Rattle.cip_tasks.specs.declared.refusals.FaultyText.{FaultyText}
-use Rattle.cip_tasks.specs.declared.plain.Plain.{Plain}
-use Rattle.cip_tasks.specs.declared.plain.Plain.TheVariants.{Usage, ReadFault, Refused, NoMemory}
-use Rattle.cip_tasks.specs.Plain.{plain_status}
+use Rattle.cip_search.specs.Leaf.{Leaf}
+use Rattle.cip_search.specs.Figures.{Overflow, Status, Optimal, Infeasible, Unbounded, Wide, NodeLimit, Gap, NoMemory as LacksMemory, status_word, exit_status}
+use Rattle.cip_search.proofs.AnswerTexts.{apart}
+use Rattle.cip_search.specs.Checks.{Checked, Feasible, BreaksBound, BreaksWhole, BreaksRow, WideRow, WideCost, check_status}
+use Rattle.cip_input.specs.declared.refusals.FaultyText.{FaultyText}
+use Rattle.cip_input.specs.declared.plain.Plain.{Plain}
+use Rattle.cip_input.specs.declared.plain.Plain.TheVariants.{Usage, ReadFault, Refused, NoMemory}
+use Rattle.cip_input.specs.Plain.{plain_status}
 use Rattle.cip_problem.specs.Program.{Program}
 use Rattle.cip_model.specs.declared.verdicts.Place.{Place}
 use Rattle.cip_model.specs.declared.verdicts.Place.TheVariants as places

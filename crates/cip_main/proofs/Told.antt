@@ -7,7 +7,7 @@ use Rattle.cip_rational.proofs.Rational.Order.{≤ℚ_antisymm}
 use Rattle.cip_problem.specs.Program.{Program}
 use Rattle.cip_problem.specs.Points.{printed}
 use Rattle.cip_problem.specs.Log.{Closed, Parked, Entry, Node, node_of}
-use Rattle.cip_leaves.specs.Searched.{NoMore, first_node, nodes_given, IsLeast, IsCovered, IsInOpen, IsInParked}
+use Rattle.cip_search.specs.Searched.{NoMore, first_node, nodes_given, IsLeast, IsCovered, IsInOpen, IsInParked}
 use Rattle.cip_search.proofs.Members.{none_in}
 use Rattle.cip_search.proofs.OneMore.{contains_here, contains_cons, node_of_among}
 use Rattle.cip_search.specs.Headline.{cost_of_printed}

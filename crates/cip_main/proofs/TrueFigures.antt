@@ -5,11 +5,11 @@ use Rattle.cip_rational.specs.Rational.{ℚ}
 use Rattle.cip_problem.specs.Program.{Program}
 use Rattle.cip_problem.specs.WellFormed.{IsWellFormed}
 use Rattle.cip_problem.specs.Log.{Entry}
-use Rattle.cip_leaves.specs.Searched.{NoMore}
+use Rattle.cip_search.specs.Searched.{NoMore}
 use Rattle.cip_solve.specs.Mark.{Mark}
 use Rattle.cip_search.specs.SearchEnds as ends
 use Rattle.cip_search.specs.SearchAnswers.{TellsBound}
-use Rattle.cip_answers.specs.Figures.{Status, Figures, Held as PrintedHeld, Wide as PrintedWide}
+use Rattle.cip_search.specs.Figures.{Status, Figures, Held as PrintedHeld, Wide as PrintedWide}
 use Rattle.cip_search.specs.Headline.{AreTrue, overflow_at}
 use Rattle.cip_search.specs.Printed.{IsPrintable, status_of as status_printed, printed_held as held_printed, figures_of as figures_printed}
 use Rattle.cip_search.proofs.Roots.{root_no_less, no_more}

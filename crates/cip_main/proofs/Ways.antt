@@ -3,24 +3,24 @@ use Rattle.std.specs.Prelude.{◌≡◌, ℕ, List, Option, None, Some, IfSome, 
 use Rattle.cip_rational.specs.Rational.{ℚ}
 use Rattle.cip_problem.specs.Program.{Program}
 use Rattle.cip_io.specs.Store.{StoreTells}
-use Rattle.cip_line_texts.specs.LineTexts.{HasResult}
-use Rattle.cip_block_rules.specs.BlockRules.{block_reading}
-use Rattle.cip_point_rules.specs.PointRules.{point_reading}
+use Rattle.cip_text_rules.specs.LineTexts.{HasResult}
+use Rattle.cip_text_rules.specs.BlockRules.{block_reading}
+use Rattle.cip_text_rules.specs.PointRules.{point_reading}
 use Rattle.cip_problem.specs.BlockParts.{Blocks as Parts}
 use Rattle.cip_main.specs.TextsRead.{ReadsText}
-use Rattle.cip_tasks.specs.declared.plain.Plain.{Plain}
+use Rattle.cip_input.specs.declared.plain.Plain.{Plain}
 use Rattle.cip_plugin.specs.Who.{Who}
-use Rattle.cip_tasks.specs.Jobs.{Limits, Job, usual_limits, job_for}
-use Rattle.cip_tasks.specs.Generated.{entries_of}
-use Rattle.cip_answers.specs.SelfTexts.{Drawn as Told}
-use Rattle.cip_answers.specs.TraceTexts.{traced_text}
-use Rattle.cip_answers.specs.Figures.{names_of}
+use Rattle.cip_input.specs.Jobs.{Limits, Job, usual_limits, job_for}
+use Rattle.cip_input.specs.Generated.{entries_of}
+use Rattle.cip_search.specs.SelfTexts.{Drawn as Told}
+use Rattle.cip_search.specs.TraceTexts.{traced_text}
+use Rattle.cip_search.specs.Figures.{names_of}
 use Rattle.cip_main.specs.Answering.{self_told}
 use Rattle.cip_main.specs.Saying.{Says}
-use Rattle.cip_tasks.specs.Plain.{plain_text, plain_status}
-use Rattle.cip_tasks.specs.Tasks.{labels_of, TakesBlocks, IsSolve, IsCheck, IsDrawn, TaskCause}
+use Rattle.cip_input.specs.Plain.{plain_text, plain_status}
+use Rattle.cip_input.specs.Tasks.{labels_of, TakesBlocks, IsSolve, IsCheck, IsDrawn, TaskCause}
 use Rattle.cip_main.specs.Running.{Call, BlocksAreRead, IsPulledBehind, WorksBy, TellsWork, TellsVerdict, gives_plain, gives_figures, gives_verdict, Runs}
-use Rattle.cip_tasks.proofs.Readings.{told, value_told}
+use Rattle.cip_input.proofs.TasksRead.{told, value_told}
 use Rattle.cip_main.proofs.Clauses.{runs}
 use Rattle.std.proofs.Common.{◌∙◌, ap, subst, inl, inr, refl}
 

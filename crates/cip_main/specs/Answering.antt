@@ -5,13 +5,13 @@ use Rattle.cip_io.specs.Sink.{SinkTells}
 use Rattle.cip_rational.specs.Rational.{ℚ}
 use Rattle.cip_problem.specs.Program.{Program}
 use Rattle.cip_problem.specs.Log.{Entry}
-use Rattle.cip_answers.specs.Figures.{Status, NoMemory, Figures, exit_status}
-use Rattle.cip_answers.specs.TraceTexts.{Traced}
-use Rattle.cip_answers.specs.SelfTexts.{Drawn, self_text}
+use Rattle.cip_search.specs.Figures.{Status, NoMemory, Figures, exit_status}
+use Rattle.cip_search.specs.TraceTexts.{Traced}
+use Rattle.cip_search.specs.SelfTexts.{Drawn, self_text}
 use Rattle.cip_search.specs.Headline.{AreTrue}
 use Rattle.cip_solve.specs.Logs.{entries_of}
 use Rattle.cip_solve.specs.declared.logs.Log.{Log}
-use Rattle.cip_tasks.specs.Jobs.{Limits}
+use Rattle.cip_input.specs.Jobs.{Limits}
 use Rattle.cip_main.specs.RootBox.{IsBoxBound, BeginsAt}
 use Rattle.cip_main.specs.Saying.{Says}
 

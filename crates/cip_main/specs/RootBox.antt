@@ -4,7 +4,7 @@ use Rattle.cip_rational.specs.Rational.{ℚ, ◌+ℚ◌, integer, ceil}
 use Rattle.cip_rational.specs.Range.{fits_range, sum_overflows}
 use Rattle.cip_problem.specs.Program.{Sides, Program}
 use Rattle.cip_problem.specs.BoxBound.{least_cost, box_bound}
-use Rattle.cip_linear.specs.Cuts.{HasWholeCosts}
+use Rattle.cip_problem.specs.Cuts.{HasWholeCosts}
 
 -- a least cost is out of the range of numbers, or its sum with what stands before is; or what is said of that sum holds
 abbrev pub LeavesWith : ℚ → (least : Option ℚ) → (ℚ → Type 0) → Type 0

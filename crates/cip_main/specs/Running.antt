@@ -7,22 +7,22 @@ use Rattle.cip_io.specs.Sink.{SinkTells}
 use Rattle.cip_rational.specs.Rational.{ℚ}
 use Rattle.cip_problem.specs.Program.{Program}
 use Rattle.cip_problem.specs.Log.{root, leaf_count}
-use Rattle.cip_leaves.specs.Leaf.{Leaf}
-use Rattle.cip_line_texts.specs.LineTexts.{HasResult, HasFault as HasLineFault}
+use Rattle.cip_search.specs.Leaf.{Leaf}
+use Rattle.cip_text_rules.specs.LineTexts.{HasResult, HasFault as HasLineFault}
 use Rattle.cip_problem.specs.BlockParts.{Blocks as Parts}
-use Rattle.cip_block_rules.specs.BlockRules.{block_reading}
-use Rattle.cip_point_rules.specs.PointRules.{point_reading}
-use Rattle.cip_tasks.specs.Generated.{generated, entries_of as coefficients_of}
-use Rattle.cip_answers.specs.SelfTexts.{Drawn}
-use Rattle.cip_answers.specs.TraceTexts.{traced_text}
-use Rattle.cip_tasks.specs.Jobs.{Limits, Job, Solve, Check, Generate, usual_limits}
+use Rattle.cip_text_rules.specs.BlockRules.{block_reading}
+use Rattle.cip_text_rules.specs.PointRules.{point_reading}
+use Rattle.cip_input.specs.Generated.{generated, entries_of as coefficients_of}
+use Rattle.cip_search.specs.SelfTexts.{Drawn}
+use Rattle.cip_search.specs.TraceTexts.{traced_text}
+use Rattle.cip_input.specs.Jobs.{Limits, Job, Solve, Check, Generate, usual_limits}
 use Rattle.cip_main.specs.Models.{is_lp_name, HasModel, HasModelFault, is_lp_kind, model_kind_number}
 use Rattle.cip_main.specs.TextPulls.{IsAllPulled}
 use Rattle.cip_main.specs.ModelKind.{ModelKind}
 use Rattle.cip_main.specs.TextFault.{TextFault}
-use Rattle.cip_answers.specs.Figures.{NodeLimit, Gap, Wide, Overflow, NoMemory as LacksMemory, names_of}
+use Rattle.cip_search.specs.Figures.{NodeLimit, Gap, Wide, Overflow, NoMemory as LacksMemory, names_of}
 use Rattle.cip_search.specs.Headline.{ShowsGap, IsSpent, ShowsOverflow, EndsItself}
-use Rattle.cip_answers.specs.Checks.{check_text, check_status}
+use Rattle.cip_search.specs.Checks.{check_text, check_status}
 use Rattle.cip_model.specs.Verdicts.{verdict_of}
 use Rattle.cip_model.specs.Meaning.{VerdictHolds}
 use Rattle.cip_model.specs.declared.verdicts.Place.{Place}
@@ -37,16 +37,16 @@ use Rattle.cip_main.specs.BlockKindTexts.{kind_number as block_kind_number}
 use Rattle.cip_main.specs.BlockKind.{BlockKind}
 use Rattle.cip_main.specs.PointKindTexts.{kind_number as point_kind_number}
 use Rattle.cip_main.specs.PointKind.{PointKind}
-use Rattle.cip_tasks.specs.declared.refusals.FaultyText.{FaultyText}
-use Rattle.cip_tasks.specs.declared.refusals.FaultyText.TheVariants.{Model, Blocks, Point}
-use Rattle.cip_tasks.specs.declared.plain.Plain.{Plain}
-use Rattle.cip_tasks.specs.declared.plain.Plain.TheVariants.{Usage, ReadFault, Refused, NoMemory}
+use Rattle.cip_input.specs.declared.refusals.FaultyText.{FaultyText}
+use Rattle.cip_input.specs.declared.refusals.FaultyText.TheVariants.{Model, Blocks, Point}
+use Rattle.cip_input.specs.declared.plain.Plain.{Plain}
+use Rattle.cip_input.specs.declared.plain.Plain.TheVariants.{Usage, ReadFault, Refused, NoMemory}
 use Rattle.cip_main.specs.Answering.{Telling, self_told, Answers}
 use Rattle.cip_main.specs.Checking.{checked}
 use Rattle.cip_main.specs.Work.{Works, IsKitOf}
-use Rattle.cip_tasks.specs.Plain.{plain_text, plain_status}
+use Rattle.cip_input.specs.Plain.{plain_text, plain_status}
 use Rattle.cip_main.specs.Saying.{Says}
-use Rattle.cip_tasks.specs.Tasks.{TaskCause, model_of, model_in, second_of}
+use Rattle.cip_input.specs.Tasks.{TaskCause, model_of, model_in, second_of}
 
 -- a call: the job that its words mean, if they are accepted, and the plugins that they want to be off are there; store,
 -- sink, kit and logs before and after it; its status

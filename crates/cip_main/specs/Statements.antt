@@ -4,7 +4,7 @@ use Rattle.cip_rational.specs.Rational.{ℚ}
 use Rattle.cip_problem.specs.Program.{Program}
 use Rattle.cip_problem.specs.Points.{IsFeasible}
 use Rattle.cip_problem.specs.Log.{Closed, Entry}
-use Rattle.cip_answers.specs.Figures.{Status, Infeasible, Figures}
+use Rattle.cip_search.specs.Figures.{Status, Infeasible, Figures}
 use Rattle.cip_main.specs.Work.{HasNoRay, TellsWhatIsLeft}
 
 -- a bound is told, if there is one

@@ -7,11 +7,11 @@ use Rattle.cip_rational.specs.Rational.{ℚ}
 use Rattle.cip_problem.specs.Program.{Program}
 use Rattle.cip_problem.specs.Points.{printed}
 use Rattle.cip_problem.specs.Log.{Entry}
-use Rattle.cip_leaves.specs.Searched.{IsLeast, IsCovered, IsOfOpen, IsOfParked}
+use Rattle.cip_search.specs.Searched.{IsLeast, IsCovered, IsOfOpen, IsOfParked}
 use Rattle.cip_search.specs.SearchEnds as ends
 use Rattle.cip_search.specs.SearchAnswers.{IsParkedLast}
 use Rattle.cip_solve.specs.Mark.{Mark}
-use Rattle.cip_answers.specs.Figures.{Status, Infeasible, Unbounded, NoMemory, Figures}
+use Rattle.cip_search.specs.Figures.{Status, Infeasible, Unbounded, NoMemory, Figures}
 use Rattle.cip_search.specs.Headline.{cost_of_printed}
 use Rattle.cip_search.specs.Printed.{figures_of}
 use Rattle.cip_report.specs.declared.figures.Ended.TheVariants.{NoMemory as LacksMemory}
@@ -23,7 +23,7 @@ use Rattle.cip_solve.specs.Kits.{Stock, less_off}
 use Rattle.cip_solve.specs.KitsServed.{is_alone, IsLeftAlone, IsKitAfter}
 use Rattle.cip_solve.specs.Solved.{IsShownBeside, IsSolvedBy}
 use Rattle.cip_solve.specs.declared.logs.Log.{Log}
-use Rattle.cip_tasks.specs.Jobs.{Limits}
+use Rattle.cip_input.specs.Jobs.{Limits}
 use Rattle.cip_main.specs.Answering.{Telling, AddsLog, AddsNone, Answers}
 
 -- ---- the marks of a log

@@ -3,7 +3,7 @@ ghost use Rattle.std.specs.Prelude.{◌≡◌, length};
 ghost use Rattle.cip_problem.specs.WellFormed.{columns};
 ghost use Rattle.cip_model.specs.Verdicts.{verdict_of};
 ghost use Rattle.cip_model.specs.Meaning.{VerdictHolds};
-ghost use Rattle.cip_answers.specs.Checks as texts;
+ghost use Rattle.cip_search.specs.Checks as texts;
 ghost use Rattle.cip_main.specs.Checking.{checked};
 ghost use Rattle.cip_main.specs.Saying.{Says};
 

@@ -1,15 +1,15 @@
 //! The whole way from the words and the store to the sink.
-ghost use Rattle.cip_tasks.specs.Jobs.{job_of, job_for};
-ghost use Rattle.cip_tasks.specs.Plain.{plain_text, plain_status};
-ghost use Rattle.cip_tasks.specs.Tasks.{labels_of};
+ghost use Rattle.cip_input.specs.Jobs.{job_of, job_for};
+ghost use Rattle.cip_input.specs.Plain.{plain_text, plain_status};
+ghost use Rattle.cip_input.specs.Tasks.{labels_of};
 ghost use Rattle.cip_main.specs.Kits.{stock_of, IsFew};
 ghost use Rattle.cip_main.specs.Saying.{Says};
 ghost use Rattle.cip_main.specs.Running.{Runs, call_of};
 
 use crate::{Drawn, Log, check_and_report, solve_and_report, solve_drawn};
+use cip_input::{Plain, Task, Words, read_task};
 use cip_io::{Failed, Sink, Store};
 use cip_plugin::{AnyPlugin, Kit, Tells};
-use cip_tasks::{Plain, Task, Words, read_task};
 use std::alloc::Global;
 
 /// Writes an answer without figures; its status, or 5 where the sink failed.

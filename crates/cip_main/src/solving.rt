@@ -1,11 +1,11 @@
 //! Solving a program and reporting.
 ghost use Rattle.std.specs.Prelude.{◌≡◌, ◌<◌, OnOk, OnErr};
 ghost use Rattle.cip_input.specs.LimitedModels.{IsLimited};
-ghost use Rattle.cip_answers.specs.Figures.{exit_status, names_of};
-ghost use Rattle.cip_answers.specs.TraceTexts.{traced_text};
-ghost use Rattle.cip_answers.specs.SelfTexts.{self_text};
-ghost use Rattle.cip_tasks.specs.Jobs.{usual_limits};
-ghost use Rattle.cip_tasks.specs.WordsRead.{limits_of};
+ghost use Rattle.cip_search.specs.Figures.{exit_status, names_of};
+ghost use Rattle.cip_search.specs.TraceTexts.{traced_text};
+ghost use Rattle.cip_search.specs.SelfTexts.{self_text};
+ghost use Rattle.cip_input.specs.Jobs.{usual_limits};
+ghost use Rattle.cip_input.specs.WordsRead.{limits_of};
 ghost use Rattle.cip_report.specs.Answers.{figures_of, AnswerFits};
 ghost use Rattle.cip_report.specs.Drawn.{drawn_of};
 ghost use Rattle.cip_report.specs.Traces.{kept_lines};
@@ -14,12 +14,12 @@ ghost use Rattle.cip_main.specs.Answering.{self_told};
 ghost use Rattle.cip_main.specs.Saying.{Says};
 ghost use Rattle.cip_main.specs.Work.{Searched, Works, kit_of};
 
+use cip_input::{Limits, USUAL_NODES};
 use cip_io::{Failed, Sink};
 use cip_model::Program;
 use cip_plugin::{AnyPlugin, Kit, Tells};
 use cip_report::{Answer, Drawn, report, report_self};
 use cip_solve::{Log, Options, set_aside, solve, unsearched};
-use cip_tasks::{Limits, USUAL_NODES};
 use std::alloc::{AllocError, Global};
 
 /// Sets those plugins of a kit aside that are off, unless no plugin is asked. `Err` comes where memory was refused:

@@ -7,7 +7,7 @@ use Rattle.cip_rational.specs.Sums.{dot}
 use Rattle.cip_rational.proofs.Rational.Ring.{zero-+ℚ, zero-*ℚ}
 use Rattle.cip_problem.proofs.Points.AtPlaces.{IsInBox-long}
 use Rattle.cip_problem.specs.WellFormed.{columns}
-use Rattle.cip_linear.specs.LinearProgram.{LinearProgram}
+use Rattle.cip_problem.specs.LinearProgram.{LinearProgram}
 use Rattle.cip_bland.specs.EndAnswers as list
 use Rattle.cip_bland.specs.EndAnswers.{Answer, answer}
 use Rattle.cip_bland.specs.Statements.{IsRight}

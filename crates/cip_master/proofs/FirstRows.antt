@@ -11,8 +11,8 @@ use Rattle.cip_rational.proofs.Rational.Ring.{+ℚ-zero, zero-*ℚ, one-*ℚ}
 use Rattle.cip_problem.specs.Program.{Term, Sides, Row, Program}
 use Rattle.cip_problem.specs.Activity.{activity, StandsBelow}
 use Rattle.cip_problem.specs.WellFormed.{columns, IsWellFormed}
-use Rattle.cip_linear.specs.Aggregate.{Part, table, combined}
-use Rattle.cip_linear.proofs.Aggregates.{length-table, parts_form}
+use Rattle.cip_problem.specs.Aggregate.{Part, table, combined}
+use Rattle.cip_problem.proofs.Aggregates.{length-table, parts_form}
 use Rattle.cip_pricing.specs.Decomposition.{Owner, same_owner, picked}
 use Rattle.cip_pricing.proofs.Picked.{same_owner-true}
 use Rattle.cip_pricing.specs.MasterPrograms.{IsMasterRow, AreSumRows}

@@ -3,7 +3,7 @@ use Rattle.std.proofs.Common.{◌≡◌, ℕ, ◌-◌, List, ◌++◌, length, m
 use Rattle.std.proofs.lemmas.List.{length-append, length-map, take-append-le, take_all, drop_at}
 use Rattle.cip_rational.specs.Rational.{ℚ}
 use Rattle.cip_rational.specs.Sums.{dot}
-use Rattle.cip_linear.specs.LinearProgram.{IsPoint}
+use Rattle.cip_problem.specs.LinearProgram.{IsPoint}
 use Rattle.cip_pricing.specs.Mixtures.{IsMixture, MeetsMaster}
 use Rattle.cip_pricing.specs.MasterForms.{mixed}
 use Rattle.cip_pricing.specs.MasterStatements.{ComesToMixture}

@@ -6,7 +6,7 @@ use Rattle.cip_frac.specs.declared.operations.Wide.{Wide as Overflow}
 use Rattle.cip_frac.specs.Outcomes.{dot_from}
 use Rattle.cip_problem.specs.Program.{Sides, Row, Program, no_row}
 use Rattle.cip_problem.specs.Activity.{StandsBelow}
-use Rattle.cip_linear.specs.LinearProgram.{LinearProgram}
+use Rattle.cip_problem.specs.LinearProgram.{LinearProgram}
 use Rattle.cip_pricing.specs.Decomposition.{Owner, picked, IsBlockPoint, master_rows}
 use Rattle.cip_pricing.specs.MasterForms.{master_form, master_box}
 use Rattle.cip_pricing.specs.MasterPrograms.{IsMasterRow, AreSumRows}

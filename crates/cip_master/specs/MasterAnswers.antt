@@ -4,7 +4,7 @@ use Rattle.cip_rational.specs.Rational.{ℚ, ◌+ℚ◌, zeroℚ, ◌<ℚ◌}
 use Rattle.cip_rational.specs.Range.{sum_overflows}
 use Rattle.cip_problem.specs.Points.{cost_of}
 use Rattle.cip_problem.specs.WellFormed.{columns}
-use Rattle.cip_linear.specs.LinearProgram.{LinearProgram}
+use Rattle.cip_problem.specs.LinearProgram.{LinearProgram}
 use Rattle.cip_bland.specs.EndAnswers.{answer, Unbounded, OutOfRange, LimitReached}
 use Rattle.cip_bland.specs.Statements.{IsRight}
 use Rattle.cip_bland.specs.declared.moves.Move.{Move}

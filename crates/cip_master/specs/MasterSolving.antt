@@ -1,6 +1,6 @@
 -- What is said of an answer on the linear program of the master, by whichever moves it was found.
 use Rattle.std.specs.Prelude.{◌≡◌, ℕ, List, ◌++◌}
-use Rattle.cip_linear.specs.LinearProgram.{LinearProgram}
+use Rattle.cip_problem.specs.LinearProgram.{LinearProgram}
 use Rattle.cip_bland.specs.EndAnswers as list
 use Rattle.cip_bland.specs.EndAnswers.{answer}
 use Rattle.cip_bland.specs.Statements.{IsRight}

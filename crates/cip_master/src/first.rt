@@ -1,12 +1,11 @@
 //! The master program without points.
 ghost use Rattle.std.specs.Prelude.{◌≡◌, ◌<◌, ◌++◌, [], length, map, replicate, Some, None, All, IfOk, OnOk, slice_index, slice_index_or};
-ghost use Rattle.cip_rational.specs.Rational.{oneℚ};
 ghost use Rattle.cip_problem.specs.Program.{Term, Row, no_row};
 ghost use Rattle.cip_problem.specs.Activity.{StandsBelow};
 ghost use Rattle.cip_problem.specs.WellFormed.{columns};
 ghost use Rattle.cip_lagrange.specs.Numbers.{found};
 ghost use Rattle.cip_lagrange.specs.Decompositions.{IsDecompositionOf};
-ghost use Rattle.cip_master.specs.BlockSums.{free_term, free_terms, free_row};
+ghost use Rattle.cip_master.specs.BlockSums.{free_term, free_row};
 ghost use Rattle.cip_master.specs.FirstRows.{sum_row};
 ghost use Rattle.cip_master.specs.KeptMasters.{IsMasterOf};
 

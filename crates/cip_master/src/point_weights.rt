@@ -1,6 +1,6 @@
 //! The weight of one more point in the rows of the master program.
 ghost use Rattle.std.specs.Prelude.{◌≡◌, ◌<◌, ◌++◌, ◌∷◌, [], length, Ok, Some, None, OnOk, MatchResult, slice_set, slice_index_or};
-ghost use Rattle.cip_rational.specs.Rational.{zeroℚ, oneℚ};
+ghost use Rattle.cip_rational.specs.Rational.{oneℚ};
 ghost use Rattle.cip_problem.specs.Program.{no_row};
 ghost use Rattle.cip_problem.specs.Activity.{StandsBelow};
 ghost use Rattle.cip_pricing.specs.MasterForms.{weight_sides};

@@ -9,8 +9,8 @@ use Rattle.cip_problem.specs.Program.{Program}
 use Rattle.cip_problem.specs.Activity.{activity}
 use Rattle.cip_problem.specs.Points.{cost_of}
 use Rattle.cip_problem.specs.WellFormed.{IsWellFormed, columns}
-use Rattle.cip_linear.specs.LinearProgram.{StaysBetween}
-use Rattle.cip_linear.specs.Falling.{FallsWithoutEnd}
+use Rattle.cip_problem.specs.LinearProgram.{StaysBetween}
+use Rattle.cip_problem.specs.Falling.{FallsWithoutEnd}
 use Rattle.cip_frac.specs.Outcomes.{dot_from}
 use Rattle.cip_model.specs.declared.verdicts.Place.{Place}
 use Rattle.cip_model.specs.declared.verdicts.Place.TheVariants.{Row as AtRow, Cost}

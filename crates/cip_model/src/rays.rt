@@ -8,7 +8,7 @@ ghost use Rattle.cip_frac.specs.Outcomes.{dot_from};
 ghost use Rattle.cip_lin.specs.RowSums.{activity_from};
 ghost use Rattle.cip_model.specs.RayTests as tests;
 ghost use Rattle.cip_model.specs.RayTests.{stays, all_stay, all_still, row_stays, rows_stay, cost_falls};
-ghost use Rattle.cip_linear.specs.Falling.{FallsWithoutEnd};
+ghost use Rattle.cip_problem.specs.Falling.{FallsWithoutEnd};
 ghost use Rattle.cip_model.specs.Rays.{IsShownRay, ShownRaysFall};
 
 use crate::checks::cost;

@@ -6,14 +6,14 @@ use Rattle.std.specs.List.{list_all, list_any}
 use Rattle.std.proofs.lemmas.List.{get_or-set_other}
 use Rattle.std.proofs.lemmas.Bool.{and_from, and_parts, lt-ltb, ltb-true, ltb-false, eq-eqb}
 use Rattle.cip_problem.specs.Limits.{most_columns, most_entries}
-use Rattle.cip_mps_rules.specs.MpsWords.{number_in, is_in}
-use Rattle.cip_mps_rules.specs.MpsSayings.{Value}
-use Rattle.cip_mps_rules.specs.MpsRules.{least, has_twins, is_before_last}
-use Rattle.cip_mps_rules.proofs.Quiet.{kept as passes, left_false, right_false}
-use Rattle.cip_mps_rules.proofs.MpsNames.{same_bytes, number_same}
-use Rattle.cip_mps_rules.specs.MpsState.{Held, RowRead, State, no_row, item_at, row_at}
-use Rattle.cip_mps_rules.specs.MpsSteps.{changed, holds, number_or_next}
-use Rattle.cip_mps_rules.specs.MpsSoundState.{held_below}
+use Rattle.cip_text_rules.specs.MpsWords.{number_in, is_in}
+use Rattle.cip_text_rules.specs.MpsSayings.{Value}
+use Rattle.cip_text_rules.specs.MpsRules.{least, has_twins, is_before_last}
+use Rattle.cip_text_rules.proofs.Quiet.{kept as passes, left_false, right_false}
+use Rattle.cip_text_rules.proofs.MpsNames.{same_bytes, number_same}
+use Rattle.cip_text_rules.specs.MpsState.{Held, RowRead, State, no_row, item_at, row_at}
+use Rattle.cip_text_rules.specs.MpsSteps.{changed, holds, number_or_next}
+use Rattle.cip_text_rules.specs.MpsSoundState.{held_below}
 use Rattle.cip_mps_lines.specs.MpsLines.{second_in}
 use Rattle.cip_mps_lines.specs.declared.line.Pair.{Pair}
 use Rattle.cip_mps.specs.FoundRows.{second_number}

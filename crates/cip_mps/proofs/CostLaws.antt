@@ -4,8 +4,8 @@ use Rattle.std.specs.Prelude.{nat_lt, nat_le, slice_index_or, length}
 use Rattle.std.specs.List.{list_all}
 use Rattle.std.proofs.lemmas.Bool.{and_from, and_parts, ltb-true, leb-true, le-leb, ne_eqb, eqb-true, eqb-false}
 use Rattle.cip_rational.specs.Rational.{ℚ, zeroℚ}
-use Rattle.cip_mps_rules.specs.MpsState.{Held, held_value, minimized_by, costs_from}
-use Rattle.cip_mps_rules.specs.MpsSoundState.{rises}
+use Rattle.cip_text_rules.specs.MpsState.{Held, held_value, minimized_by, costs_from}
+use Rattle.cip_text_rules.specs.MpsSoundState.{rises}
 use Rattle.cip_mps.specs.Costs.{held_behind}
 
 -- all numbers stand on a column or behind it

@@ -7,8 +7,8 @@ use Rattle.std.proofs.lemmas.List.Folds.{list_all-append}
 use Rattle.std.proofs.lemmas.Bool.{and_from, and_parts, eq-eqb, eqb-true, eqb-false}
 use Rattle.cip_problem.specs.Program.{Term, Row}
 use Rattle.cip_problem.specs.Program as problem
-use Rattle.cip_mps_rules.specs.MpsState.{Held, RowRead, is_zero_value, terms_from}
-use Rattle.cip_mps_rules.specs.MpsSoundState.{rises}
+use Rattle.cip_text_rules.specs.MpsState.{Held, RowRead, is_zero_value, terms_from}
+use Rattle.cip_text_rules.specs.MpsSoundState.{rises}
 use Rattle.cip_mps.specs.Entries.{Entry, numbers_of, AreRising}
 use Rattle.cip_mps.specs.GroupedRows.{with_terms, put_number, put_numbers, follow, empty_row}
 

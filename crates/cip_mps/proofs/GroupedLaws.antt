@@ -6,8 +6,8 @@ use Rattle.std.proofs.lemmas.List.{append-nil}
 use Rattle.std.proofs.lemmas.Bool.{ltb-true, ne_eqb, eq-eqb, eqb-false}
 use Rattle.cip_problem.specs.Program.{Term, Row}
 use Rattle.cip_problem.specs.Program as problem
-use Rattle.cip_mps_rules.specs.MpsProgram.{is_free, row_with}
-use Rattle.cip_mps_rules.specs.MpsState.{Held, RowRead, is_zero_value, is_kept, terms_from, finished_row, sides_with, right_side_of}
+use Rattle.cip_text_rules.specs.MpsProgram.{is_free, row_with}
+use Rattle.cip_text_rules.specs.MpsState.{Held, RowRead, is_zero_value, is_kept, terms_from, finished_row, sides_with, right_side_of}
 use Rattle.cip_mps.specs.Entries.{Entry, numbers_of}
 use Rattle.cip_mps.specs.Tables.{map_at, numbers_at, with_numbers, rows_of}
 use Rattle.cip_mps.specs.GroupedRows.{with_terms, put_number, put_numbers, empty_row, kept_rows}

@@ -3,15 +3,15 @@ use Rattle.std.proofs.Common.{◌≡◌, ℕ, ◌<◌, ◌≤◌, Bool, true, fa
 use Rattle.std.specs.Prelude.{nat_lt, nat_le, fold, IfSome}
 use Rattle.std.specs.List.{list_all}
 use Rattle.std.proofs.lemmas.Bool.{ltb-true, leb-true}
-use Rattle.cip_line_texts.specs.Lines.{Record, record_of}
-use Rattle.cip_line_texts.specs.LineTexts.{records_in}
-use Rattle.cip_line_texts.specs.LineEnds.{Stage, Open, Ended}
-use Rattle.cip_line_texts.specs.LineStream.{Going, progress_at, item_read, line_read}
+use Rattle.cip_text_rules.specs.Lines.{Record, record_of}
+use Rattle.cip_text_rules.specs.LineTexts.{records_in}
+use Rattle.cip_text_rules.specs.LineEnds.{Stage, Open, Ended}
+use Rattle.cip_text_rules.specs.LineStream.{Going, progress_at, item_read, line_read}
 use Rattle.cip_text.specs.PieceStands.{progress_after}
-use Rattle.cip_mps_rules.specs.MpsSayings.{Saying}
-use Rattle.cip_mps_rules.specs.MpsRules.{Rule, least}
-use Rattle.cip_mps_rules.specs.MpsState.{State}
-use Rattle.cip_mps_rules.specs.MpsSteps.{tests, said_at, mps_steps}
+use Rattle.cip_text_rules.specs.MpsSayings.{Saying}
+use Rattle.cip_text_rules.specs.MpsRules.{Rule, least}
+use Rattle.cip_text_rules.specs.MpsState.{State}
+use Rattle.cip_text_rules.specs.MpsSteps.{tests, said_at, mps_steps}
 use Rattle.cip_mps.specs.LinesRead.{IsTaken}
 
 -- ---- kinds

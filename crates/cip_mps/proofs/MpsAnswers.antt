@@ -5,7 +5,7 @@ use Rattle.cip_text.specs.TextFaults.{IsToldBy}
 use Rattle.cip_text.specs.PieceReaders.{IsFed}
 use Rattle.cip_text.specs.declared.text_faults.ReadFault.{ReadFault}
 use Rattle.cip_text.specs.declared.text_faults.ReadFault.TheVariants.{Faulty, NoMemory}
-use Rattle.cip_mps_rules.specs.MpsOutcome.{mps_reading}
+use Rattle.cip_text_rules.specs.MpsOutcome.{mps_reading}
 use Rattle.cip_mps.specs.declared.kinds.MpsKind.{MpsKind}
 use Rattle.cip_mps.specs.MpsKindTexts.{kind_number}
 use Rattle.cip_mps.specs.MpsReaders.{IsFaultOf}

@@ -7,8 +7,8 @@ use Rattle.std.proofs.lemmas.List.Folds.{list_all-append}
 use Rattle.std.proofs.lemmas.Bool.{and_from, and_parts, ltb-true, ne_eqb, eq-eqb, eqb-true}
 use Rattle.cip_rational.specs.Rational.{ℚ, IsWhole, integer, numerator}
 use Rattle.cip_rational.proofs.Rational.Whole.{whole_is}
-use Rattle.cip_mps_rules.specs.MpsState.{Held}
-use Rattle.cip_mps_rules.specs.MpsSoundState.{held_below, rises}
+use Rattle.cip_text_rules.specs.MpsState.{Held}
+use Rattle.cip_text_rules.specs.MpsSoundState.{held_below, rises}
 use Rattle.cip_mps.specs.Entries.{Entry, numbers_of, AreRising}
 use Rattle.cip_mps.specs.GroupEntries.{near_entry, far_entry, entries_of}
 use Rattle.cip_mps.specs.declared.groups.Near.{Near}

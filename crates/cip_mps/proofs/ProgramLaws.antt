@@ -11,14 +11,14 @@ use Rattle.cip_problem.specs.Limits.{most_rows, most_columns}
 use Rattle.cip_problem.specs.Program.{Term, Sides, Row, Choice, Program}
 use Rattle.cip_problem.specs.Activity.{StandsBelow}
 use Rattle.cip_problem.specs.WellFormed.{IsWellFormed}
-use Rattle.cip_mps_rules.specs.MpsWords.{next, number_in, is_in}
-use Rattle.cip_mps_rules.specs.MpsBounds.{Bounded, settled, is_semi, column_sides, choice_of, choices_of}
-use Rattle.cip_mps_rules.specs.MpsProgram.{is_free}
-use Rattle.cip_mps_rules.proofs.Quiet.{left_false, right_false, or_false}
-use Rattle.cip_mps_rules.specs.MpsState.{Held, RowRead, State, no_row, is_zero_value, is_kept, kept_names, objective_row, right_side_of, minimized_by, costs_from, terms_from, finished_row, program_from}
-use Rattle.cip_mps_rules.specs.MpsSoundState.{held_below}
-use Rattle.cip_mps_rules.proofs.SemiColumns.{choices_formed}
-use Rattle.cip_mps_rules.proofs.LookUps.{is_in-cons}
+use Rattle.cip_text_rules.specs.MpsWords.{next, number_in, is_in}
+use Rattle.cip_text_rules.specs.MpsBounds.{Bounded, settled, is_semi, column_sides, choice_of, choices_of}
+use Rattle.cip_text_rules.specs.MpsProgram.{is_free}
+use Rattle.cip_text_rules.proofs.Quiet.{left_false, right_false, or_false}
+use Rattle.cip_text_rules.specs.MpsState.{Held, RowRead, State, no_row, is_zero_value, is_kept, kept_names, objective_row, right_side_of, minimized_by, costs_from, terms_from, finished_row, program_from}
+use Rattle.cip_text_rules.specs.MpsSoundState.{held_below}
+use Rattle.cip_text_rules.proofs.SemiColumns.{choices_formed}
+use Rattle.cip_text_rules.proofs.LookUps.{is_in-cons}
 use Rattle.cip_mps.proofs.ListLaws.{list_any_map}
 
 -- ---- the objective

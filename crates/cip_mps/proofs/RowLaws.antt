@@ -5,10 +5,10 @@ use Rattle.std.specs.List.{filter, list_all}
 use Rattle.std.proofs.lemmas.Bool.{and_from, and_parts, lt-ltb, ltb-true, leb-false}
 use Rattle.std.proofs.lemmas.List.{length_push}
 use Rattle.cip_rational.specs.Rational.{ℚ}
-use Rattle.cip_mps_rules.specs.MpsState.{RowRead, no_row, is_kept}
-use Rattle.cip_mps_rules.specs.MpsProgram.{is_free}
-use Rattle.cip_mps_rules.specs.MpsSteps.{changed, with_held}
-use Rattle.cip_mps_rules.specs.MpsSoundState.{held_below}
+use Rattle.cip_text_rules.specs.MpsState.{RowRead, no_row, is_kept}
+use Rattle.cip_text_rules.specs.MpsProgram.{is_free}
+use Rattle.cip_text_rules.specs.MpsSteps.{changed, with_held}
+use Rattle.cip_text_rules.specs.MpsSoundState.{held_below}
 use Rattle.cip_mps.proofs.Numbers.{all_push}
 
 -- ---- rows of a draft

@@ -6,8 +6,8 @@ use Rattle.std.proofs.lemmas.Bool.{and_parts}
 use Rattle.cip_rational.specs.Rational.{ℚ, zeroℚ, lt_test}
 use Rattle.cip_rational.proofs.Rational.Order.{≤ℚ_antisymm, le_of_lt_test}
 use Rattle.cip_problem.specs.Program.{Row, no_row}
-use Rattle.cip_mps_rules.specs.MpsState.{Held, is_zero_value}
-use Rattle.cip_mps_rules.proofs.Told.{zero_is_zero}
+use Rattle.cip_text_rules.specs.MpsState.{Held, is_zero_value}
+use Rattle.cip_text_rules.proofs.Told.{zero_is_zero}
 use Rattle.cip_mps.specs.Entries.{Entry, numbers_of}
 use Rattle.cip_mps.specs.GroupedRows.{follow, put_number, put_numbers}
 

@@ -5,10 +5,10 @@ use Rattle.std.proofs.lemmas.List.{get_or-set_same, get_or-set_other, length-app
 use Rattle.std.proofs.Math.ListN.{length-set}
 use Rattle.std.proofs.lemmas.Bool.{and_from, and_parts, lt-ltb, ltb-true, ltb-false, ne_eqb, eqb-true, eqb-false}
 use Rattle.cip_rational.specs.Rational.{ℚ}
-use Rattle.cip_mps_rules.specs.MpsWords.{RowKind}
-use Rattle.cip_mps_rules.specs.MpsState.{Held, RowRead, no_row}
-use Rattle.cip_mps_rules.specs.MpsSteps.{changed, new_row, with_held}
-use Rattle.cip_mps_rules.specs.MpsSoundState.{held_below}
+use Rattle.cip_text_rules.specs.MpsWords.{RowKind}
+use Rattle.cip_text_rules.specs.MpsState.{Held, RowRead, no_row}
+use Rattle.cip_text_rules.specs.MpsSteps.{changed, new_row, with_held}
+use Rattle.cip_text_rules.specs.MpsSoundState.{held_below}
 use Rattle.cip_mps.specs.Entries.{Entry, numbers_of}
 use Rattle.cip_mps.specs.Tables.{numbers_at, with_numbers, rows_of, IsSoundTable}
 use Rattle.cip_mps.proofs.Places.{at_length, at_same, at_index, at_change, at_other, at_push, at_take}

@@ -5,13 +5,13 @@ use Rattle.std.specs.List.{filter, list_any}
 use Rattle.std.proofs.lemmas.List.{append-nil}
 use Rattle.cip_problem.specs.Limits.{most_columns, most_entries, longest_name}
 use Rattle.cip_rational.specs.Numeral.{Numeral}
-use Rattle.cip_mps_rules.specs.MpsWords.{Part, NoPart, Title, Sense, Rows, Columns, RightSides, Ranges, Bounds, End, RowKind, BoundKind, sense_of, is_zero, is_no_number, is_too_fine, number_in, is_in}
-use Rattle.cip_mps_rules.specs.MpsSayings.{LinePlace, Value, Saying, UnknownSection, Opens, Misplaced, Miscounted, Skipped, SenseLine, RowLine, ColumnLine, Marker, BadMarker, RightSideLine, RangeLine, BoundLine, BadBound, no_place, place_after}
-use Rattle.cip_mps_rules.specs.MpsFacts.{coefficients_in, senses_in, sense_if}
-use Rattle.cip_mps_rules.specs.MpsRules.{Rule, rule, least, entry_count, has_twins, is_before_last}
-use Rattle.cip_mps_rules.specs.MpsState.{State, row_at, first_of}
-use Rattle.cip_mps_rules.specs.MpsSteps.{or_else, holds, put, taken, tests}
-use Rattle.cip_mps_rules.specs.MpsLineTests.{column_tests, numbers_of, has_huge, has_unknown}
+use Rattle.cip_text_rules.specs.MpsWords.{Part, NoPart, Title, Sense, Rows, Columns, RightSides, Ranges, Bounds, End, RowKind, BoundKind, sense_of, is_zero, is_no_number, is_too_fine, number_in, is_in}
+use Rattle.cip_text_rules.specs.MpsSayings.{LinePlace, Value, Saying, UnknownSection, Opens, Misplaced, Miscounted, Skipped, SenseLine, RowLine, ColumnLine, Marker, BadMarker, RightSideLine, RangeLine, BoundLine, BadBound, no_place, place_after}
+use Rattle.cip_text_rules.specs.MpsFacts.{coefficients_in, senses_in, sense_if}
+use Rattle.cip_text_rules.specs.MpsRules.{Rule, rule, least, entry_count, has_twins, is_before_last}
+use Rattle.cip_text_rules.specs.MpsState.{State, row_at, first_of}
+use Rattle.cip_text_rules.specs.MpsSteps.{or_else, holds, put, taken, tests}
+use Rattle.cip_text_rules.specs.MpsLineTests.{column_tests, numbers_of, has_huge, has_unknown}
 use Rattle.cip_mps.specs.DraftLines.{entries_in, column_rules, sense_said_on}
 use Rattle.cip_mps.specs.DraftStates.{at_place}
 use Rattle.cip_mps.specs.DraftSteps.{PlacesJoin, IsStep}

@@ -4,13 +4,13 @@ use Rattle.std.specs.Str.{bytes_eq}
 use Rattle.std.specs.Option.{option_map}
 use Rattle.std.specs.List.{list_any}
 use Rattle.cip_rational.specs.Rational.{ℚ}
-use Rattle.cip_mps_rules.specs.MpsWords.{number_in}
-use Rattle.cip_mps_rules.specs.MpsSayings.{Value}
-use Rattle.cip_mps_rules.specs.MpsProgram.{number}
-use Rattle.cip_mps_rules.proofs.Quiet.{left_false, right_false}
-use Rattle.cip_mps_rules.proofs.MpsNames.{bytes_self, bytes_flip}
-use Rattle.cip_mps_rules.specs.MpsState.{RowRead, no_row, item_at, value_for}
-use Rattle.cip_mps_rules.specs.MpsSteps.{changed}
+use Rattle.cip_text_rules.specs.MpsWords.{number_in}
+use Rattle.cip_text_rules.specs.MpsSayings.{Value}
+use Rattle.cip_text_rules.specs.MpsProgram.{number}
+use Rattle.cip_text_rules.proofs.Quiet.{left_false, right_false}
+use Rattle.cip_text_rules.proofs.MpsNames.{bytes_self, bytes_flip}
+use Rattle.cip_text_rules.specs.MpsState.{RowRead, no_row, item_at, value_for}
+use Rattle.cip_text_rules.specs.MpsSteps.{changed}
 use Rattle.cip_mps.proofs.ColumnLaws.{other_number, other_row}
 
 second_value : (v w : Value) → bytes_eq v.row w.row ≡ false → value_for (v ∷ w ∷ []) w.row ≡ Some (number w.number)

@@ -2,7 +2,7 @@
 use Rattle.std.specs.Prelude.{Bool, Option, refl}
 use Rattle.std.specs.Coded.{Coded, code_by, coded×, coded_bool, coded_option}
 use Rattle.cip_rational.specs.Rational.{ℚ, coded_ℚ}
-use Rattle.cip_mps_rules.specs.MpsBounds.{Bounded}
+use Rattle.cip_text_rules.specs.MpsBounds.{Bounded}
 
 -- all fields, in pairs
 abbrev pub bounded_code : Coded Bounded

@@ -1,8 +1,8 @@
 -- What a program takes of the names and numbers of a draft.
 use Rattle.std.specs.Prelude.{◌≡◌, if◌then◌else◌, [], length, map}
 use Rattle.std.specs.List.{list_any}
-use Rattle.cip_mps_rules.specs.MpsBounds.{settled, is_semi, column_sides, choice_of}
-use Rattle.cip_mps_rules.specs.MpsState.{objective_row, kept_names, costs_from}
+use Rattle.cip_text_rules.specs.MpsBounds.{settled, is_semi, column_sides, choice_of}
+use Rattle.cip_text_rules.specs.MpsState.{objective_row, kept_names, costs_from}
 use Rattle.cip_mps.specs.declared.draft.Draft.{Draft}
 use Rattle.cip_mps.specs.declared.program.Copied.{Copied}
 

@@ -5,12 +5,12 @@
 use Rattle.std.specs.Prelude.{ℕ, ◌+◌, ◌&&◌, ◌||◌, Bool, true, not, nat_lt, nat_le, List, [], ◌∷◌, length, Option, None, Some}
 use Rattle.std.specs.List.{filter, list_any}
 use Rattle.cip_problem.specs.Limits.{most_columns, most_entries, longest_name}
-use Rattle.cip_mps_rules.specs.MpsWords.{Part, Sense, End, RowKind, sense_of, number_in, is_in, is_zero, is_no_number, is_too_fine}
-use Rattle.cip_mps_rules.specs.MpsSayings.{Value}
-use Rattle.cip_mps_rules.specs.MpsRules.{Rule, rule, has_twins, is_before_last}
-use Rattle.cip_mps_rules.specs.MpsState.{State, row_at}
-use Rattle.cip_mps_rules.specs.MpsSteps.{holds}
-use Rattle.cip_mps_rules.specs.MpsLineTests.{opening_tests, end_tests, row_tests, numbers_of, has_huge, has_unknown}
+use Rattle.cip_text_rules.specs.MpsWords.{Part, Sense, End, RowKind, sense_of, number_in, is_in, is_zero, is_no_number, is_too_fine}
+use Rattle.cip_text_rules.specs.MpsSayings.{Value}
+use Rattle.cip_text_rules.specs.MpsRules.{Rule, rule, has_twins, is_before_last}
+use Rattle.cip_text_rules.specs.MpsState.{State, row_at}
+use Rattle.cip_text_rules.specs.MpsSteps.{holds}
+use Rattle.cip_text_rules.specs.MpsLineTests.{opening_tests, end_tests, row_tests, numbers_of, has_huge, has_unknown}
 
 -- a line of ROWS, whose type may be none of the four
 abbrev pub row_line_tests : State → Option RowKind → (name : List ℕ) → List Rule

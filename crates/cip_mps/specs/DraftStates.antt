@@ -3,8 +3,8 @@
 --     at_place place state      the same state at another place
 use Rattle.std.specs.Prelude.{map}
 use Rattle.cip_mps_lines.specs.MpsKinds.{part_of}
-use Rattle.cip_mps_rules.specs.MpsSayings.{LinePlace, no_place}
-use Rattle.cip_mps_rules.specs.MpsState.{State}
+use Rattle.cip_text_rules.specs.MpsSayings.{LinePlace, no_place}
+use Rattle.cip_text_rules.specs.MpsState.{State}
 use Rattle.cip_mps.specs.declared.draft.Draft.{Draft}
 
 -- what was kept of the lines so far

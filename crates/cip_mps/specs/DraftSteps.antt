@@ -2,10 +2,10 @@
 --     IsStep old new saying fault      the fault of a line, and the state behind it
 --     PlacesJoin      how a draft and the place of the next line make up the state of a reader
 use Rattle.std.specs.Prelude.{◌≡◌, ℕ, Option, None, Some}
-use Rattle.cip_mps_rules.specs.MpsSayings.{LinePlace, Saying, no_place, place_after}
-use Rattle.cip_mps_rules.specs.MpsRules.{least}
-use Rattle.cip_mps_rules.specs.MpsState.{State}
-use Rattle.cip_mps_rules.specs.MpsSteps.{tests, taken}
+use Rattle.cip_text_rules.specs.MpsSayings.{LinePlace, Saying, no_place, place_after}
+use Rattle.cip_text_rules.specs.MpsRules.{least}
+use Rattle.cip_text_rules.specs.MpsState.{State}
+use Rattle.cip_text_rules.specs.MpsSteps.{tests, taken}
 use Rattle.cip_mps.specs.DraftStates.{at_place}
 
 -- what is kept behind a line: nothing else where it has a fault

@@ -3,9 +3,9 @@
 use Rattle.std.specs.Prelude.{◌≡◌, ℕ, zero, suc, ◌==◌, true, if◌then◌else◌, List, [], ◌∷◌, Option, refl}
 use Rattle.std.specs.Coded.{Coded, code_by, coded×, coded_ℕ, coded_list, coded_option}
 use Rattle.cip_rational.specs.Rational.{ℚ, coded_ℚ}
-use Rattle.cip_mps_rules.specs.MpsWords.{RowKind, Free, AtMost, AtLeast, EqualTo}
-use Rattle.cip_mps_rules.specs.MpsState.{Held, RowRead}
-use Rattle.cip_mps_rules.specs.MpsSoundState.{rises}
+use Rattle.cip_text_rules.specs.MpsWords.{RowKind, Free, AtMost, AtLeast, EqualTo}
+use Rattle.cip_text_rules.specs.MpsState.{Held, RowRead}
+use Rattle.cip_text_rules.specs.MpsSoundState.{rises}
 
 -- a number, and its row in the group
 pub record Entry : Type 0 where

@@ -1,6 +1,6 @@
 -- The numbers of the rows that the values of a line name.
 use Rattle.std.specs.Prelude.{◌≡◌, ℕ, ◌<◌, List, length, Option, None, Some, IfSome}
-use Rattle.cip_mps_rules.specs.MpsWords.{number_in}
+use Rattle.cip_text_rules.specs.MpsWords.{number_in}
 use Rattle.cip_mps_lines.specs.declared.line.Pair.{Pair}
 use Rattle.cip_mps_lines.specs.declared.line.Pairs.{Pairs}
 use Rattle.cip_mps.specs.declared.names.RowNumbers.{RowNumbers}

@@ -5,8 +5,8 @@
 use Rattle.std.specs.Prelude.{nat_lt, Bool, true, ◌&&◌, if◌then◌else◌, List, [], ◌∷◌, ◌++◌, None, slice_index_or, slice_set}
 use Rattle.std.specs.List.{list_all}
 use Rattle.cip_problem.specs.Program.{Term, Sides, Row, no_row}
-use Rattle.cip_mps_rules.specs.MpsProgram.{is_free, row_with}
-use Rattle.cip_mps_rules.specs.MpsState.{RowRead, is_kept, sides_with, right_side_of, terms_from}
+use Rattle.cip_text_rules.specs.MpsProgram.{is_free, row_with}
+use Rattle.cip_text_rules.specs.MpsState.{RowRead, is_kept, sides_with, right_side_of, terms_from}
 use Rattle.cip_mps.specs.Entries.{Entry}
 
 -- the sides of a row, open ones where it is of type N

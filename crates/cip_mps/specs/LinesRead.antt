@@ -1,11 +1,11 @@
 -- What the code keeps of the lines that have ended.
 --     stage_of lines      the stage of the text behind them
 use Rattle.std.specs.Prelude.{◌≡◌, ℕ, if◌then◌else◌, Option, None}
-use Rattle.cip_line_texts.specs.LineEnds.{Stage, Open, Ended}
-use Rattle.cip_mps_rules.specs.MpsSayings.{Saying}
-use Rattle.cip_mps_rules.specs.MpsRules.{least, is_end}
-use Rattle.cip_mps_rules.specs.MpsState.{State}
-use Rattle.cip_mps_rules.specs.MpsSteps.{tests, taken}
+use Rattle.cip_text_rules.specs.LineEnds.{Stage, Open, Ended}
+use Rattle.cip_text_rules.specs.MpsSayings.{Saying}
+use Rattle.cip_text_rules.specs.MpsRules.{least, is_end}
+use Rattle.cip_text_rules.specs.MpsState.{State}
+use Rattle.cip_text_rules.specs.MpsSteps.{tests, taken}
 use Rattle.cip_mps.specs.DraftStates.{kept, at_place}
 use Rattle.cip_mps.specs.declared.line_reader.LineReader.{LineReader}
 

@@ -1,10 +1,10 @@
 -- What a text of free MPS comes to, as a reader takes it in pieces.
 use Rattle.std.specs.Prelude.{ℕ, List}
-use Rattle.cip_line_texts.specs.LineStream.{stream_of}
+use Rattle.cip_text_rules.specs.LineStream.{stream_of}
 use Rattle.cip_text.specs.TextFaults.{IsFaultBy}
 use Rattle.cip_text.specs.declared.text_faults.ReadFault.{ReadFault}
-use Rattle.cip_mps_rules.specs.MpsOutcome.{HasFault}
-use Rattle.cip_mps_rules.specs.MpsSteps.{mps_steps}
+use Rattle.cip_text_rules.specs.MpsOutcome.{HasFault}
+use Rattle.cip_text_rules.specs.MpsSteps.{mps_steps}
 use Rattle.cip_mps.specs.declared.kinds.MpsKind.{MpsKind}
 use Rattle.cip_mps.specs.declared.mps_text.MpsText.{MpsText}
 use Rattle.cip_mps.specs.MpsKindTexts.{kind_number}

@@ -1,10 +1,10 @@
 -- A text of free MPS as far as it came.
 --     StandsFor text stream      the code keeps what the plain stream does
-use Rattle.cip_line_texts.specs.LineEnds.{Stage}
-use Rattle.cip_line_texts.specs.LineStream.{Stream}
+use Rattle.cip_text_rules.specs.LineEnds.{Stage}
+use Rattle.cip_text_rules.specs.LineStream.{Stream}
 use Rattle.cip_text.specs.PieceCuts.{Cut, cut_of}
 use Rattle.cip_text.specs.PieceStands.{StandsAt}
-use Rattle.cip_mps_rules.specs.MpsState.{State}
+use Rattle.cip_text_rules.specs.MpsState.{State}
 use Rattle.cip_mps.specs.declared.mps_text.MpsText.{MpsText}
 use Rattle.cip_mps.specs.LinesRead as lines
 

@@ -2,9 +2,9 @@
 --     numbers_at groups number      the numbers of a row
 --     rows_of heads groups      all rows
 use Rattle.std.specs.Prelude.{◌≡◌, ℕ, suc, ◌≤◌, ◌*◌, ◌/◌, ◌%◌, true, false, List, [], ◌∷◌, length, slice_index_or}
-use Rattle.cip_mps_rules.specs.MpsState.{Held, RowRead, right_side_of}
-use Rattle.cip_mps_rules.specs.MpsSteps.{moved_overflows}
-use Rattle.cip_mps_rules.specs.MpsSoundState.{held_below}
+use Rattle.cip_text_rules.specs.MpsState.{Held, RowRead, right_side_of}
+use Rattle.cip_text_rules.specs.MpsSteps.{moved_overflows}
+use Rattle.cip_text_rules.specs.MpsSoundState.{held_below}
 use Rattle.cip_mps.specs.Entries.{Entry, numbers_of}
 
 -- what a function says of each item and its place

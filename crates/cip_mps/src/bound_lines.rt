@@ -2,13 +2,13 @@
 ghost use Rattle.std.specs.Prelude.{◌≡◌, ℕ, ◌<◌, ◌||◌, List, false, vec_len, IfSome};
 ghost use Rattle.cip_rational.specs.Numeral.{Numeral};
 ghost use Rattle.cip_mps_lines.specs.MpsKinds.{bound_kind_in};
-ghost use Rattle.cip_mps_rules.specs.MpsWords.{number_in};
-ghost use Rattle.cip_mps_rules.specs.MpsBounds.{unbounded, with_bound};
-ghost use Rattle.cip_mps_rules.specs.MpsRules as text;
-ghost use Rattle.cip_mps_rules.specs.MpsRules.{least, is_mixed_by};
-ghost use Rattle.cip_mps_rules.specs.MpsState.{item_at};
-ghost use Rattle.cip_mps_rules.specs.MpsSteps.{changed};
-ghost use Rattle.cip_mps_rules.specs.MpsLineTests.{bound_tests};
+ghost use Rattle.cip_text_rules.specs.MpsWords.{number_in};
+ghost use Rattle.cip_text_rules.specs.MpsBounds.{unbounded, with_bound};
+ghost use Rattle.cip_text_rules.specs.MpsRules as text;
+ghost use Rattle.cip_text_rules.specs.MpsRules.{least, is_mixed_by};
+ghost use Rattle.cip_text_rules.specs.MpsState.{item_at};
+ghost use Rattle.cip_text_rules.specs.MpsSteps.{changed};
+ghost use Rattle.cip_text_rules.specs.MpsLineTests.{bound_tests};
 ghost use Rattle.cip_mps.specs.DraftStates.{kept};
 
 use crate::draft::Draft;

@@ -1,8 +1,8 @@
 //! A column as far as it was read.
 ghost use Rattle.std.specs.Prelude.{◌≡◌, true};
-ghost use Rattle.cip_rational.specs.Numeral.{Numeral, value_of};
+ghost use Rattle.cip_rational.specs.Numeral.{Numeral};
 ghost use Rattle.cip_mps_lines.specs.MpsKinds.{bound_kind_in};
-ghost use Rattle.cip_mps_rules.specs.MpsBounds.{unbounded, with_low, with_high, with_semi, with_bound, made_whole, settled, own_sides, lacks_sides, is_mixed, is_semi, column_sides, choice_of};
+ghost use Rattle.cip_text_rules.specs.MpsBounds.{unbounded, with_low, with_high, with_semi, with_bound, made_whole, settled, own_sides, lacks_sides, is_mixed, is_semi, column_sides, choice_of};
 
 use crate::semi_sides::{are_semi_sides, open_sides};
 use cip_frac::Frac;
@@ -23,7 +23,7 @@ pub(crate) struct ColumnDraft {
 }
 
 impl Model for ColumnDraft {
-    ghost use Rattle.cip_mps_rules.specs.MpsBounds.{Bounded};
+    ghost use Rattle.cip_text_rules.specs.MpsBounds.{Bounded};
     ghost use Rattle.cip_mps.specs.ColumnDrafts.{bounded_code};
 
     ghost Value = { Bounded };

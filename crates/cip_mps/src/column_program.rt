@@ -2,9 +2,9 @@
 ghost use Rattle.std.specs.Prelude.{◌≡◌, ◌≤◌, [], true, map, nat_le, IfOk, if◌then◌else◌};
 ghost use Rattle.std.specs.List.{list_all, list_any};
 ghost use Rattle.cip_problem.specs.Limits.{most_columns};
-ghost use Rattle.cip_mps_rules.specs.MpsBounds.{settled, lacks_sides, is_semi, column_sides, choice_of};
-ghost use Rattle.cip_mps_rules.specs.MpsState.{held_value, minimized_by, costs_from};
-ghost use Rattle.cip_mps_rules.specs.MpsSoundState.{rises};
+ghost use Rattle.cip_text_rules.specs.MpsBounds.{settled, lacks_sides, is_semi, column_sides, choice_of};
+ghost use Rattle.cip_text_rules.specs.MpsState.{held_value, minimized_by, costs_from};
+ghost use Rattle.cip_text_rules.specs.MpsSoundState.{rises};
 ghost use Rattle.cip_mps.specs.Costs.{held_behind};
 
 use crate::Held;

@@ -2,12 +2,12 @@
 ghost use Rattle.std.specs.Prelude.{◌≡◌, ◌<◌, ◌≤◌, ◌+◌, ◌&&◌, not, nat_le, true, false, None, is_some, vec_len, IfSome, IfOk, OnOk, length, slice_index_or};
 ghost use Rattle.cip_problem.specs.Limits.{most_columns};
 ghost use Rattle.cip_mps_lines.specs.MpsLines.{values_of};
-ghost use Rattle.cip_mps_rules.specs.MpsWords.{number_in};
-ghost use Rattle.cip_mps_rules.specs.MpsSayings.{ColumnLine};
-ghost use Rattle.cip_mps_rules.specs.MpsRules.{least, has_twins};
-ghost use Rattle.cip_mps_rules.specs.MpsState.{no_row};
-ghost use Rattle.cip_mps_rules.specs.MpsSteps.{changed, with_held, put_values, with_name, with_column, number_or_next, put};
-ghost use Rattle.cip_mps_rules.specs.MpsSoundState.{held_below};
+ghost use Rattle.cip_text_rules.specs.MpsWords.{number_in};
+ghost use Rattle.cip_text_rules.specs.MpsSayings.{ColumnLine};
+ghost use Rattle.cip_text_rules.specs.MpsRules.{least, has_twins};
+ghost use Rattle.cip_text_rules.specs.MpsState.{no_row};
+ghost use Rattle.cip_text_rules.specs.MpsSteps.{changed, with_held, put_values, with_name, with_column, number_or_next, put};
+ghost use Rattle.cip_text_rules.specs.MpsSoundState.{held_below};
 ghost use Rattle.cip_mps.specs.DraftLines.{entries_in, column_rules};
 ghost use Rattle.cip_mps.specs.DraftStates.{kept};
 ghost use Rattle.cip_mps.specs.FoundRows.{AreFound};

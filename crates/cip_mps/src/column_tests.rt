@@ -3,11 +3,11 @@ ghost use Rattle.std.specs.Prelude.{◌≡◌, ◌<◌, ◌+◌, ◌&&◌, not, 
 ghost use Rattle.std.specs.List.{list_any};
 ghost use Rattle.cip_problem.specs.Limits.{most_columns, most_entries};
 ghost use Rattle.cip_mps_lines.specs.MpsLines.{values_of};
-ghost use Rattle.cip_mps_rules.specs.MpsWords.{number_in};
-ghost use Rattle.cip_mps_rules.specs.MpsRules.{least, is_before_last};
-ghost use Rattle.cip_mps_rules.specs.MpsState.{no_row, item_at, row_at};
-ghost use Rattle.cip_mps_rules.specs.MpsSteps.{holds};
-ghost use Rattle.cip_mps_rules.specs.MpsLineTests.{has_unknown};
+ghost use Rattle.cip_text_rules.specs.MpsWords.{number_in};
+ghost use Rattle.cip_text_rules.specs.MpsRules.{least, is_before_last};
+ghost use Rattle.cip_text_rules.specs.MpsState.{no_row, item_at, row_at};
+ghost use Rattle.cip_text_rules.specs.MpsSteps.{holds};
+ghost use Rattle.cip_text_rules.specs.MpsLineTests.{has_unknown};
 ghost use Rattle.cip_mps.specs.DraftLines.{entries_in, column_rules};
 ghost use Rattle.cip_mps.specs.DraftStates.{kept};
 ghost use Rattle.cip_mps.specs.FoundRows.{AreFound};

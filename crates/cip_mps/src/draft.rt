@@ -2,8 +2,8 @@
 ghost use Rattle.std.specs.Prelude.{◌≡◌, ◌≤◌, ℕ, length, vec_len, true};
 ghost use Rattle.std.specs.List.{filter, list_all};
 ghost use Rattle.cip_problem.specs.Limits.{most_rows, most_columns, most_entries};
-ghost use Rattle.cip_mps_rules.specs.MpsState.{is_kept};
-ghost use Rattle.cip_mps_rules.specs.MpsSoundState.{held_below};
+ghost use Rattle.cip_text_rules.specs.MpsState.{is_kept};
+ghost use Rattle.cip_text_rules.specs.MpsSoundState.{held_below};
 
 use crate::RowTable;
 use crate::column_draft::ColumnDraft;

@@ -1,7 +1,7 @@
 //! The numbers of a group of rows.
 ghost use Rattle.std.specs.Prelude.{◌≡◌, ◌++◌, ◌∷◌, [], ◌==◌, ◌&&◌, true, map, IfSome, IfOk, OnOk, OnErr};
 ghost use Rattle.std.specs.List.{list_any};
-ghost use Rattle.cip_mps_rules.specs.MpsSoundState.{held_below, rises};
+ghost use Rattle.cip_text_rules.specs.MpsSoundState.{held_below, rises};
 ghost use Rattle.cip_mps.specs.Entries.{numbers_of};
 ghost use Rattle.cip_mps.specs.GroupEntries.{near_entry, far_entry};
 
@@ -22,7 +22,7 @@ pub struct Held {
 }
 
 impl Model for Held {
-    ghost use Rattle.cip_mps_rules.specs.MpsState as steps;
+    ghost use Rattle.cip_text_rules.specs.MpsState as steps;
     ghost use Rattle.cip_mps.specs.Entries.{held_code};
 
     ghost Value = { steps.Held };

@@ -1,12 +1,12 @@
 //! Reading the lines of a text, one after another.
 ghost use Rattle.std.specs.Prelude.{◌≡◌, ◌<◌, ◌≤◌, ℕ, false, IfOk, IfSome};
 ghost use Rattle.std.specs.List.{list_any};
-ghost use Rattle.cip_line_texts.specs.Lines.{is_line_feed};
-ghost use Rattle.cip_line_texts.specs.LineStream.{Going, line_read};
+ghost use Rattle.cip_text_rules.specs.Lines.{is_line_feed};
+ghost use Rattle.cip_text_rules.specs.LineStream.{Going, line_read};
 ghost use Rattle.cip_text.specs.PieceStands.{progress_after};
 ghost use Rattle.cip_mps.specs.MpsLines.{saying_of};
-ghost use Rattle.cip_mps_rules.specs.MpsRules as rules;
-ghost use Rattle.cip_mps_rules.specs.MpsSteps.{mps_steps};
+ghost use Rattle.cip_text_rules.specs.MpsRules as rules;
+ghost use Rattle.cip_text_rules.specs.MpsSteps.{mps_steps};
 ghost use Rattle.cip_mps.specs.LinesRead.{state_of_lines, stage_of, IsTaken};
 
 use crate::laws::places_join;

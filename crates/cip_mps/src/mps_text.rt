@@ -2,22 +2,22 @@
 ghost use Rattle.std.specs.Prelude.{◌≡◌, ◌+◌, ◌<◌, ◌≤◌, ◌∷◌, ◌++◌, [], ℕ, List, Option, length, true, false, IfSome, OnOk, IfOk, MatchResult, fold};
 ghost use Rattle.std.specs.List.{list_any};
 ghost use Rattle.cip_problem.specs.Limits.{longest_text};
-ghost use Rattle.cip_line_texts.specs.Lines.{is_line_feed};
-ghost use Rattle.cip_line_texts.specs.LineTexts.{outcome_of};
-ghost use Rattle.cip_line_texts.specs.LineEnds.{Stage};
-ghost use Rattle.cip_line_texts.specs.LineStream.{Stream, byte_read, stream_of};
+ghost use Rattle.cip_text_rules.specs.Lines.{is_line_feed};
+ghost use Rattle.cip_text_rules.specs.LineTexts.{outcome_of};
+ghost use Rattle.cip_text_rules.specs.LineEnds.{Stage};
+ghost use Rattle.cip_text_rules.specs.LineStream.{Stream, byte_read, stream_of};
 ghost use Rattle.cip_text.specs.PieceFaults.{has_kind_to};
 ghost use Rattle.cip_text.specs.PieceCuts.{no_bytes, cut_of, with_bytes, with_feed, known_fault};
 ghost use Rattle.cip_text.specs.PieceStands.{progress_after, IsRead, IsLastRead, outcome_with};
-ghost use Rattle.cip_mps_rules.specs.MpsOutcome.{mps_reading, HasProgram};
-ghost use Rattle.cip_mps_rules.specs.MpsState.{State};
-ghost use Rattle.cip_mps_rules.specs.MpsSteps.{mps_steps};
+ghost use Rattle.cip_text_rules.specs.MpsOutcome.{mps_reading, HasProgram};
+ghost use Rattle.cip_text_rules.specs.MpsState.{State};
+ghost use Rattle.cip_text_rules.specs.MpsSteps.{mps_steps};
 
 use crate::Program;
 use crate::kinds::MpsKind;
 use crate::line_reader::LineReader;
-use cip_mps_rules::step_laws::{faults_of_ended_lines, texts_are_read};
 use cip_text::{KnownFault, PieceText, Pieces, ReadFault, TextFault, cut_line, told};
+use cip_text_rules::step_laws::{faults_of_ended_lines, texts_are_read};
 use std::alloc::{AllocError, Global};
 use std::mem;
 
@@ -191,7 +191,7 @@ impl PieceText for MpsText {
     ghost use Rattle.std.specs.Prelude.{◌≡◌, [], IsSomeAnd, MatchResult};
     ghost use Rattle.cip_text.specs.EndedFaults.{IsKnownFault};
     ghost use Rattle.cip_text.specs.TextFaults.{IsToldBy};
-    ghost use Rattle.cip_mps_rules.specs.MpsOutcome.{mps_reading, HasProgram};
+    ghost use Rattle.cip_text_rules.specs.MpsOutcome.{mps_reading, HasProgram};
     ghost use Rattle.cip_mps.specs.MpsKindTexts.{kind_number};
     ghost use Rattle.cip_mps.specs.MpsReaders.{HasCome, IsFaultOf};
 

@@ -1,6 +1,6 @@
 //! Names and their numbers.
 ghost use Rattle.std.specs.Prelude.{◌≡◌, ◌<◌, length, vec_len, IfSome};
-ghost use Rattle.cip_mps_rules.specs.MpsWords.{number_in};
+ghost use Rattle.cip_text_rules.specs.MpsWords.{number_in};
 ghost use Rattle.cip_mps.specs.FoundRows.{AreFound};
 
 use crate::draft::Draft;

@@ -3,10 +3,8 @@ ghost use Rattle.std.specs.Prelude.{◌≡◌, ◌≤◌, ◌<◌, true, false, 
 ghost use Rattle.std.specs.List.{filter, list_any};
 ghost use Rattle.cip_rational.specs.Rational.{negate};
 ghost use Rattle.cip_problem.specs.Limits.{most_columns};
-ghost use Rattle.cip_mps_rules.specs.MpsWords.{is_in};
-ghost use Rattle.cip_mps_rules.specs.MpsBounds.{settled, is_semi, column_sides, choice_of};
-ghost use Rattle.cip_mps_rules.specs.MpsState.{no_row, is_kept, right_side_of, objective_row, kept_names, minimized_by, costs_from, finished_row, program_from};
-ghost use Rattle.cip_mps_rules.specs.MpsSoundState.{rises};
+ghost use Rattle.cip_text_rules.specs.MpsWords.{is_in};
+ghost use Rattle.cip_text_rules.specs.MpsState.{no_row, is_kept, right_side_of, objective_row, kept_names, minimized_by, costs_from, finished_row, program_from};
 ghost use Rattle.cip_model.specs.Programs.{is_maximize};
 ghost use Rattle.cip_mps.specs.CopiedParts.{IsCopied};
 ghost use Rattle.cip_mps.specs.DraftStates.{kept};
@@ -18,7 +16,7 @@ use cip_frac::Frac;
 use cip_lin::{Bounds, Choices, Row};
 use cip_model::{Names, Parts, Program, Sense};
 use cip_mps_lines::NameIndex;
-use cip_mps_rules::step_laws::numbers_are_of_names;
+use cip_text_rules::step_laws::numbers_are_of_names;
 use std::alloc::{AllocError, Global};
 
 /// The number of the first row of type N.

@@ -2,10 +2,10 @@
 ghost use Rattle.std.specs.Prelude.{◌≡◌, ◌<◌, false, None, Some, length, IfSome};
 ghost use Rattle.std.specs.List.{list_any};
 ghost use Rattle.cip_mps_lines.specs.MpsLines.{values_of};
-ghost use Rattle.cip_mps_rules.specs.MpsRules.{least};
-ghost use Rattle.cip_mps_rules.specs.MpsState.{no_row, item_at, row_at, value_for};
-ghost use Rattle.cip_mps_rules.specs.MpsSteps.{changed, overflows_with, has_range, is_free_at, with_range, put_values};
-ghost use Rattle.cip_mps_rules.specs.MpsLineTests.{range_tests};
+ghost use Rattle.cip_text_rules.specs.MpsRules.{least};
+ghost use Rattle.cip_text_rules.specs.MpsState.{no_row, item_at, row_at, value_for};
+ghost use Rattle.cip_text_rules.specs.MpsSteps.{changed, overflows_with, has_range, is_free_at, with_range, put_values};
+ghost use Rattle.cip_text_rules.specs.MpsLineTests.{range_tests};
 ghost use Rattle.cip_mps.specs.DraftStates.{kept};
 ghost use Rattle.cip_mps.specs.FoundRows.{AreFound};
 
@@ -76,7 +76,7 @@ impl Draft {
     }
 
     /// Whether a side of a row that a line of RANGES names can't be formed. Of two values for one row the first counts.
-    #[tactic(auto, using(cip_mps_rules::proofs::MpsNames::bytes_self))]
+    #[tactic(auto, using(cip_text_rules::proofs::MpsNames::bytes_self))]
     fn any_wide_range(&self, values: &Pairs<'_>, rows: RowNumbers) -> bool
         requires { AreFound self.now.row_names values.now rows }
         ensures { let all = values_of values.now in result ≡ list_any

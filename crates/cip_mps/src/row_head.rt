@@ -1,9 +1,9 @@
 //! A row without its numbers.
 ghost use Rattle.std.specs.Prelude.{◌≡◌, true, false, None, Some, is_some};
 ghost use Rattle.cip_mps_lines.specs.MpsKinds.{row_kind_in};
-ghost use Rattle.cip_mps_rules.specs.MpsProgram.{is_free};
-ghost use Rattle.cip_mps_rules.specs.MpsState.{right_side_of};
-ghost use Rattle.cip_mps_rules.specs.MpsSteps.{or_else, new_row, overflows_with, with_right_side, with_range};
+ghost use Rattle.cip_text_rules.specs.MpsProgram.{is_free};
+ghost use Rattle.cip_text_rules.specs.MpsState.{right_side_of};
+ghost use Rattle.cip_text_rules.specs.MpsSteps.{or_else, new_row, overflows_with, with_right_side, with_range};
 ghost use Rattle.cip_mps.specs.GroupedRows.{sides_or_open};
 
 use cip_frac::Frac;
@@ -23,7 +23,7 @@ pub(crate) struct RowHead {
 impl Model for RowHead {
     ghost use Rattle.std.specs.Prelude.{[]};
     ghost use Rattle.cip_mps_lines.specs.MpsKinds.{row_kind_in};
-    ghost use Rattle.cip_mps_rules.specs.MpsState as steps;
+    ghost use Rattle.cip_text_rules.specs.MpsState as steps;
     ghost use Rattle.cip_mps.specs.Entries.{row_read_code};
     ghost use Rattle.cip_mps.specs.Tables.{HasSides};
 

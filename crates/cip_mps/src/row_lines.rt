@@ -2,10 +2,10 @@
 ghost use Rattle.std.specs.Prelude.{◌≡◌, ◌++◌, ◌∷◌, ◌+◌, ◌&&◌, [], not, false, None, nat_le, OnOk, OnErr, option_map, if◌then◌else◌};
 ghost use Rattle.cip_problem.specs.Limits.{most_rows};
 ghost use Rattle.cip_mps_lines.specs.MpsKinds.{row_kind_in};
-ghost use Rattle.cip_mps_rules.specs.MpsWords.{is_in};
-ghost use Rattle.cip_mps_rules.specs.MpsProgram.{is_free};
-ghost use Rattle.cip_mps_rules.specs.MpsRules.{least};
-ghost use Rattle.cip_mps_rules.specs.MpsSteps.{new_row};
+ghost use Rattle.cip_text_rules.specs.MpsWords.{is_in};
+ghost use Rattle.cip_text_rules.specs.MpsProgram.{is_free};
+ghost use Rattle.cip_text_rules.specs.MpsRules.{least};
+ghost use Rattle.cip_text_rules.specs.MpsSteps.{new_row};
 ghost use Rattle.cip_mps.specs.DraftStates.{kept};
 ghost use Rattle.cip_mps.specs.DraftLines.{row_line_tests};
 

@@ -2,10 +2,10 @@
 ghost use Rattle.std.specs.Prelude.{◌≡◌, ◌<◌, ◌≤◌, ◌+◌, ◌*◌, ◌-◌, ◌^◌, ◌++◌, ◌∷◌, ◌==◌, [], ℕ, true, false, Some, None, length, vec_len, vec_capacity, is_some, take, slice_index_or, IfOk, OnOk, OnErr};
 ghost use Rattle.std.specs.List.{list_any};
 ghost use Rattle.cip_mps_lines.specs.MpsKinds.{row_kind_in};
-ghost use Rattle.cip_mps_rules.specs.MpsProgram.{is_free};
-ghost use Rattle.cip_mps_rules.specs.MpsState.{no_row, right_side_of};
-ghost use Rattle.cip_mps_rules.specs.MpsSteps.{changed, new_row, overflows_with, with_held, with_right_side, with_range};
-ghost use Rattle.cip_mps_rules.specs.MpsSoundState.{held_below, rises};
+ghost use Rattle.cip_text_rules.specs.MpsProgram.{is_free};
+ghost use Rattle.cip_text_rules.specs.MpsState.{no_row, right_side_of};
+ghost use Rattle.cip_text_rules.specs.MpsSteps.{changed, new_row, overflows_with, with_held, with_right_side, with_range};
+ghost use Rattle.cip_text_rules.specs.MpsSoundState.{held_below, rises};
 ghost use Rattle.cip_mps.specs.Tables.{numbers_at};
 
 use crate::groups::{GROUP, Group, Held};
@@ -30,7 +30,7 @@ pub struct RowTable {
 impl Model for RowTable {
     ghost use Rattle.std.specs.Prelude.{List};
     ghost use Rattle.std.specs.Coded.{coded_list};
-    ghost use Rattle.cip_mps_rules.specs.MpsState.{RowRead};
+    ghost use Rattle.cip_text_rules.specs.MpsState.{RowRead};
     ghost use Rattle.cip_mps.specs.Entries.{row_read_code};
     ghost use Rattle.cip_mps.specs.Tables.{rows_of, IsSoundTable};
 

@@ -2,7 +2,7 @@
 ghost use Rattle.std.specs.Prelude.{◌≡◌, ◌++◌, ◌∷◌, [], true, map, nat_lt, slice_index_or, OnOk};
 ghost use Rattle.std.specs.List.{list_all};
 ghost use Rattle.cip_problem.specs.Program.{no_row};
-ghost use Rattle.cip_mps_rules.specs.MpsState.{is_zero_value, terms_from};
+ghost use Rattle.cip_text_rules.specs.MpsState.{is_zero_value, terms_from};
 ghost use Rattle.cip_mps.specs.GroupEntries.{near_entry, far_entry};
 ghost use Rattle.cip_mps.specs.GroupedRows.{with_terms, put_number, put_numbers, follow};
 

@@ -3,14 +3,14 @@ ghost use Rattle.std.specs.Prelude.{◌≡◌, ◌+◌, ◌==◌, ◌++◌, ◌�
 ghost use Rattle.std.specs.List.{list_any};
 ghost use Rattle.cip_text.specs.TextLines.{fields_left};
 ghost use Rattle.cip_mps_lines.specs.MpsKinds.{part_of};
-ghost use Rattle.cip_mps_rules.specs.MpsWords as text;
-ghost use Rattle.cip_mps_rules.specs.MpsSayings.{Opens};
-ghost use Rattle.cip_mps_rules.specs.MpsFacts.{sense_words_in};
-ghost use Rattle.cip_mps_rules.specs.MpsBounds.{settled, lacks_sides};
-ghost use Rattle.cip_mps_rules.specs.MpsProgram.{is_free};
-ghost use Rattle.cip_mps_rules.specs.MpsRules.{least, stands_behind, is_opened, has_many_words};
-ghost use Rattle.cip_mps_rules.specs.MpsSteps.{or_else};
-ghost use Rattle.cip_mps_rules.specs.MpsLineTests.{opening_tests, end_tests, sense_tests};
+ghost use Rattle.cip_text_rules.specs.MpsWords as text;
+ghost use Rattle.cip_text_rules.specs.MpsSayings.{Opens};
+ghost use Rattle.cip_text_rules.specs.MpsFacts.{sense_words_in};
+ghost use Rattle.cip_text_rules.specs.MpsBounds.{settled, lacks_sides};
+ghost use Rattle.cip_text_rules.specs.MpsProgram.{is_free};
+ghost use Rattle.cip_text_rules.specs.MpsRules.{least, stands_behind, is_opened, has_many_words};
+ghost use Rattle.cip_text_rules.specs.MpsSteps.{or_else};
+ghost use Rattle.cip_text_rules.specs.MpsLineTests.{opening_tests, end_tests, sense_tests};
 ghost use Rattle.cip_mps.specs.DraftLines.{section_tests, sense_said_on};
 ghost use Rattle.cip_mps.specs.DraftStates.{kept};
 

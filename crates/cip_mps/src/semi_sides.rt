@@ -2,7 +2,7 @@
 ghost use Rattle.std.specs.Prelude.{◌≡◌, Some};
 ghost use Rattle.cip_rational.specs.Rational.{zeroℚ};
 ghost use Rattle.cip_problem.specs.Choices.{greater, open_sides};
-ghost use Rattle.cip_mps_rules.specs.MpsBounds as text;
+ghost use Rattle.cip_text_rules.specs.MpsBounds as text;
 
 use cip_frac::Frac;
 use cip_lin::Sides;

@@ -3,10 +3,10 @@ ghost use Rattle.std.specs.Prelude.{◌≡◌, ℕ, IfOk, option_map};
 ghost use Rattle.cip_text.specs.TextLines.{fields_left};
 ghost use Rattle.cip_mps_lines.specs.MpsKinds.{part_of, row_kind_in, bound_kind_in};
 ghost use Rattle.cip_mps_lines.specs.MpsLines.{values_of, saying_of};
-ghost use Rattle.cip_mps_rules.specs.MpsSayings as text;
-ghost use Rattle.cip_mps_rules.specs.MpsSayings.{no_place};
-ghost use Rattle.cip_mps_rules.specs.MpsFacts.{no_facts};
-ghost use Rattle.cip_mps_rules.specs.MpsState.{state_of};
+ghost use Rattle.cip_text_rules.specs.MpsSayings as text;
+ghost use Rattle.cip_text_rules.specs.MpsSayings.{no_place};
+ghost use Rattle.cip_text_rules.specs.MpsFacts.{no_facts};
+ghost use Rattle.cip_text_rules.specs.MpsState.{state_of};
 ghost use Rattle.cip_mps.specs.DraftStates.{kept};
 ghost use Rattle.cip_mps.specs.DraftSteps.{IsStep, PlacesJoin};
 
@@ -14,8 +14,8 @@ use crate::RowTable;
 use crate::draft::Draft;
 use crate::sections::sense_fault;
 use cip_mps_lines::{BoundKind, BoundNumber, Line, NameIndex, Pairs, Part, RowKind, sense_of};
-use cip_mps_rules::step_laws::lines_have_tests;
 use cip_text::Fields;
+use cip_text_rules::step_laws::lines_have_tests;
 use std::alloc::{AllocError, Global};
 
 impl Draft {

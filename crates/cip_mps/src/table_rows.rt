@@ -1,7 +1,7 @@
 //! The rows of the program.
 ghost use Rattle.std.specs.Prelude.{◌≡◌, ◌++◌, nat_lt, if◌then◌else◌, map, IfOk, OnOk};
 ghost use Rattle.std.specs.List.{filter};
-ghost use Rattle.cip_mps_rules.specs.MpsState.{is_kept, finished_row};
+ghost use Rattle.cip_text_rules.specs.MpsState.{is_kept, finished_row};
 ghost use Rattle.cip_mps.specs.GroupedRows.{kept_rows};
 
 use crate::groups::GROUP;

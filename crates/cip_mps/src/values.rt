@@ -2,9 +2,9 @@
 ghost use Rattle.std.specs.Prelude.{◌≡◌, ◌≤◌};
 ghost use Rattle.std.specs.List.{list_any};
 ghost use Rattle.cip_mps_lines.specs.MpsLines.{values_of};
-ghost use Rattle.cip_mps_rules.specs.MpsWords.{is_no_number, is_too_fine};
-ghost use Rattle.cip_mps_rules.specs.MpsRules.{has_twins};
-ghost use Rattle.cip_mps_rules.specs.MpsLineTests.{numbers_of, has_huge};
+ghost use Rattle.cip_text_rules.specs.MpsWords.{is_no_number, is_too_fine};
+ghost use Rattle.cip_text_rules.specs.MpsRules.{has_twins};
+ghost use Rattle.cip_text_rules.specs.MpsLineTests.{numbers_of, has_huge};
 ghost use Rattle.cip_mps.specs.DraftLines.{entries_in};
 
 use cip_mps_lines::Pairs;

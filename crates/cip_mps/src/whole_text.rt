@@ -1,6 +1,6 @@
 //! Reading a text of free MPS that is there as a whole.
 ghost use Rattle.std.specs.Prelude.{MatchResult};
-ghost use Rattle.cip_mps_rules.specs.MpsOutcome.{HasProgram};
+ghost use Rattle.cip_text_rules.specs.MpsOutcome.{HasProgram};
 ghost use Rattle.cip_mps.specs.MpsReaders.{IsFaultOf};
 
 use crate::Program;

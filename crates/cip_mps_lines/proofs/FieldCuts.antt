@@ -1,8 +1,8 @@
 -- The first six words of a line tell what it says.
 use Rattle.std.proofs.Common.{◌≡◌, ℕ, ◌<◌, ◌≤◌, Bool, true, false, if◌then◌else◌, List, [], ◌∷◌, ◌++◌, length, take, Option, None, Some, refl, sym, ap, arith}
 use Rattle.std.proofs.lemmas.List.{take_all, take_at, append-nil}
-use Rattle.cip_mps_rules.specs.MpsWords.{Part, NoPart, Title, Sense, Rows, Columns, RightSides, Ranges, Bounds, End, BoundKind, bound_kind_of, has_value}
-use Rattle.cip_mps_rules.specs.MpsSayings.{LinePlace, Misplaced, Miscounted, sense_said, row_said, column_said, right_side_said, range_said, bound_said, typed_bound, valued_bound, plain_bound, fields_said}
+use Rattle.cip_text_rules.specs.MpsWords.{Part, NoPart, Title, Sense, Rows, Columns, RightSides, Ranges, Bounds, End, BoundKind, bound_kind_of, has_value}
+use Rattle.cip_text_rules.specs.MpsSayings.{LinePlace, Misplaced, Miscounted, sense_said, row_said, column_said, right_side_said, range_said, bound_said, typed_bound, valued_bound, plain_bound, fields_said}
 
 -- all words, where they are six at most
 pub all_words : (kept rest fields : List (List ℕ)) → kept ++ rest ≡ fields → rest ≡ [] → length kept ≤ 6 → kept ≡ take 6 fields

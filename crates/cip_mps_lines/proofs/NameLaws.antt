@@ -1,9 +1,9 @@
 -- Names that stand once: each has its place as its number.
 use Rattle.std.proofs.Common.{◌≡◌, ℕ, zero, suc, true, false, List, [], ◌∷◌, ◌++◌, length, Option, Some, refl, sym, ap, inl, inr, ◌⊎◌, ◌∙◌}
 use Rattle.std.specs.Prelude.{slice_get, is_some}
-use Rattle.cip_mps_rules.specs.MpsWords.{number_in, is_in}
+use Rattle.cip_text_rules.specs.MpsWords.{number_in, is_in}
 use Rattle.cip_mps_lines.specs.NamesApart.{AreApart}
-use Rattle.cip_mps_rules.proofs.LookUps.{number_in-left, number_in-push}
+use Rattle.cip_text_rules.proofs.LookUps.{number_in-left, number_in-push}
 
 -- a name of the list, or the new one
 get_push : (names : List (List ℕ)) (new name : List ℕ) (k : ℕ) → slice_get (names ++ new ∷ []) k ≡ Some name → (slice_get names k ≡ Some name) ⊎ ((k ≡ length names) × (name ≡ new))

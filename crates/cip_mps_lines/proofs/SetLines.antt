@@ -1,7 +1,7 @@
 -- Lines of RHS, RANGES and BOUNDS by their sets and what stands behind them.
 use Rattle.std.proofs.Common.{◌≡◌, ℕ, ◌<◌, ◌≤◌, List, [], ◌∷◌, length, Option, None, Some, refl, arith}
-use Rattle.cip_mps_rules.specs.MpsWords.{BoundKind}
-use Rattle.cip_mps_rules.specs.MpsSayings.{Value, Saying, Miscounted, RightSideLine, RangeLine, BoundLine, no_value, of_set, right_side_said, range_said, valued_bound, plain_bound}
+use Rattle.cip_text_rules.specs.MpsWords.{BoundKind}
+use Rattle.cip_text_rules.specs.MpsSayings.{Value, Saying, Miscounted, RightSideLine, RangeLine, BoundLine, no_value, of_set, right_side_said, range_said, valued_bound, plain_bound}
 use Rattle.cip_mps_lines.specs.SetWords.{set_values, set_column}
 
 -- ---- lines of BOUNDS with a wrong number of words

@@ -4,10 +4,10 @@ use Rattle.cip_rational.specs.Rational.{ℚ, zeroℚ, lt_test, ◌<ℚ◌, integ
 use Rattle.cip_rational.proofs.Rational.Order.{≤ℚ_antisymm, le_of_lt_test, lt_of_test, test_of_lt}
 use Rattle.cip_rational.proofs.Comparisons.{is_le-compare}
 use Rattle.cip_rational.specs.Numeral.{Numeral, Exact, NotANumber, Huge, TooFine, value_of, numeral_of, is_minus}
-use Rattle.cip_mps_rules.specs.MpsWords.{is_zero, is_negative, is_positive, is_huge, is_infinity, near_or_huge, bound_number}
-use Rattle.cip_mps_rules.specs.MpsState.{is_zero_value, is_negative_value}
-use Rattle.cip_mps_rules.specs.MpsStepStatements.{is_far_value, is_positive_value}
-use Rattle.cip_mps_rules.proofs.Told.{value_zero, zero_is_zero, value_far, value_bound, value_bound_negative, value_bound_positive}
+use Rattle.cip_text_rules.specs.MpsWords.{is_zero, is_negative, is_positive, is_huge, is_infinity, near_or_huge, bound_number}
+use Rattle.cip_text_rules.specs.MpsState.{is_zero_value, is_negative_value}
+use Rattle.cip_text_rules.specs.MpsStepStatements.{is_far_value, is_positive_value}
+use Rattle.cip_text_rules.proofs.Told.{value_zero, zero_is_zero, value_far, value_bound, value_bound_negative, value_bound_positive}
 
 -- ---- 0
 

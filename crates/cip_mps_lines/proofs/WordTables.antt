@@ -2,7 +2,7 @@
 use Rattle.std.proofs.Common.{◌≡◌, ℕ, suc, ◌+◌, ◌<◌, Bool, true, false, cond, List, length, drop, drop-cons, add-one, map, Option, Some, sym, ap, ◌∙◌}
 use Rattle.std.specs.Prelude.{slice_index_or}
 use Rattle.std.specs.Str.{bytes_eq}
-use Rattle.cip_mps_rules.specs.MpsWords.{Word, meaning_in}
+use Rattle.cip_text_rules.specs.MpsWords.{Word, meaning_in}
 
 module _ {X M : Type 0} (shown : X → Word M) (words : List X) (k : ℕ) (d : X) (text : List ℕ) (within : k < length words) where
   abbrev here : Word M

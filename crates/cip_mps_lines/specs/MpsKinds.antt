@@ -1,6 +1,6 @@
 -- The code's sections and types of rows and bounds, as those of a text.
 use Rattle.std.specs.Prelude.{ℕ, List}
-use Rattle.cip_mps_rules.specs.MpsWords as text
+use Rattle.cip_text_rules.specs.MpsWords as text
 use Rattle.cip_mps_lines.specs.declared.words.Part.{Part}
 use Rattle.cip_mps_lines.specs.declared.words.Part.TheVariants.{NoPart, Title, Sense, Rows, Columns, RightSides, Ranges, Bounds, End}
 use Rattle.cip_mps_lines.specs.declared.words.RowKind.{RowKind}

@@ -2,7 +2,7 @@
 --     saying_of line      what it says
 use Rattle.std.specs.Prelude.{List, [], ◌∷◌, Option, None, Some, option_map}
 use Rattle.cip_text.specs.TextLines.{fields_left}
-use Rattle.cip_mps_rules.specs.MpsSayings as text
+use Rattle.cip_text_rules.specs.MpsSayings as text
 use Rattle.cip_mps_lines.specs.MpsKinds.{part_of, row_kind_in, bound_kind_in}
 use Rattle.cip_mps_lines.specs.declared.line.Pair.{Pair}
 use Rattle.cip_mps_lines.specs.declared.line.Pairs.{Pairs}

@@ -1,6 +1,6 @@
 -- Names that stand once.
 use Rattle.std.specs.Prelude.{◌≡◌, ℕ, List, Some, slice_get}
-use Rattle.cip_mps_rules.specs.MpsWords.{number_in}
+use Rattle.cip_text_rules.specs.MpsWords.{number_in}
 
 -- each name has its place as its number
 pub record AreApart (names : List (List ℕ)) : Type 0 where

@@ -1,6 +1,6 @@
 -- The words of lines of RHS, RANGES and BOUNDS, cut into the set and what stands behind it.
 use Rattle.std.specs.Prelude.{ℕ, List, [], ◌∷◌, Option, None, Some}
-use Rattle.cip_mps_rules.specs.MpsSayings.{Value, one_value, two_values}
+use Rattle.cip_text_rules.specs.MpsSayings.{Value, one_value, two_values}
 
 -- this set and the values of `row value [row value]`
 abbrev pub values_in_set : (set_name : List ℕ) → List (List ℕ) → Option (List ℕ × List Value)

@@ -1,8 +1,8 @@
 //! The values of bounds.
 ghost use Rattle.std.specs.Prelude.{◌≡◌, pos, ◌^◌};
 ghost use Rattle.cip_rational.specs.Numeral as text;
-ghost use Rattle.cip_mps_rules.specs.MpsWords.{is_infinity, bound_number};
-ghost use Rattle.cip_mps_rules.specs.MpsStepStatements.{is_far_value};
+ghost use Rattle.cip_text_rules.specs.MpsWords.{is_infinity, bound_number};
+ghost use Rattle.cip_text_rules.specs.MpsStepStatements.{is_far_value};
 ghost use Rattle.cip_mps_lines.specs.NumbersRead.{IsRead};
 
 use cip_frac::Frac;
@@ -22,7 +22,7 @@ pub struct BoundNumber<'a> {
 
 impl<'a> Model for BoundNumber<'a> {
     ghost use Rattle.cip_rational.specs.Numeral.{Numeral};
-    ghost use Rattle.cip_mps_rules.specs.MpsWords.{bound_number};
+    ghost use Rattle.cip_text_rules.specs.MpsWords.{bound_number};
     ghost use Rattle.cip_mps_lines.specs.NumbersRead.{IsRead};
 
     ghost Value = { Numeral };
@@ -90,8 +90,8 @@ fn bound_value(bytes: &[u8]) -> Result<Frac, NumberFault>
 impl<'a> BoundNumber<'a> {
     ghost use Rattle.std.specs.Prelude.{◌≡◌};
     ghost use Rattle.cip_rational.specs.Numeral.{value_of};
-    ghost use Rattle.cip_mps_rules.specs.MpsWords as words;
-    ghost use Rattle.cip_mps_rules.specs.MpsSayings.{no_value};
+    ghost use Rattle.cip_text_rules.specs.MpsWords as words;
+    ghost use Rattle.cip_text_rules.specs.MpsSayings.{no_value};
 
     /// Reads a text.
     pub fn of(text: &'a [u8]) -> BoundNumber<'a>

@@ -1,10 +1,10 @@
 //! Names that stand once, and their numbers.
 
 ghost use Rattle.std.specs.Prelude.{◌≡◌, ◌<◌, ◌++◌, ◌∷◌, [], false, Some, length, slice_get, IfSome, OnOk, OnErr};
-ghost use Rattle.cip_mps_rules.specs.MpsWords.{number_in, is_in};
+ghost use Rattle.cip_text_rules.specs.MpsWords.{number_in, is_in};
 
 use cip_model::Names;
-use cip_mps_rules::step_laws::numbers_are_of_names;
+use cip_text_rules::step_laws::numbers_are_of_names;
 use std::alloc::{AllocError, Global};
 use std::marker::Model;
 

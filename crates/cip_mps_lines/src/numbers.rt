@@ -25,8 +25,8 @@ impl<'a> Model for Number<'a> {
 impl<'a> Number<'a> {
     ghost use Rattle.std.specs.Prelude.{◌≡◌};
     ghost use Rattle.cip_rational.specs.Numeral.{numeral_of};
-    ghost use Rattle.cip_mps_rules.specs.MpsWords as words;
-    ghost use Rattle.cip_mps_rules.specs.MpsProgram as program;
+    ghost use Rattle.cip_text_rules.specs.MpsWords as words;
+    ghost use Rattle.cip_text_rules.specs.MpsProgram as program;
 
     /// Reads a text.
     pub fn of(text: &'a [u8]) -> Number<'a>

@@ -19,7 +19,7 @@ pub struct LinePlace {
 
 impl Model for LinePlace {
     ghost use Rattle.std.specs.Prelude.{None, Some, if◌then◌else◌};
-    ghost use Rattle.cip_mps_rules.specs.MpsSayings as text;
+    ghost use Rattle.cip_text_rules.specs.MpsSayings as text;
     ghost use Rattle.cip_mps_lines.specs.MpsKinds.{part_of};
 
     ghost Value = { text.LinePlace };
@@ -34,7 +34,7 @@ impl Model for LinePlace {
 
 impl LinePlace {
     ghost use Rattle.std.specs.Prelude.{◌≡◌, Some, OnOk, OnErr};
-    ghost use Rattle.cip_mps_rules.specs.MpsSayings.{no_place, place_after, has_words};
+    ghost use Rattle.cip_text_rules.specs.MpsSayings.{no_place, place_after, has_words};
     ghost use Rattle.cip_text.specs.TextLines.{fields_left};
     ghost use Rattle.cip_mps_lines.specs.MpsKinds.{part_of};
     ghost use Rattle.cip_mps_lines.specs.MpsLines.{saying_of};

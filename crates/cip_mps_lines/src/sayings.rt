@@ -1,8 +1,8 @@
 //! What a line says at its place.
 ghost use Rattle.std.specs.Prelude.{◌≡◌, ◌∷◌, []};
 ghost use Rattle.cip_text.specs.TextLines.{fields_left, content_of};
-ghost use Rattle.cip_mps_rules.specs.MpsWords as words_of_text;
-ghost use Rattle.cip_mps_rules.specs.MpsSayings as text;
+ghost use Rattle.cip_text_rules.specs.MpsWords as words_of_text;
+ghost use Rattle.cip_text_rules.specs.MpsSayings as text;
 ghost use Rattle.cip_mps_lines.specs.FirstWords.{texts};
 ghost use Rattle.cip_mps_lines.specs.MpsLines.{saying_of};
 

@@ -1,6 +1,6 @@
 //! What the lines of RHS, RANGES and BOUNDS say.
 ghost use Rattle.std.specs.Prelude.{◌≡◌, Some, option_map};
-ghost use Rattle.cip_mps_rules.specs.MpsSayings as text;
+ghost use Rattle.cip_text_rules.specs.MpsSayings as text;
 ghost use Rattle.cip_mps_lines.specs.FirstWords.{texts};
 ghost use Rattle.cip_mps_lines.specs.MpsKinds.{bound_kind_in};
 ghost use Rattle.cip_mps_lines.specs.MpsLines.{saying_of, values_of};

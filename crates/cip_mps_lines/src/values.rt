@@ -1,6 +1,6 @@
 //! The values of a line.
 ghost use Rattle.std.specs.Prelude.{◌≡◌};
-ghost use Rattle.cip_mps_rules.specs.MpsSayings as text;
+ghost use Rattle.cip_text_rules.specs.MpsSayings as text;
 ghost use Rattle.cip_mps_lines.specs.MpsLines.{values_of};
 
 use crate::line::{Pair, Pairs};

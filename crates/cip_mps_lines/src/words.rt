@@ -1,6 +1,6 @@
 //! The words of free MPS: sections, senses, types of rows and bounds, markers.
 ghost use Rattle.std.specs.Prelude.{◌≡◌, map, option_map};
-ghost use Rattle.cip_mps_rules.specs.MpsWords as text;
+ghost use Rattle.cip_text_rules.specs.MpsWords as text;
 ghost use Rattle.cip_mps_lines.specs.MpsKinds.{part_of, section_word, row_kind_in, bound_kind_in, bound_word};
 
 /// A section of a text.

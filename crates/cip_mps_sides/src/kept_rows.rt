@@ -2,10 +2,10 @@
 ghost use Rattle.std.specs.Prelude.{◌≡◌, false, if◌then◌else◌};
 ghost use Rattle.cip_rational.specs.Range.{sum_overflows, difference_overflows};
 ghost use Rattle.cip_mps_lines.specs.MpsKinds.{row_kind_in};
-ghost use Rattle.cip_mps_rules.specs.MpsProgram as text;
-ghost use Rattle.cip_mps_rules.specs.MpsProgram.{is_free};
-ghost use Rattle.cip_mps_rules.specs.MpsState.{sides_with};
-ghost use Rattle.cip_mps_rules.specs.MpsSteps.{moved_overflows};
+ghost use Rattle.cip_text_rules.specs.MpsProgram as text;
+ghost use Rattle.cip_text_rules.specs.MpsProgram.{is_free};
+ghost use Rattle.cip_text_rules.specs.MpsState.{sides_with};
+ghost use Rattle.cip_text_rules.specs.MpsSteps.{moved_overflows};
 
 use crate::sides::moves_low;
 use cip_frac::Frac;

@@ -2,9 +2,9 @@
 ghost use Rattle.std.specs.Prelude.{◌≡◌, if◌then◌else◌};
 ghost use Rattle.cip_rational.specs.Range.{sum_overflows, difference_overflows};
 ghost use Rattle.cip_mps_lines.specs.MpsKinds.{row_kind_in};
-ghost use Rattle.cip_mps_rules.specs.MpsProgram.{is_free};
-ghost use Rattle.cip_mps_rules.specs.MpsState.{moves_low_side};
-ghost use Rattle.cip_mps_rules.specs.MpsSteps.{moved_overflows};
+ghost use Rattle.cip_text_rules.specs.MpsProgram.{is_free};
+ghost use Rattle.cip_text_rules.specs.MpsState.{moves_low_side};
+ghost use Rattle.cip_text_rules.specs.MpsSteps.{moved_overflows};
 
 use cip_frac::Frac;
 use cip_mps_lines::RowKind;

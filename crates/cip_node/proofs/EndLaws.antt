@@ -4,10 +4,10 @@ use Rattle.std.specs.Prelude.{MatchResult}
 use Rattle.cip_rational.specs.Rational.{ℚ}
 use Rattle.cip_problem.specs.Program.{Sides}
 use Rattle.cip_problem.specs.Log.{End, Split, Closed, Parked, Node, matters}
-use Rattle.cip_linear.specs.Improving.{HasNoImproving, IsImproving}
-use Rattle.cip_linear.proofs.Improving.{fewer}
+use Rattle.cip_problem.specs.Improving.{HasNoImproving, IsImproving}
+use Rattle.cip_problem.proofs.Improving.{fewer}
 use Rattle.cip_domain.specs.Changes.{Region}
-use Rattle.cip_leaves.specs.Leaf.{Leaf, IsPointOfLeaf}
+use Rattle.cip_search.specs.Leaf.{Leaf, IsPointOfLeaf}
 use Rattle.cip_leaf.specs.LeafAnswers.{shown_as}
 use Rattle.cip_leaf.specs.declared.answers.Shown.{Shown}
 use Rattle.cip_core.specs.declared.relaxed.Mark.{Mark}

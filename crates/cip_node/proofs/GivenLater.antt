@@ -2,7 +2,7 @@
 use Rattle.std.proofs.Common.{◌≡◌, Option, sym, ap, ◌∙◌}
 use Rattle.cip_rational.specs.Rational.{ℚ}
 use Rattle.cip_problem.specs.Log.{Node, node_of}
-use Rattle.cip_leaves.specs.Searched.{nodes_given}
+use Rattle.cip_search.specs.Searched.{nodes_given}
 use Rattle.cip_tree.specs.Nodes.{TakenNode}
 use Rattle.cip_core.specs.CoreStates.{CoreState, reduced_of, IsGivenBound}
 use Rattle.cip_core.specs.Later.{IsLaterAt}

@@ -6,15 +6,15 @@ use Rattle.cip_problem.specs.Program.{Program}
 use Rattle.cip_problem.specs.Box.{IsInBox}
 use Rattle.cip_problem.specs.Points.{IsFeasible, cost_of}
 use Rattle.cip_problem.specs.Log.{Node}
-use Rattle.cip_linear.specs.Improving.{HasNoImproving}
+use Rattle.cip_problem.specs.Improving.{HasNoImproving}
 use Rattle.cip_problem.specs.Choices.{decided}
 use Rattle.cip_problem.specs.Statements.{IsNodeOf}
 use Rattle.cip_problem.specs.WellFormed.{columns, IsWellFormed}
 use Rattle.cip_problem.proofs.Choices.Decided.{feasible}
 use Rattle.cip_problem.proofs.Points.AtPlaces.{IsInBox-long}
-use Rattle.cip_leaves.specs.Leaf.{Leaf, IsLeafOf, IsPointOfLeaf}
-use Rattle.cip_leaves.proofs.Points.{only_leaf_of}
-use Rattle.cip_leaves.specs.WideLeaf.{Shown, IsWideBy, IsWideLeaf}
+use Rattle.cip_search.specs.Leaf.{Leaf, IsLeafOf, IsPointOfLeaf}
+use Rattle.cip_search.proofs.Points.{only_leaf_of}
+use Rattle.cip_search.specs.WideLeaf.{Shown, IsWideBy, IsWideLeaf}
 use Rattle.cip_leaf.specs.LeafAnswers.{IsBest}
 use Rattle.cip_model.specs.Verdicts.{verdict_of}
 use Rattle.cip_model.specs.declared.verdicts.Verdict.TheVariants.{Feasible}

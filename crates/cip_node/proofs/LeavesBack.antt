@@ -13,7 +13,7 @@ use Rattle.cip_problem.specs.Box.{sides_at}
 use Rattle.cip_problem.specs.Choices.{AreMade, open_count, made_on}
 use Rattle.cip_problem.specs.WellFormed.{IsWellFormed}
 use Rattle.cip_problem.proofs.Choices.Decided.{length-made_on}
-use Rattle.cip_leaves.specs.Leaf.{at_wholes, IsWholeBetween, IsLeafIn, IsLeaf, IsOnlyLeaf, Leaf, IsLeafOf}
+use Rattle.cip_search.specs.Leaf.{at_wholes, IsWholeBetween, IsLeafIn, IsLeaf, IsOnlyLeaf, Leaf, IsLeafOf}
 use Rattle.cip_core.specs.Pairs.{IsWholeIn, IsAssignment, own_sides}
 use Rattle.cip_core.specs.WholeParts.{with_wholes}
 use Rattle.cip_core.specs.StepsBack.{StepsTaken, point_back, whole_point, leaf_back}

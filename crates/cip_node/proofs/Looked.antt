@@ -8,7 +8,7 @@ use Rattle.cip_problem.specs.Box.{Between, sides_at}
 use Rattle.cip_problem.specs.Activity.{value_at}
 use Rattle.cip_problem.proofs.Points.AtPlaces.{in_box_at, whole_at}
 use Rattle.cip_domain.specs.Changes.{Region}
-use Rattle.cip_linear.specs.Improving.{HasNoImproving}
+use Rattle.cip_problem.specs.Improving.{HasNoImproving}
 use Rattle.cip_node_rules.specs.BoxLooks.{IsBoxLook}
 use Rattle.cip_node_rules.specs.declared.looks.Looked.{Looked}
 use Rattle.cip_node_rules.specs.declared.looks.Looked.TheVariants.{Empty, Leaf, Open}

@@ -7,7 +7,7 @@ use Rattle.cip_problem.specs.Box.{sides_at}
 use Rattle.cip_problem.specs.Choices.{choice_at, is_open, is_on, AreMade, AreStillOpen, decided_box, made_on}
 use Rattle.cip_problem.specs.Log.{Node}
 use Rattle.cip_problem.specs.WellFormed.{IsChoice, IsWellFormed}
-use Rattle.cip_leaves.specs.Leaf.{at_wholes, IsOnlyLeaf, Leaf, IsOnlyLeafOf}
+use Rattle.cip_search.specs.Leaf.{at_wholes, IsOnlyLeaf, Leaf, IsOnlyLeafOf}
 use Rattle.cip_node_rules.specs.OpenColumns.{PassesNowhere}
 use Rattle.cip_node_rules.specs.OpenChoices.{is_choice_open}
 

@@ -6,10 +6,10 @@ use Rattle.cip_rational.specs.Rational.{ℚ, integer, ceil}
 use Rattle.cip_problem.specs.Program.{Sides, Row, Program}
 use Rattle.cip_problem.specs.WellFormed.{IsWellFormed}
 use Rattle.cip_problem.proofs.Points.AtPlaces.{IsInBox-long}
-use Rattle.cip_linear.specs.LinearProgram.{IsPoint, HasNoPoint}
-use Rattle.cip_linear.specs.Improving.{IsValidRow, IsBoundIn}
-use Rattle.cip_linear.proofs.Improving.{fewer}
-use Rattle.cip_leaves.specs.Searched.{NoMore}
+use Rattle.cip_problem.specs.LinearProgram.{IsPoint, HasNoPoint}
+use Rattle.cip_problem.specs.Improving.{IsValidRow, IsBoundIn}
+use Rattle.cip_problem.proofs.Improving.{fewer}
+use Rattle.cip_search.specs.Searched.{NoMore}
 use Rattle.cip_search.proofs.Relaxed.{greater}
 use Rattle.cip_cert.specs.declared.rows.PoolRow.{PoolRow}
 use Rattle.cip_cert.specs.Lent.{KeptFits}

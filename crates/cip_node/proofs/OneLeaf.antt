@@ -11,7 +11,7 @@ use Rattle.cip_problem.specs.Program.{Sides}
 use Rattle.cip_problem.specs.Box.{two_wholes_between}
 use Rattle.cip_problem.specs.Wholes.{HasWhole, AllHaveWholes}
 use Rattle.cip_problem.proofs.Wholes.Counts.{same_whole_of_test}
-use Rattle.cip_leaves.specs.Leaf.{IsWholeBetween, IsLeafIn, IsOnlyLeaf}
+use Rattle.cip_search.specs.Leaf.{IsWholeBetween, IsLeafIn, IsOnlyLeaf}
 use Rattle.cip_tree.specs.Tracked.{IsWithin}
 use Rattle.cip_node_rules.specs.OpenColumns.{is_open_at, PassesNowhere}
 use Rattle.cip_node_rules.proofs.Places.{order_of_whole}

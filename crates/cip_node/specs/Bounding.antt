@@ -4,8 +4,8 @@ use Rattle.std.specs.Prelude.{◌≡◌, ℕ, ℤ, Bool, List, length, Option, N
 use Rattle.cip_rational.specs.Rational.{ℚ}
 use Rattle.cip_problem.specs.Program.{Sides}
 use Rattle.cip_problem.specs.WellFormed.{columns}
-use Rattle.cip_linear.specs.LinearProgram.{IsPoint}
-use Rattle.cip_linear.specs.Improving.{HasNoImproving}
+use Rattle.cip_problem.specs.LinearProgram.{IsPoint}
+use Rattle.cip_problem.specs.Improving.{HasNoImproving}
 use Rattle.cip_search.specs.Relaxation.{IsRelaxedBound}
 use Rattle.cip_domain.specs.Changes.{Region}
 use Rattle.cip_tree.specs.Nodes.{TakenNode, box_of}

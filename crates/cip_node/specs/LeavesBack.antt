@@ -2,7 +2,7 @@
 use Rattle.std.specs.Prelude.{◌≡◌}
 use Rattle.cip_problem.specs.Program.{Program}
 use Rattle.cip_problem.specs.Log.{Node}
-use Rattle.cip_leaves.specs.Leaf.{Leaf, IsLeafOf, IsOnlyLeafOf}
+use Rattle.cip_search.specs.Leaf.{Leaf, IsLeafOf, IsOnlyLeafOf}
 use Rattle.cip_core.specs.StepsBack.{StepsTaken, leaf_back}
 
 -- the leaf that one of the reduced program comes back as: whole values as the steps say, and the same choices

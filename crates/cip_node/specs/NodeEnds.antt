@@ -5,10 +5,10 @@ use Rattle.std.specs.Prelude.{◌≡◌, ◌+◌, ◌≤◌, ◌∷◌, [], ℕ,
 use Rattle.cip_rational.specs.Rational.{ℚ}
 use Rattle.cip_problem.specs.Points.{IsFeasible}
 use Rattle.cip_problem.specs.Log.{Split, Closed, Parked, Node, AllFollow, matters}
-use Rattle.cip_linear.specs.Improving.{HasNoImproving}
-use Rattle.cip_leaves.specs.Leaf.{Leaf, IsPointOfLeaf}
-use Rattle.cip_leaves.specs.Searched.{first_node}
-use Rattle.cip_leaves.specs.WideLeaf.{Shown}
+use Rattle.cip_problem.specs.Improving.{HasNoImproving}
+use Rattle.cip_search.specs.Leaf.{Leaf, IsPointOfLeaf}
+use Rattle.cip_search.specs.Searched.{first_node}
+use Rattle.cip_search.specs.WideLeaf.{Shown}
 use Rattle.cip_leaf.specs.LeafAnswers.{shown_as}
 use Rattle.cip_search.specs.SearchState.{IsWideBack}
 use Rattle.cip_model.specs.Rays.{IsShownRay}

@@ -6,7 +6,7 @@ use Rattle.cip_problem.specs.Wholes.{AllHaveWholes}
 use Rattle.cip_problem.specs.WellFormed.{columns}
 use Rattle.cip_problem.specs.Choices.{AreStillOpen}
 use Rattle.cip_problem.specs.Log.{Node}
-use Rattle.cip_leaves.specs.Leaf.{Leaf}
+use Rattle.cip_search.specs.Leaf.{Leaf}
 use Rattle.cip_leaf.specs.LeafAnswers.{IsLeafAnswer}
 use Rattle.cip_tree.specs.Nodes.{TakenNode, shown}
 use Rattle.cip_tree.specs.Tracked.{IsWithin}

@@ -1,7 +1,7 @@
 //! The linear program of a node in work.
 ghost use Rattle.std.specs.Prelude.{◌≡◌, ◌≢◌, None, Some, Err, length, IfOk, IfSome, OnErr};
 ghost use Rattle.cip_problem.specs.WellFormed.{columns};
-ghost use Rattle.cip_linear.specs.Improving.{IsBoundIn};
+ghost use Rattle.cip_problem.specs.Improving.{IsBoundIn};
 ghost use Rattle.cip_tree.specs.Nodes.{region_of, box_of};
 ghost use Rattle.cip_core.specs.CoreStates.{reduced_of, held_of, IsAtWork};
 ghost use Rattle.cip_core.specs.Later.{IsLaterAt};

@@ -4,7 +4,7 @@ ghost use Rattle.cip_rational.specs.Rational.{ℚ};
 ghost use Rattle.cip_rational.specs.Range.{fits_range};
 ghost use Rattle.cip_problem.specs.Choices.{choice_at, is_on, made_on};
 ghost use Rattle.cip_problem.specs.WellFormed.{columns};
-ghost use Rattle.cip_leaves.specs.Leaf.{IsLeaf};
+ghost use Rattle.cip_search.specs.Leaf.{IsLeaf};
 ghost use Rattle.cip_core.specs.Pairs.{IsAssignment};
 ghost use Rattle.cip_core.specs.StepsBack.{whole_of_left, whole_point, LeafFitsBack, leaf_back};
 ghost use Rattle.cip_core.specs.CoreStates.{IsReducedBy};

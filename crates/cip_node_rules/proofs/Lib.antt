@@ -1,3 +1,4 @@
 pub mod BothSides
+pub mod Entries
 pub mod OpenChoices
 pub mod Places

@@ -2,5 +2,6 @@ pub mod BoxLooks
 pub mod OpenChoices
 pub mod OpenColumns
 pub mod RootBounds
+pub mod RowRules
 pub mod SplitRules
-pub use Rattle.cip_linear.specs.Cuts
+pub use Rattle.cip_problem.specs.Cuts

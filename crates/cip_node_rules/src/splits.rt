@@ -2,7 +2,7 @@
 ghost use Rattle.std.specs.Prelude.{◌≡◌, ◌≤◌, ◌<◌, ◌^◌, ◌⊎◌, ◌+ℤ◌, ◌<ℤ◌, ◌≤ℤ◌, pos, true, length, unsigned_abs, IfSome, MatchOption, option_map};
 ghost use Rattle.cip_rational.specs.Rational.{floor, ceil};
 ghost use Rattle.cip_rational.specs.Range.{magnitude, largest};
-ghost use Rattle.cip_problem.specs.Box.{two_wholes_between, sides_at};
+ghost use Rattle.cip_problem.specs.Box.{two_wholes_between};
 ghost use Rattle.cip_problem.specs.Limits.{most_columns};
 ghost use Rattle.cip_node_rules.specs.OpenColumns.{is_open_at, PassesNowhere};
 ghost use Rattle.cip_node_rules.specs.OpenChoices.{IsSettledBox};

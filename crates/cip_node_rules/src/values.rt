@@ -2,7 +2,7 @@
 ghost use Rattle.std.specs.Prelude.{◌≡◌, true, length, MatchBool, if◌then◌else◌};
 ghost use Rattle.cip_rational.specs.Rational.{integer, ceil, IsWhole};
 ghost use Rattle.cip_problem.specs.Points.{AreWhole};
-ghost use Rattle.cip_linear.specs.Cuts.{CanRound, CanRoundAt};
+ghost use Rattle.cip_problem.specs.Cuts.{CanRound, CanRoundAt};
 
 use cip_lin::Frac;
 

@@ -1,6 +1,6 @@
 //! The interfaces. A plugin may tell the list of its callbacks, each with its answer; nothing else is asked of it.
 ghost use Rattle.std.specs.Prelude.{◌≡◌, ℕ, List, [], ◌∷◌, Option, is_ok};
-ghost use Rattle.cip_plugin.specs.Calls.{Call, Ask, Asked, Init, InitSolve, ExitSolve, Exit, Separate, Propagate, Price, Search, Branch, Enforce, OnEvent};
+ghost use Rattle.cip_plugin.specs.Calls.{Call, Asked, Init, InitSolve, ExitSolve, Exit, Separate, Propagate, Price, Search, Branch, Enforce, OnEvent};
 ghost use Rattle.cip_plugin.specs.Answers.{answer, cuts, reductions, priced, guesses, splits, enforced, wishes};
 ghost use Rattle.cip_plugin.specs.Telling.{Heard};
 

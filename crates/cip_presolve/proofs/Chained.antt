@@ -2,11 +2,11 @@
 use Rattle.std.specs.Prelude.{◌≡◌, Result, Ok, Err, IfOk}
 use Rattle.std.proofs.Common.{sym, subst}
 use Rattle.cip_problem.specs.Program.{Program}
-use Rattle.cip_reductions.specs.NarrowedPrograms.{IsStep, IsExactStep}
+use Rattle.cip_search.specs.NarrowedPrograms.{IsStep, IsExactStep}
 use Rattle.cip_presolve.specs.RoundEnds.{RoundEndsRightly}
 use Rattle.cip_presolve.specs.declared.row_looks.RoundEnd.{RoundEnd}
 use Rattle.cip_presolve.specs.declared.row_looks.RoundEnd.TheVariants.{Open}
-use Rattle.cip_reductions.proofs.Pairing.{exact_self, exact_after, exact_step, step_after}
+use Rattle.cip_search.proofs.Pairing.{exact_self, exact_after, exact_step, step_after}
 
 pub stays : (program : Program) → IsExactStep program program
 stays program = exact_self program

@@ -9,9 +9,9 @@ use Rattle.cip_rational.specs.Rational.{ℚ, zeroℚ, ◌≤ℚ◌, ◌<ℚ◌}
 use Rattle.cip_rational.proofs.Rational.Order.{le_of_not_lt}
 use Rattle.cip_problem.specs.Program.{Term, Row}
 use Rattle.cip_problem.specs.Activity.{StandsBelow}
-use Rattle.cip_reductions.specs.Moving.{LetsFall}
-use Rattle.cip_reductions.specs.Forms.{Form}
-use Rattle.cip_postsolve.specs.SpentRows.{IsSpent}
+use Rattle.cip_search.specs.Moving.{LetsFall}
+use Rattle.cip_search.specs.Forms.{Form}
+use Rattle.cip_presolve.specs.SpentRows.{IsSpent}
 use Rattle.cip_presolve.specs.FreeColumns.{turned, FreeFewer, TermFree, TermsFree, RowFree, RowsFree}
 
 -- ---- flags

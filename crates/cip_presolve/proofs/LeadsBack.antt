@@ -2,12 +2,12 @@
 use Rattle.std.proofs.Common.{◌≡◌, Bool, List, sym, subst}
 use Rattle.cip_problem.specs.Program.{Program}
 use Rattle.cip_problem.specs.WellFormed.{IsWellFormed}
-use Rattle.cip_postsolve.specs.Leaf.{at_wholes}
-use Rattle.cip_postsolve.specs.SearchState.{IsWayBack}
-use Rattle.cip_reductions.specs.WholeParts.{with_wholes}
-use Rattle.cip_reductions.specs.Pairs.{IsPair}
-use Rattle.cip_reductions.proofs.Returning.{pair_way_back}
-use Rattle.cip_postsolve.specs.StepsBack.{StepsTaken, point_back, old_number, whole_of_left, way_back}
+use Rattle.cip_presolve.specs.Leaf.{at_wholes}
+use Rattle.cip_presolve.specs.SearchState.{IsWayBack}
+use Rattle.cip_search.specs.WholeParts.{with_wholes}
+use Rattle.cip_search.specs.Pairs.{IsPair}
+use Rattle.cip_search.proofs.Returning.{pair_way_back}
+use Rattle.cip_presolve.specs.StepsBack.{StepsTaken, point_back, old_number, whole_of_left, way_back}
 
 pub leads_back : (program reduced : Program) (steps : StepsTaken) → IsWellFormed program → IsWellFormed reduced → IsPair program reduced (point_back steps) (old_number steps) → steps.whole ≡ program.integral → whole_of_left steps ≡ reduced.integral → IsWayBack program reduced (way_back steps)
 leads_back program reduced steps formed left pair whole wholes =

@@ -11,10 +11,10 @@ use Rattle.cip_problem.specs.Choices.{met}
 use Rattle.cip_problem.proofs.Points.AtPlaces.{satisfied_at}
 use Rattle.cip_problem.proofs.Choices.Meeting.{between_met}
 use Rattle.cip_lin.specs.MetSides.{is_past}
-use Rattle.cip_reductions.specs.NarrowedPrograms.{IsExactStep, IsInfeasible, with_row}
-use Rattle.cip_reductions.specs.RowSteps.{merged_row}
-use Rattle.cip_reductions.proofs.RowSteps.{merged}
-use Rattle.cip_postsolve.proofs.PassedOn.{past_below}
+use Rattle.cip_search.specs.NarrowedPrograms.{IsExactStep, IsInfeasible, with_row}
+use Rattle.cip_search.specs.RowSteps.{merged_row}
+use Rattle.cip_search.proofs.RowSteps.{merged}
+use Rattle.cip_presolve.proofs.Enclosing.{past_below}
 use Rattle.cip_presolve.specs.RowsMet.{sides_of}
 use Rattle.cip_presolve.proofs.Chained.{stays}
 use Rattle.cip_presolve.proofs.Free.{take_whole}

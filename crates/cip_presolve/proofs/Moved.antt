@@ -10,9 +10,9 @@ use Rattle.cip_rational.proofs.Rational.Whole.{IsWhole-integer}
 use Rattle.cip_problem.specs.Program.{Sides, Program}
 use Rattle.cip_problem.specs.Activity.{value_at}
 use Rattle.cip_problem.specs.Box.{Between, sides_at}
-use Rattle.cip_linear.specs.Cuts.{rounded_low, rounded_high}
-use Rattle.cip_linear.proofs.Rounding.{sides_rounded}
-use Rattle.cip_reductions.specs.Moving.{fixed_sides, CanTake}
+use Rattle.cip_problem.specs.Cuts.{rounded_low, rounded_high}
+use Rattle.cip_problem.proofs.Rounding.{sides_rounded}
+use Rattle.cip_search.specs.Moving.{fixed_sides, CanTake}
 use Rattle.cip_presolve.specs.Moves.{MayTake, least_value, greatest_value, CanBe, MovesTo}
 
 -- ---- the value

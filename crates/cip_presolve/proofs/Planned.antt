@@ -15,14 +15,14 @@ use Rattle.cip_problem.specs.Choices.{choice_at, Allows, is_open}
 use Rattle.cip_problem.specs.Points.{AreWhole, IsSatisfied, IsFeasible, cost_of}
 use Rattle.cip_problem.proofs.Box.SideTests.{sides_inside_holds}
 use Rattle.cip_problem.proofs.Points.AtPlaces.{IsInBox-long, in_box_at, whole_at}
-use Rattle.cip_reductions.specs.NarrowedPrograms.{AllSatisfied, IsStep}
-use Rattle.cip_reductions.specs.Forms.{Form, form_value}
-use Rattle.cip_reductions.specs.Moving.{LetsFall, fixed_sides}
-use Rattle.cip_reductions.specs.Pairs.{IsHeldFast, HasNear}
-use Rattle.cip_reductions.proofs.Inside.{AllInside, inside_self}
-use Rattle.cip_reductions.proofs.Pairing.{exact_self, exact_step}
-use Rattle.cip_postsolve.specs.ColumnsOut.{IsIn, GoesByForm, MayGo, MayAllGo, TermsIn, SourcesStay}
-use Rattle.cip_postsolve.specs.SpentRows.{IsSpent, RowGoes, RowsGo}
+use Rattle.cip_search.specs.NarrowedPrograms.{AllSatisfied, IsStep}
+use Rattle.cip_search.specs.Forms.{Form, form_value}
+use Rattle.cip_search.specs.Moving.{LetsFall, fixed_sides}
+use Rattle.cip_search.specs.Pairs.{IsHeldFast, HasNear}
+use Rattle.cip_search.proofs.Inside.{AllInside, inside_self}
+use Rattle.cip_search.proofs.Pairing.{exact_self, exact_step}
+use Rattle.cip_presolve.specs.ColumnsOut.{IsIn, GoesByForm, MayGo, MayAllGo, TermsIn, SourcesStay}
+use Rattle.cip_presolve.specs.SpentRows.{IsSpent, RowGoes, RowsGo}
 use Rattle.cip_presolve.specs.FreeColumns.{turned, TermsFree, RowFree, RowsFree}
 use Rattle.cip_presolve.specs.Moves.{CanBe, MovesTo, target_at, Follows, IsPlan, IsPlanned, IsTaken}
 

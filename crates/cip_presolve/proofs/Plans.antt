@@ -8,11 +8,11 @@ use Rattle.cip_rational.specs.Rational.{ℚ, zeroℚ}
 use Rattle.cip_problem.specs.Program.{Sides, Program}
 use Rattle.cip_problem.specs.Box.{sides_at}
 use Rattle.cip_problem.specs.Choices.{choice_at, is_open}
-use Rattle.cip_reductions.specs.NarrowedPrograms.{with_sides}
-use Rattle.cip_reductions.specs.Forms.{Form}
-use Rattle.cip_reductions.specs.Moving.{fixed_sides}
-use Rattle.cip_postsolve.specs.DraftParts.{IsDraft}
-use Rattle.cip_postsolve.specs.ColumnsOut.{IsIn, MayAllGo, SourcesStay}
+use Rattle.cip_search.specs.NarrowedPrograms.{with_sides}
+use Rattle.cip_search.specs.Forms.{Form}
+use Rattle.cip_search.specs.Moving.{fixed_sides}
+use Rattle.cip_presolve.specs.DraftParts.{IsDraft}
+use Rattle.cip_presolve.specs.ColumnsOut.{IsIn, MayAllGo, SourcesStay}
 use Rattle.cip_presolve.specs.FreeColumns.{RowsFree}
 use Rattle.cip_presolve.specs.Moves.{MovesTo, target_at, Follows, AreTargets, IsEntry, AreEntries, IsPlan, IsPlanned, with_target, IsTaken}
 

@@ -3,9 +3,9 @@ use Rattle.std.proofs.Common.{◌≡◌, ℕ, zero, suc, List, [], ◌∷◌, Op
 use Rattle.std.specs.Prelude.{slice_index_or}
 use Rattle.std.proofs.lemmas.Option.{none-some}
 use Rattle.cip_problem.specs.Program.{Row}
-use Rattle.cip_reductions.specs.Forms.{Form}
-use Rattle.cip_postsolve.specs.ColumnForms.{GivesForm}
-use Rattle.cip_postsolve.specs.SpentRows.{IsSpentBy, IsSpent}
+use Rattle.cip_search.specs.Forms.{Form}
+use Rattle.cip_presolve.specs.ColumnForms.{GivesForm}
+use Rattle.cip_presolve.specs.SpentRows.{IsSpentBy, IsSpent}
 
 gone_at : (forms : List (Option Form)) (column : ℕ) (own : Form) → Some own ≡ slice_index_or forms column None → slice_get forms column ≡ Some (Some own)
 gone_at [] column own e = absurd (none-some own (sym e))

@@ -2,9 +2,9 @@
 use Rattle.std.proofs.Common.{◌≡◌, ℕ, ◌<◌, List, length, slice_get, sym, ap, ◌∙◌, subst}
 use Rattle.cip_problem.specs.Program.{Choice, Sides, Row, Program}
 use Rattle.cip_problem.specs.Choices.{choice_at, is_open}
-use Rattle.cip_reductions.specs.NarrowedPrograms.{IsExactStep}
-use Rattle.cip_reductions.specs.Forms.{Form}
-use Rattle.cip_postsolve.specs.ColumnForms.{RowGives, IsSubstitute}
+use Rattle.cip_search.specs.NarrowedPrograms.{IsExactStep}
+use Rattle.cip_search.specs.Forms.{Form}
+use Rattle.cip_presolve.specs.ColumnForms.{RowGives, IsSubstitute}
 use Rattle.cip_presolve.specs.declared.substituting.Substitution.{Substitution}
 use Rattle.cip_presolve.specs.Substitutions.{IsFound}
 use Rattle.cip_presolve.proofs.Chained.{stays, follows, open_ends}

@@ -3,9 +3,9 @@ use Rattle.std.specs.Prelude.{◌≡◌, ◌⊎◌, ℕ, Bool, true, false, List
 use Rattle.std.specs.List.{AllByRecursion}
 use Rattle.cip_rational.specs.Rational.{ℚ, negate}
 use Rattle.cip_problem.specs.Program.{Term, Row}
-use Rattle.cip_reductions.specs.Forms.{Form}
-use Rattle.cip_reductions.specs.Moving.{LetsFall}
-use Rattle.cip_postsolve.specs.SpentRows.{IsSpent}
+use Rattle.cip_search.specs.Forms.{Form}
+use Rattle.cip_search.specs.Moving.{LetsFall}
+use Rattle.cip_presolve.specs.SpentRows.{IsSpent}
 
 -- a number, with the other sign where a column is to rise: a value rises as its negative falls
 abbrev pub turned : Bool → ℚ → ℚ

@@ -6,11 +6,11 @@ use Rattle.cip_problem.specs.Program.{Sides, Program}
 use Rattle.cip_problem.specs.Activity.{value_at}
 use Rattle.cip_problem.specs.Box.{Between, sides_at, sides_inside}
 use Rattle.cip_problem.specs.Choices.{choice_at, is_open}
-use Rattle.cip_linear.specs.Cuts.{rounded_low, rounded_high}
-use Rattle.cip_reductions.specs.NarrowedPrograms.{with_sides}
-use Rattle.cip_reductions.specs.Forms.{Form}
-use Rattle.cip_reductions.specs.Moving.{fixed_sides, CanTake}
-use Rattle.cip_postsolve.specs.ColumnsOut.{IsIn}
+use Rattle.cip_problem.specs.Cuts.{rounded_low, rounded_high}
+use Rattle.cip_search.specs.NarrowedPrograms.{with_sides}
+use Rattle.cip_search.specs.Forms.{Form}
+use Rattle.cip_search.specs.Moving.{fixed_sides, CanTake}
+use Rattle.cip_presolve.specs.ColumnsOut.{IsIn}
 use Rattle.cip_presolve.specs.FreeColumns.{turned, RowsFree}
 
 -- the least value that a low side leaves a column, and the greatest that a high side does, whole where the column is

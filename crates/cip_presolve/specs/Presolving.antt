@@ -1,11 +1,11 @@
 -- What presolve answers.
 use Rattle.cip_problem.specs.Program.{Program}
 use Rattle.cip_problem.specs.WellFormed.{IsWellFormed}
-use Rattle.cip_postsolve.specs.SearchState.{IsWayBack}
-use Rattle.cip_reductions.specs.NarrowedPrograms.{IsInfeasible}
-use Rattle.cip_postsolve.specs.StepsBack.{way_back}
-use Rattle.cip_postsolve.specs.declared.presolved.Presolved.{Presolved}
-use Rattle.cip_postsolve.specs.PresolvedPrograms.{IsPresolved, IsExactlyPresolved}
+use Rattle.cip_presolve.specs.SearchState.{IsWayBack}
+use Rattle.cip_search.specs.NarrowedPrograms.{IsInfeasible}
+use Rattle.cip_presolve.specs.StepsBack.{way_back}
+use Rattle.cip_presolve.specs.declared.left_programs.Presolved.{Presolved}
+use Rattle.cip_presolve.specs.PresolvedPrograms.{IsPresolved, IsExactlyPresolved}
 use Rattle.cip_presolve.specs.declared.presolved.PresolveEnd.{PresolveEnd}
 use Rattle.cip_presolve.specs.declared.presolved.PresolveEnd.TheVariants.{Reduced, NoPoint}
 

@@ -1,7 +1,7 @@
 -- An equality of two terms by which a column is substituted.
 use Rattle.std.specs.Prelude.{◌<◌, length}
 use Rattle.cip_problem.specs.Program.{Program}
-use Rattle.cip_postsolve.specs.ColumnForms.{RowGives, IsSubstitute}
+use Rattle.cip_presolve.specs.ColumnForms.{RowGives, IsSubstitute}
 use Rattle.cip_presolve.specs.declared.substituting.Substitution.{Substitution}
 
 -- a row of the program gives the column's form, and column and source may be substituted

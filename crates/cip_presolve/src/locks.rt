@@ -3,13 +3,13 @@ ghost use Rattle.std.specs.Prelude.{◌≡◌, ◌<◌, All, IfOk, IfSome, lengt
 ghost use Rattle.std.specs.Bool.{OnTrue};
 ghost use Rattle.cip_rational.specs.Rational.{zeroℚ, ◌≤ℚ◌};
 ghost use Rattle.cip_problem.specs.Activity.{StandsBelow};
-ghost use Rattle.cip_reductions.specs.Moving.{LetsFall};
+ghost use Rattle.cip_search.specs.Moving.{LetsFall};
 ghost use Rattle.cip_presolve.specs.FreeColumns.{turned, FreeFewer, TermFree, TermsFree, RowFree, RowsFree};
 
+use crate::forms::ColumnForm;
 use crate::spent::is_spent;
 use cip_frac::Frac;
 use cip_lin::{Row, Term};
-use cip_postsolve::ColumnForm;
 use std::alloc::{AllocError, Global};
 
 /// Whether a coefficient isn't above 0.

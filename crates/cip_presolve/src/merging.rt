@@ -2,12 +2,14 @@
 ghost use Rattle.std.specs.Prelude.{◌≡◌, ◌<◌, length, IfOk};
 ghost use Rattle.std.specs.Bool.{OnTrue};
 ghost use Rattle.cip_problem.specs.Choices.{met};
-ghost use Rattle.cip_reductions.specs.NarrowedPrograms.{IsExactStep};
-ghost use Rattle.cip_postsolve.specs.RuleEnds.{EndsRightly};
+ghost use Rattle.cip_search.specs.NarrowedPrograms.{IsExactStep};
+ghost use Rattle.cip_presolve.specs.RuleEnds.{EndsRightly};
 ghost use Rattle.cip_presolve.specs.RowsMet.{sides_of};
 
+use crate::drafts::Draft;
+use crate::row_copies::row_of_terms;
+use crate::rules::Outcome;
 use cip_lin::{Row, Sides, Term};
-use cip_postsolve::{Draft, Outcome, row_of_terms};
 use std::alloc::{AllocError, Global};
 
 /// Whether two terms are the same.

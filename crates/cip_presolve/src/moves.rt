@@ -5,16 +5,17 @@ ghost use Rattle.std.specs.Prelude.{None, Some, IfOk, IfSome};
 ghost use Rattle.std.specs.Bool.{OnTrue};
 ghost use Rattle.cip_rational.specs.Rational.{ℚ};
 ghost use Rattle.cip_problem.specs.Choices.{choice_at, is_open};
-ghost use Rattle.cip_reductions.specs.NarrowedPrograms.{IsStep};
-ghost use Rattle.cip_postsolve.specs.ColumnsOut.{MayAllGo, SourcesStay};
-ghost use Rattle.cip_postsolve.specs.SpentRows.{RowsGo};
+ghost use Rattle.cip_search.specs.NarrowedPrograms.{IsStep};
+ghost use Rattle.cip_presolve.specs.ColumnsOut.{MayAllGo, SourcesStay};
+ghost use Rattle.cip_presolve.specs.SpentRows.{RowsGo};
 ghost use Rattle.cip_presolve.specs.Moves.{MayTake, least_value, greatest_value, MovesTo, target_at, Follows};
 ghost use Rattle.cip_presolve.specs.Moves.{AreTargets, IsEntry, AreEntries, IsPlanned, with_target, IsTaken};
 
+use crate::drafts::Draft;
+use crate::forms::ColumnForm;
 use crate::locks::free_columns;
 use cip_frac::{Frac, Wide};
 use cip_lin::Sides;
-use cip_postsolve::{ColumnForm, Draft};
 use std::alloc::{AllocError, Global};
 
 /// The least value that a low side leaves a column.

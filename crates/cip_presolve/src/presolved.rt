@@ -2,10 +2,11 @@
 ghost use Rattle.std.specs.Prelude.{IfOk};
 ghost use Rattle.cip_presolve.specs.Presolving.{PresolveIsRight, PresolveAllIsRight, PresolvedLeadsBack};
 
+use crate::drafts::Draft;
+use crate::left_programs::{Presolved, compacted};
 use crate::rounds::{reduce, reduce_exactly};
 use crate::row_looks::{Place, RoundEnd};
 use cip_model::Program;
-use cip_postsolve::{Draft, Presolved, compacted};
 use std::alloc::{AllocError, Global};
 
 /// What presolve comes to.

@@ -1,15 +1,17 @@
 //! Steps are taken until none applies.
 ghost use Rattle.std.specs.Prelude.{IfOk, length, ◌<◌, ◌≤◌, ◌≡◌};
 ghost use Rattle.cip_problem.specs.Limits.{most_rows};
-ghost use Rattle.cip_reductions.specs.NarrowedPrograms.{IsStep, IsExactStep};
+ghost use Rattle.cip_search.specs.NarrowedPrograms.{IsStep, IsExactStep};
 ghost use Rattle.cip_presolve.specs.RoundEnds.{RoundEndsRightly};
 
+use crate::drafts::Draft;
 use crate::keys::sorted_keys;
+use crate::leaving::forms_out;
 use crate::queues::Work;
 use crate::row_looks::{Place, RoundEnd, look_at, merge_pair, open_after};
+use crate::rules::Outcome;
 use crate::substituting::substitute_all;
 use crate::try_moves;
-use cip_postsolve::{Draft, Outcome, forms_out};
 use std::alloc::{AllocError, Global};
 
 /// The most looks at rows between two rounds over all rows or columns: each step lets no more rows wait than there are.

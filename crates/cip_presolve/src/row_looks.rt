@@ -1,15 +1,19 @@
 //! What looking at one row, or at two with equal terms, comes to.
 ghost use Rattle.std.specs.Prelude.{IfOk, length, ◌<◌, ◌≡◌};
-ghost use Rattle.cip_reductions.specs.NarrowedPrograms.{IsExactStep};
-ghost use Rattle.cip_postsolve.specs.Taken.{IsEnclosed};
+ghost use Rattle.cip_search.specs.NarrowedPrograms.{IsExactStep};
+ghost use Rattle.cip_presolve.specs.Taken.{IsEnclosed};
 ghost use Rattle.cip_presolve.specs.RoundEnds.{RoundEndsRightly};
 ghost use Rattle.cip_presolve.specs.declared.row_looks.RoundEnd.TheVariants.{Open};
 
+use crate::drafts::Draft;
 use crate::keys::{are_alike, row_of};
+use crate::left_rows::says_nothing;
+use crate::open::open_places;
 use crate::queues::Work;
+use crate::rules::Outcome;
+use crate::taking::{row_extent, try_implied};
 use crate::try_merge;
 use cip_lin::Sides;
-use cip_postsolve::{Draft, Outcome, open_places, row_extent, says_nothing, try_implied};
 use std::alloc::{AllocError, Global};
 
 /// A row or a column at which no point is feasible.

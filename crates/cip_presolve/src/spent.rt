@@ -1,10 +1,10 @@
 //! Rows that go with a column that is left out.
 ghost use Rattle.std.specs.Prelude.{◌≡◌, None, slice_index_or};
 ghost use Rattle.std.specs.Bool.{OnTrue};
-ghost use Rattle.cip_postsolve.specs.SpentRows.{IsSpentBy, IsSpent};
+ghost use Rattle.cip_presolve.specs.SpentRows.{IsSpentBy, IsSpent};
 
+use crate::forms::{ColumnForm, form_in};
 use cip_lin::Row;
-use cip_postsolve::{ColumnForm, form_in};
 
 /// The form by which a column is left out; `None` where it isn't.
 fn form_on(forms: &[Option<ColumnForm>], column: u32) -> Option<ColumnForm>

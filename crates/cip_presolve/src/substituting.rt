@@ -1,17 +1,18 @@
 //! Columns are substituted by the forms that equalities of two terms give them, each row once.
 ghost use Rattle.std.specs.Prelude.{IfOk, IfSome, length, ◌<◌, ◌≤◌, ◌≡◌, ◌^◌};
 ghost use Rattle.cip_problem.specs.Limits.{most_rows};
-ghost use Rattle.cip_reductions.specs.NarrowedPrograms.{IsExactStep};
-ghost use Rattle.cip_postsolve.specs.ColumnForms.{IsSubstitute};
+ghost use Rattle.cip_search.specs.NarrowedPrograms.{IsExactStep};
+ghost use Rattle.cip_presolve.specs.ColumnForms.{IsSubstitute};
 ghost use Rattle.cip_presolve.specs.RoundEnds.{RoundEndsRightly};
 ghost use Rattle.cip_presolve.specs.Substitutions.{IsFound};
 
+use crate::drafts::Draft;
+use crate::forms::{ColumnForm, form_at, is_substitute};
 use crate::queues::Work;
 use crate::row_looks::{Place, RoundEnd, tell};
+use crate::row_steps::{move_cost, take_sides, try_replace};
+use crate::rules::Outcome;
 use cip_lin::Term;
-use cip_postsolve::{
-    ColumnForm, Draft, Outcome, form_at, is_substitute, move_cost, take_sides, try_replace,
-};
 use std::alloc::{AllocError, Global};
 
 /// A column, and the form that a row gives it.

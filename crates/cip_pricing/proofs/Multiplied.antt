@@ -15,9 +15,9 @@ use Rattle.cip_problem.specs.Program.{Sides, Row, Program}
 use Rattle.cip_problem.specs.Activity.{activity, value_at}
 use Rattle.cip_problem.specs.Box.{Between, IsInBox}
 use Rattle.cip_problem.specs.BoxBound.{sum_if_both, product_at}
-use Rattle.cip_linear.specs.LinearProgram.{LinearProgram}
-use Rattle.cip_linear.specs.Multipliers.{OnVariables, paired, activities, IsUsed, AllUsed, row_sides, UsesSides, SumsTo}
-use Rattle.cip_linear.proofs.Aggregates.{same_form}
+use Rattle.cip_problem.specs.LinearProgram.{LinearProgram}
+use Rattle.cip_problem.specs.Multipliers.{OnVariables, paired, activities, IsUsed, AllUsed, row_sides, UsesSides, SumsTo}
+use Rattle.cip_problem.proofs.Aggregates.{same_form}
 use Rattle.cip_pricing.specs.Decomposition.{Owner, Decomposition, picked, master_rows}
 use Rattle.cip_pricing.specs.Mixtures.{Held, total}
 use Rattle.cip_pricing.specs.LeastCosts.{side_total, row_total, AreRests, sum_below, price_total, ShowsLeast}

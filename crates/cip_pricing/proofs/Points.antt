@@ -10,7 +10,7 @@ use Rattle.cip_problem.specs.Activity.{activity}
 use Rattle.cip_problem.specs.Box.{Between, IsInBox}
 use Rattle.cip_problem.specs.Points.{IsSatisfied}
 use Rattle.cip_problem.proofs.Points.AtPlaces.{IsInBox-long}
-use Rattle.cip_linear.specs.LinearProgram.{LinearProgram, IsPoint}
+use Rattle.cip_problem.specs.LinearProgram.{LinearProgram, IsPoint}
 use Rattle.cip_pricing.specs.Decomposition.{Decomposition, picked, IsDecomposed, master_rows, IsBlockPoint}
 use Rattle.cip_pricing.specs.Mixtures.{Held, total}
 use Rattle.cip_pricing.specs.MasterForms.{held_owners, master_form, mixed, weight_sides}

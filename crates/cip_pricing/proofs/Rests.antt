@@ -14,7 +14,7 @@ use Rattle.cip_problem.specs.Activity.{activity}
 use Rattle.cip_problem.specs.BoxBound.{sum_if_both, product_at}
 use Rattle.cip_problem.specs.Box.{Between}
 use Rattle.cip_problem.specs.Points.{IsSatisfied}
-use Rattle.cip_linear.proofs.Aggregates.{same_form}
+use Rattle.cip_problem.proofs.Aggregates.{same_form}
 use Rattle.cip_pricing.specs.LeastCosts.{side_product, side_total, row_total, AreRests}
 
 -- ---- sides

@@ -10,7 +10,7 @@ use Rattle.cip_rational.proofs.Rational.Ring.{+ℚ-zero, zero-+ℚ, *ℚ-zero, z
 use Rattle.cip_rational.proofs.Linear.{linear_same}
 use Rattle.cip_problem.specs.Program.{Sides, Row}
 use Rattle.cip_problem.specs.Activity.{activity, value_at}
-use Rattle.cip_linear.specs.Multipliers.{activities}
+use Rattle.cip_problem.specs.Multipliers.{activities}
 use Rattle.cip_pricing.specs.Decomposition.{Owner, picked}
 use Rattle.cip_pricing.specs.Mixtures.{Held, total}
 use Rattle.cip_pricing.specs.LeastCosts.{row_total}

@@ -12,7 +12,7 @@ use Rattle.cip_rational.proofs.Rational.Monotone.{zero-lt-one}
 use Rattle.cip_rational.proofs.Linear.{linear_le, linear_same, linear_absurd}
 use Rattle.cip_problem.specs.Activity.{activity, value_at}
 use Rattle.cip_problem.specs.Box.{Between}
-use Rattle.cip_linear.specs.Examples.{half, unit_box}
+use Rattle.cip_problem.specs.LinearExamples.{half, unit_box}
 use Rattle.cip_pricing.specs.Decomposition.{picked, IsDecomposed, IsBlockPoint}
 use Rattle.cip_pricing.specs.Mixtures.{Held, IsConvex, IsPointAmong, IsMixture}
 use Rattle.cip_pricing.specs.LeastCosts.{side_total, row_total, ShowsLeast}

@@ -3,7 +3,7 @@
 use Rattle.std.specs.Prelude.{◌≡◌, ℕ, true, false, List, [], ◌∷◌, None, Some}
 use Rattle.cip_rational.specs.Rational.{ℚ, whole, zeroℚ, oneℚ}
 use Rattle.cip_problem.specs.Program.{Row, Program}
-use Rattle.cip_linear.specs.Examples.{half, on_columns, unit_box}
+use Rattle.cip_problem.specs.LinearExamples.{half, on_columns, unit_box}
 use Rattle.cip_pricing.specs.Decomposition.{Decomposition, IsDecomposed, conditions_of, master_rows, IsBlockPoint}
 use Rattle.cip_pricing.specs.Mixtures.{Held, IsMixture}
 use Rattle.cip_pricing.specs.LeastCosts.{side_total, ShowsLeast}

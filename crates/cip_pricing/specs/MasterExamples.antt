@@ -4,8 +4,8 @@
 use Rattle.std.specs.Prelude.{ℕ, [], ◌∷◌, Some}
 use Rattle.cip_rational.specs.Rational.{whole, oneℚ}
 use Rattle.cip_problem.specs.Program.{Row}
-use Rattle.cip_linear.specs.LinearProgram.{LinearProgram}
-use Rattle.cip_linear.specs.Examples.{unit_box}
+use Rattle.cip_problem.specs.LinearProgram.{LinearProgram}
+use Rattle.cip_problem.specs.LinearExamples.{unit_box}
 use Rattle.cip_pricing.specs.MasterForms.{weight_sides}
 use Rattle.cip_pricing.specs.Examples.{at_most_three, example, two_blocks, held_in_both}
 use Rattle.cip_pricing.specs.MasterPrograms.{IsMasterProgram}

@@ -7,7 +7,7 @@ use Rattle.cip_rational.specs.Rational.{ℚ, zeroℚ, oneℚ}
 use Rattle.cip_rational.specs.Sums.{dot}
 use Rattle.cip_problem.specs.Program.{Sides, Row, Program}
 use Rattle.cip_problem.specs.Activity.{activity}
-use Rattle.cip_linear.specs.LinearProgram.{LinearProgram}
+use Rattle.cip_problem.specs.LinearProgram.{LinearProgram}
 use Rattle.cip_pricing.specs.Decomposition.{Owner, Decomposition, picked, master_rows}
 use Rattle.cip_pricing.specs.Mixtures.{Held}
 use Rattle.cip_pricing.specs.MasterForms.{master_form, master_box}

@@ -4,8 +4,8 @@ use Rattle.std.specs.List.{AllByRecursion}
 use Rattle.cip_rational.specs.Rational.{ℚ}
 use Rattle.cip_rational.specs.Sums.{dot}
 use Rattle.cip_problem.specs.Program.{Sides, Program}
-use Rattle.cip_linear.specs.LinearProgram.{LinearProgram, IsPoint}
-use Rattle.cip_linear.specs.Multipliers.{OnVariables, paired, UsesSides, SumsTo}
+use Rattle.cip_problem.specs.LinearProgram.{LinearProgram, IsPoint}
+use Rattle.cip_problem.specs.Multipliers.{OnVariables, paired, UsesSides, SumsTo}
 use Rattle.cip_pricing.specs.Decomposition.{Decomposition, picked, IsDecomposed, master_rows, IsBlockPoint}
 use Rattle.cip_pricing.specs.Mixtures.{Held, IsMixture, MeetsMaster}
 use Rattle.cip_pricing.specs.LeastCosts.{ShowsLeast}

@@ -1,9 +1,24 @@
 mod SemiTried
+pub mod Aggregates
+pub mod Bounds
 pub mod Box
 pub mod BoxBound
+pub mod Certificates
 pub mod Choices
+pub mod Covers
+pub mod CutTried
+pub mod Emptiness
+pub mod Implied
+pub mod Improving
+pub mod LinearTried
 pub mod Log
+pub mod Parts
 pub mod PassedOn
 pub mod Points
+pub mod Rays
+pub mod Reductions
+pub mod Rounding
+pub mod Rows
+pub mod Splits
 pub mod Tried
 pub mod Wholes

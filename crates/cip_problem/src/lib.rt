@@ -1,7 +1,10 @@
-//! What a program, a point, a cost and a bound are: the definitions that the contracts of the
-//! crates above speak of. They know nothing of the code; `specs/` holds them.
+//! What a program, a point, a cost and a bound are; linear programs, and the rows that sums of rows and bounds imply:
+//! the definitions that the contracts of the crates above speak of. They know nothing of the code; `specs/` holds them.
 // Each function here does nothing. Its contract is one of the laws of the definitions, so that the check proves it.
 #![tactic(auto)]
+
+pub mod cuts;
+pub mod linear_laws;
 
 ghost use Rattle.cip_problem.specs.Examples.{ProgramExamples, SemiExamples};
 ghost use Rattle.cip_problem.specs.Statements.{HalvesCover, HalvesWithin, HalvesCount, SidesMeet, ChoicesAreMade, LogsGiveNodes, BoxBoundHolds, InnerBoxes, SideTests, LogsAreShort};

@@ -5,10 +5,10 @@ use Rattle.std.proofs.lemmas.List.{length-map, take_all}
 use Rattle.std.proofs.lemmas.Option.{none-some, same_Some}
 use Rattle.cip_rational.specs.Rational.{ℚ}
 use Rattle.cip_rational.specs.NumberText.{fraction_text}
-use Rattle.cip_leaves.specs.Leaf.{at_wholes}
+use Rattle.cip_search.specs.Leaf.{at_wholes}
 use Rattle.cip_problem.specs.Program.{Choice}
 use Rattle.cip_problem.specs.Choices.{is_open}
-use Rattle.cip_answers.specs.Figures.{line, point_lines, leaf_name, choice_text, choice_lines}
+use Rattle.cip_search.specs.Figures.{line, point_lines, leaf_name, choice_text, choice_lines}
 
 -- one more whole column
 pub wholes_more : (whole : List Bool) (names : List (List ℕ)) (n : ℕ) (name : List ℕ) → n < length whole → get_or whole n false ≡ true → slice_get names n ≡ Some name → at_wholes (take (suc n) whole) (take (suc n) names) ≡ at_wholes (take n whole) (take n names) ++ name ∷ []

@@ -2,7 +2,7 @@
 use Rattle.std.proofs.Common.{◌≡◌, ℕ, List, [], ◌∷◌, ◌++◌, append_assoc}
 use lib.Chars.{codes}
 use Rattle.cip_rational.specs.NumberText.{natural_text}
-use Rattle.cip_answers.specs.Figures.{line}
+use Rattle.cip_search.specs.Figures.{line}
 
 parts_of : (word a b c : List ℕ) → word ++ (a ++ 32 ∷ b ++ 32 ∷ c) ≡ (word ++ a) ++ 32 ∷ b ++ 32 ∷ c
 parts_of word a b c = simp append_assoc

@@ -1,6 +1,6 @@
 -- The lines of a trace that are written one after another.
 use Rattle.std.proofs.Common.{◌≡◌, ◌+◌, ◌<◌, ℕ, List, [], ◌∷◌, ◌++◌, length, take, drop, get_or, map, zero, suc, refl, sym, ap, ◌∙◌, arith, append_assoc, append-nil}
-use Rattle.cip_answers.specs.TraceTexts.{Traced, trace_line, trace_lines}
+use Rattle.cip_search.specs.TraceTexts.{Traced, trace_line, trace_lines}
 use Rattle.cip_report.proofs.WritingLemmas.{three_parts}
 
 -- the lines by those before one, its own and those after it

@@ -10,7 +10,7 @@ use Rattle.std.specs.Prelude.{pos}
 use Rattle.cip_rational.specs.Rational.{integer, denominator}
 use Rattle.cip_rational.proofs.Rational.Lowest.{numerator-integer, denominator-integer}
 use Rattle.cip_rational.specs.NumberText.{natural_text, integer_text, denominator_text, fraction_text}
-use Rattle.cip_answers.specs.Figures.{line, point_lines, ray_name, ray_lines}
+use Rattle.cip_search.specs.Figures.{line, point_lines, ray_name, ray_lines}
 use Rattle.cip_report.specs.Writing.{Passes, Writes}
 
 -- the name of what has none

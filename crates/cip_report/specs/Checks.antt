@@ -7,7 +7,7 @@ use Rattle.cip_problem.specs.Activity.{value_at}
 use Rattle.cip_problem.specs.Box.{no_sides, sides_at}
 use Rattle.cip_problem.specs.Choices.{choice_at}
 use Rattle.cip_problem.specs.Points.{printed}
-use Rattle.cip_answers.specs.Checks.{Broken, Below, Above, Checked, Feasible, BreaksBound, BreaksWhole, BreaksRow, WideRow, WideCost}
+use Rattle.cip_search.specs.Checks.{Broken, Below, Above, Checked, Feasible, BreaksBound, BreaksWhole, BreaksRow, WideRow, WideCost}
 use Rattle.cip_model.specs.declared.verdicts.Place.TheVariants.{Row as AtRow, Cost}
 use Rattle.cip_model.specs.declared.verdicts.Verdict.{Verdict}
 use Rattle.cip_model.specs.declared.verdicts.Verdict.TheVariants.{Feasible as IsFeasible, BreaksBound as OutsideBound, BreaksWhole as NotWhole, BreaksRow as OutsideRow, Wide}

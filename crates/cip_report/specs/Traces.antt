@@ -2,7 +2,7 @@
 use lib.Chars.{codes}
 use Rattle.std.specs.Prelude.{ℕ, List, [], ◌∷◌, ◌++◌, map, Option, None, Some, slice_get}
 use Rattle.cip_rational.specs.NumberText.{natural_text}
-use Rattle.cip_answers.specs.TraceTexts.{Traced}
+use Rattle.cip_search.specs.TraceTexts.{Traced}
 use Rattle.cip_events.specs.Words.{text_of_word}
 use Rattle.cip_events.specs.declared.words.Word.{Word}
 use Rattle.cip_events.specs.declared.words.Word.TheVariants.{Dropped, Refused}

@@ -1,6 +1,6 @@
 //! The figures of an answer.
 ghost use Rattle.std.specs.Prelude.{◌≡◌, ℕ, List};
-ghost use Rattle.cip_answers.specs.Figures.{status_word, exit_status};
+ghost use Rattle.cip_search.specs.Figures.{status_word, exit_status};
 ghost use Rattle.cip_report.specs.Answers.{status_of};
 
 use cip_events::Trace;

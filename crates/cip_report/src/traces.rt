@@ -2,7 +2,7 @@
 ghost use Rattle.std.specs.Prelude.{◌≡◌, ◌++◌, ◌∷◌, map, slice_get};
 ghost use Rattle.cip_io.specs.Faults.{CountsFaults};
 ghost use Rattle.cip_rational.specs.NumberText.{natural_text};
-ghost use Rattle.cip_answers.specs.TraceTexts.{traced_front, trace_line, trace_lines};
+ghost use Rattle.cip_search.specs.TraceTexts.{traced_front, trace_line, trace_lines};
 ghost use Rattle.cip_report.specs.Traces.{behind_word, word_text, name_or_mark, traced_line, kept_lines};
 ghost use Rattle.cip_report.specs.Writing.{Writes};
 

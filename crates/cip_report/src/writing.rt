@@ -1,15 +1,15 @@
 //! Answers as bytes, written to a sink from a fixed buffer.
 ghost use Rattle.std.specs.Prelude.{◌≡◌, ◌<◌, ◌++◌, ℕ, true, map, length, option_map, IfSome, MatchResult};
 ghost use lib.Chars.{codes};
-ghost use Rattle.cip_leaves.specs.Leaf.{at_wholes};
+ghost use Rattle.cip_search.specs.Leaf.{at_wholes};
 ghost use Rattle.cip_io.specs.Faults.{CountsFaults};
 ghost use Rattle.cip_io.specs.Sink.{TakesAll, PushesPart};
 ghost use Rattle.cip_rational.specs.NumberText.{natural_text, fraction_text};
 ghost use Rattle.cip_problem.specs.WellFormed.{columns};
 ghost use Rattle.cip_problem.specs.Points.{printed};
 ghost use Rattle.cip_problem.specs.Choices.{choice_at, is_open};
-ghost use Rattle.cip_answers.specs.Figures.{line, figure_text, point_lines, cost_lines, held_lines, leaf_name, choice_text, choice_lines, leaf_lines, ray_name, ray_lines, overflow_text, shown_lines, figure_lines, held_cost, names_of};
-ghost use Rattle.cip_answers.specs.TraceTexts.{traced_end, traced_text};
+ghost use Rattle.cip_search.specs.Figures.{line, figure_text, point_lines, cost_lines, held_lines, leaf_name, choice_text, choice_lines, leaf_lines, ray_name, ray_lines, overflow_text, shown_lines, figure_lines, held_cost, names_of};
+ghost use Rattle.cip_search.specs.TraceTexts.{traced_end, traced_text};
 ghost use Rattle.cip_report.specs.Answers.{figures_of, printed_held, status_of, overflow_of, StandsAmong, EndedFits, AnswerFits};
 ghost use Rattle.cip_report.specs.Traces.{kept_lines};
 ghost use Rattle.cip_report.specs.Writing.{Writes};

@@ -4,9 +4,9 @@ use Rattle.std.proofs.lemmas.List.{drop_all, drop_more}
 use Rattle.cip_rational.specs.Rational.{ℚ, zeroℚ, is_zero}
 use Rattle.cip_problem.specs.Program.{Term, Row}
 use Rattle.cip_problem.specs.RowTerms.{column_at, IsAboveLast}
-use Rattle.cip_linear.specs.Cuts.{terms_from}
+use Rattle.cip_problem.specs.Cuts.{terms_from}
 use Rattle.cip_rational.proofs.Rational.Order.{test_of_le, ≤ℚ_refl}
-use Rattle.cip_linear.proofs.Rows.{zero_of_test}
+use Rattle.cip_problem.proofs.Rows.{zero_of_test}
 
 -- a coefficient that isn't 0 gives a term, and 0 gives none
 test_of_zero : is_zero zeroℚ ≡ true

@@ -5,10 +5,10 @@ use Rattle.cip_rational.specs.Rational.{ℚ}
 use Rattle.cip_problem.specs.Program.{Sides, Row, Program}
 use Rattle.cip_problem.specs.Points.{IsSatisfied, IsFeasible}
 use Rattle.cip_cert.specs.Aggregate.{Inequality}
-use Rattle.cip_linear.specs.Improving.{IsValidRow, IsValid, IsNoDearer}
-use Rattle.cip_linear.specs.Cuts.{row_of}
-use Rattle.cip_linear.proofs.Improving.{holds_later}
-use Rattle.cip_linear.proofs.Rows.{row_satisfied}
+use Rattle.cip_problem.specs.Improving.{IsValidRow, IsValid, IsNoDearer}
+use Rattle.cip_problem.specs.Cuts.{row_of}
+use Rattle.cip_problem.proofs.Improving.{holds_later}
+use Rattle.cip_problem.proofs.Rows.{row_satisfied}
 use Rattle.cip_cert.specs.declared.rows.PoolRow.{PoolRow}
 use Rattle.cip_cert.specs.Lent.{Fits, Multiples}
 use Rattle.cip_cert.specs.Checks.{derived}

@@ -4,4 +4,4 @@ pub mod PoolCodes
 pub mod RowIndex
 pub mod RowPools
 pub mod Statements
-pub use Rattle.cip_linear.specs.Improving
+pub use Rattle.cip_problem.specs.Improving

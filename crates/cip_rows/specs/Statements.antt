@@ -5,8 +5,8 @@ use Rattle.cip_rational.specs.Rational.{ℚ}
 use Rattle.cip_problem.specs.Program.{Sides, Row, Program}
 use Rattle.cip_problem.specs.Points.{IsFeasible}
 use Rattle.cip_cert.specs.Aggregate.{Inequality}
-use Rattle.cip_linear.specs.Improving.{IsValidRow, IsNoDearer}
-use Rattle.cip_linear.specs.Cuts.{row_of}
+use Rattle.cip_problem.specs.Improving.{IsValidRow, IsNoDearer}
+use Rattle.cip_problem.specs.Cuts.{row_of}
 use Rattle.cip_cert.specs.declared.rows.PoolRow.{PoolRow}
 use Rattle.cip_cert.specs.Lent.{Lent, Fits, Multiples}
 use Rattle.cip_cert.specs.Checks.{derived}

@@ -1,7 +1,7 @@
 //! Rows made of coefficients, and rows compared.
 ghost use Rattle.std.specs.Prelude.{◌≡◌, ◌≤◌, ◌↔◌, IsTrue, length, MatchResult};
 ghost use Rattle.cip_problem.specs.Limits.{most_columns};
-ghost use Rattle.cip_linear.specs.Cuts.{row_of};
+ghost use Rattle.cip_problem.specs.Cuts.{row_of};
 ghost use Rattle.cip_cert.specs.RowFault.{RowFault};
 
 use cip_cert::{Frac, Row, RowFault, Term};

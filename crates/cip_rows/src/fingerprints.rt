@@ -1,6 +1,6 @@
 //! Fingerprints of rows: equal rows have the same.
 ghost use Rattle.std.specs.Prelude.{◌≡◌, ◌<◌, ◌^◌, ◌%◌};
-ghost use Rattle.cip_rows.specs.Mixed.{modulus, mixed, with_number, with_term, with_terms, with_side, fingerprint};
+ghost use Rattle.cip_rows.specs.Mixed.{modulus, mixed, with_number, with_terms, fingerprint};
 
 use cip_cert::{Frac, Row, Term};
 

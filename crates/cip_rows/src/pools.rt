@@ -2,7 +2,7 @@
 ghost use Rattle.std.specs.Prelude.{◌≡◌, ◌<◌, ◌≤◌, ◌==◌, Bool, [], length, vec_len, vec_capacity, not, drop, ◌-◌, MatchOption, MatchResult, false, IsTrue, ◌↔◌};
 ghost use Rattle.std.specs.List.{filter};
 ghost use Rattle.cip_problem.specs.Activity.{StandsBelow};
-ghost use Rattle.cip_linear.specs.Cuts.{row_of};
+ghost use Rattle.cip_problem.specs.Cuts.{row_of};
 ghost use Rattle.cip_cert.specs.Resting.{released};
 ghost use Rattle.cip_rows.specs.Mixed.{fingerprint};
 ghost use Rattle.cip_rows.specs.RowIndex.{AreSorted, IsEntered};

@@ -2,8 +2,8 @@
 use crate::fields::key_and_value;
 use crate::lines::put_lines;
 use crate::setup::Setup;
-use cip_builtins::Words;
 use cip_io::MemoryStore;
+use cip_main::Words;
 use std::alloc::{AllocError, Global};
 use std::str::Split;
 

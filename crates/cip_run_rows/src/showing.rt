@@ -2,8 +2,8 @@
 use crate::calling::{Outcome, outcome_of};
 use crate::row::Row;
 use crate::setup::Setup;
-use cip_builtins::{Log, Mark};
 use cip_io::MemorySink;
+use cip_main::{Log, Mark};
 use cip_tree::{End, Logged};
 use std::alloc::{AllocError, Global};
 use std::io;

@@ -3,8 +3,8 @@ use Rattle.std.proofs.Common.{inr, ℕ, List, [], Option, None, Some, IfSome, re
 use Rattle.cip_rational.specs.Rational.{ℚ}
 use Rattle.cip_problem.specs.Program.{Program, Sides}
 use Rattle.cip_problem.specs.Points.{IsFeasible}
-use Rattle.cip_linear.specs.Improving.{IsBoundIn}
-use Rattle.cip_answers.specs.Searched.{IsCovered}
+use Rattle.cip_problem.specs.Improving.{IsBoundIn}
+use Rattle.cip_search.specs.Searched.{IsCovered}
 use Rattle.cip_search.specs.SearchEnds.{Infeasible, ReachesGap, IsSettled}
 use Rattle.cip_search.specs.SearchAnswers.{EndsAtOnce}
 use Rattle.cip_search.proofs.Members.{none_in}

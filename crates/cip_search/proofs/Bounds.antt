@@ -6,9 +6,9 @@ use Rattle.cip_problem.specs.Program.{Sides, Program}
 use Rattle.cip_problem.specs.Box.{IsInBox}
 use Rattle.cip_problem.specs.Points.{cost_of}
 use Rattle.cip_problem.specs.Log.{matters}
-use Rattle.cip_linear.specs.Improving.{IsImproving, HoldsInBox, IsBoundIn, IsNoDearer}
-use Rattle.cip_linear.proofs.Improving.{holds_later}
-use Rattle.cip_answers.specs.Searched.{NoMore}
+use Rattle.cip_problem.specs.Improving.{IsImproving, HoldsInBox, IsBoundIn, IsNoDearer}
+use Rattle.cip_problem.proofs.Improving.{holds_later}
+use Rattle.cip_search.specs.Searched.{NoMore}
 
 -- a bound holds in a box
 abbrev pub HoldsThere : Program → Option ℚ → Option ℚ → List Sides → Type 0

@@ -13,11 +13,11 @@ use Rattle.cip_problem.specs.Box.{IsInBox}
 use Rattle.cip_problem.specs.Log.{End, Split, Closed, Parked, Entry, Node, low_node, high_node, node_of, halves, nodes_of, given_after, CanSplit, IsRightEnd, AllFollow, matters}
 use Rattle.cip_problem.proofs.Log.Halves.{low_node_within, high_node_within}
 use Rattle.cip_problem.proofs.Log.SameHalves.{low_choices, high_choices, low_node_of_both, high_node_of_both}
-use Rattle.cip_linear.specs.Improving.{HasNoImproving}
-use Rattle.cip_linear.specs.Cover.{IsCover}
-use Rattle.cip_linear.proofs.Covers as covers
-use Rattle.cip_linear.proofs.Emptiness.{closed_by_bound}
-use Rattle.cip_answers.specs.Searched.{first_node, nodes_given, IsLeftOpen}
+use Rattle.cip_problem.specs.Improving.{HasNoImproving}
+use Rattle.cip_problem.specs.Cover.{IsCover}
+use Rattle.cip_problem.proofs.Covers as covers
+use Rattle.cip_problem.proofs.Emptiness.{closed_by_bound}
+use Rattle.cip_search.specs.Searched.{first_node, nodes_given, IsLeftOpen}
 use Rattle.cip_search.specs.SearchState.{State, WayBack, HasNoEntry, IsGiven, AreApart, HasNumber, IsRightEntry, parked_entry, is_parked_end, parked_entries, LeadsToWide, IsStuck, IsSearch}
 use Rattle.cip_search.specs.Statements.{closed_entry, split_entry, AreHalves}
 use Rattle.cip_search.proofs.Members.{none_in, here, later, here_or_later, only_one, mapped, hits, hit, missed, none_hits, others_apart, rest_apart}

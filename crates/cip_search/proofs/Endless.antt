@@ -9,8 +9,8 @@ use Rattle.cip_rational.proofs.Rational.Inverse.{*ℚ-inverse, inverse_pos}
 use Rattle.cip_rational.proofs.Linear.{linear_le, linear_lt, linear_same}
 use Rattle.cip_problem.specs.Program.{Program}
 use Rattle.cip_problem.specs.Points.{cost_of, IsLowerBound}
-use Rattle.cip_answers.specs.LinearProgram.{moved}
-use Rattle.cip_answers.specs.Falling.{FallsWithoutEnd}
+use Rattle.cip_search.specs.LinearProgram.{moved}
+use Rattle.cip_search.specs.Falling.{FallsWithoutEnd}
 use Rattle.cip_search.specs.HeadlineStatements.{RaysExcludeBounds}
 
 -- how far to go for a cost of b - 1

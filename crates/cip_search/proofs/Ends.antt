@@ -10,13 +10,13 @@ use Rattle.cip_problem.specs.Points.{printed}
 use Rattle.std.proofs.lemmas.List.{length-append}
 use Rattle.cip_problem.specs.Log.{Closed, Entry, IsLog}
 use Rattle.cip_problem.proofs.Log.Length.{log_is_short}
-use Rattle.cip_answers.specs.Leaf.{Leaf}
-use Rattle.cip_answers.specs.Searched.{first_node}
+use Rattle.cip_search.specs.Leaf.{Leaf}
+use Rattle.cip_search.specs.Searched.{first_node}
 use Rattle.cip_search.proofs.Members.{none_in}
 use Rattle.cip_search.proofs.OneMore.{follow_more}
 use Rattle.cip_search.proofs.Alike.{is_log, is_log_from}
-use Rattle.cip_answers.specs.Headline.{Agree}
-use Rattle.cip_answers.specs.Figures.{Optimal, Infeasible, Unbounded, NodeLimit, Gap, Wide, NoMemory, Overflow, Held, Figures}
+use Rattle.cip_search.specs.AnswerHeadline.{Agree}
+use Rattle.cip_search.specs.Figures.{Optimal, Infeasible, Unbounded, NodeLimit, Gap, Wide, NoMemory, Overflow, Held, Figures}
 use Rattle.cip_search.specs.SearchEnds.{ReachesGap, NothingIsLeft}
 use Rattle.cip_search.specs.Headline.{cost_of_printed, ShowsGap, IsSpent, ShowsOverflow}
 use Rattle.cip_search.specs.HeadlineStatements.{EndsExclude, BudgetsSuffice}

@@ -8,10 +8,10 @@ use Rattle.cip_rational.proofs.Rational.Order.{≤ℚ_antisymm, le_of_lt_test}
 use Rattle.cip_problem.specs.Program.{Program}
 use Rattle.cip_problem.specs.Points.{IsFeasible, cost_of, IsLowerBound}
 use Rattle.cip_problem.specs.Log.{Node, matters}
-use Rattle.cip_answers.specs.Leaf.{Leaf}
-use Rattle.cip_answers.specs.Searched.{OpenMatters, ParkedMatters, NoMore, IsLeast, IsCovered, AreTrueEntries}
-use Rattle.cip_answers.proofs.PassedOn.{bound_holds}
-use Rattle.cip_answers.specs.WideLeaf.{Shown, IsWideLeaf}
+use Rattle.cip_search.specs.Leaf.{Leaf}
+use Rattle.cip_search.specs.Searched.{OpenMatters, ParkedMatters, NoMore, IsLeast, IsCovered, AreTrueEntries}
+use Rattle.cip_search.proofs.Covers.{bound_holds}
+use Rattle.cip_search.specs.WideLeaf.{Shown, IsWideLeaf}
 use Rattle.cip_search.specs.SearchState.{State, stay, unended, all_nodes, IsSearch, IsAsGiven}
 use Rattle.cip_search.specs.Endings.{OneMatters, NoneMatters, HasWidePoint, IsLeastBound}
 use Rattle.cip_search.proofs.Logs.{is_log, true_entries, covered, least, open_matter, parked_matter}

@@ -11,10 +11,10 @@ use Rattle.cip_problem.proofs.Choices.Decided.{decided_formed}
 use Rattle.cip_problem.specs.Points.{printed}
 use Rattle.cip_problem.proofs.Points.AtPlaces.{IsInBox-long}
 use Rattle.cip_problem.specs.Log.{Entry}
-use Rattle.cip_answers.specs.Leaf.{at_wholes, IsWholeBetween, Leaf, IsLeafOf}
-use Rattle.cip_answers.specs.WideLeaf.{Shown}
+use Rattle.cip_search.specs.Leaf.{at_wholes, IsWholeBetween, Leaf, IsLeafOf}
+use Rattle.cip_search.specs.WideLeaf.{Shown}
 use Rattle.cip_search.specs.SearchEnds.{Ended, Optimal, Infeasible, Unbounded, NodeLimit, Gap, Wide, NoMemory, Held, Answer, IsHeldPoint, EndsAs, IsSettled, EndHolds}
-use Rattle.cip_answers.specs.Figures.{EndFits, FitNames, names_of}
+use Rattle.cip_search.specs.Figures.{EndFits, FitNames, names_of}
 use Rattle.cip_search.specs.Printed.{IsPrintable, status_of, printed_held, figures_of}
 
 none_held : {A B : Type 0} (f : A → B) (o : Option A) → o ≡ None → option_map f o ≡ None

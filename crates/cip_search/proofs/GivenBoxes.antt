@@ -8,7 +8,7 @@ use Rattle.cip_rational.specs.Rational.{ℚ}
 use Rattle.cip_problem.specs.Program.{Program}
 use Rattle.cip_problem.specs.Log.{End, Closed, Parked, Split, Entry, Node, node_of, CanSplit, AllFollow}
 use Rattle.cip_problem.proofs.Log.SameHalves.{low_box, high_box}
-use Rattle.cip_answers.specs.Searched.{first_node, nodes_given}
+use Rattle.cip_search.specs.Searched.{first_node, nodes_given}
 use Rattle.cip_search.specs.SearchState.{State, WayBack, unended, all_nodes, parked_entry, IsSearch, HasGivenBoxes}
 use Rattle.cip_search.specs.Statements.{closed_entry, split_entry, AreHalves}
 use Rattle.cip_search.proofs.Members.{here, later, here_or_later, only_one, kept_was_there}

@@ -10,19 +10,19 @@ use Rattle.cip_rational.proofs.Rational.Whole.{IsWhole-zero}
 use Rattle.cip_rational.proofs.Rational.Ring.{+ℚ_assoc, zero-+ℚ, *ℚ-zero, *ℚ-one}
 use Rattle.cip_problem.specs.Points.{IsFeasible, cost_of}
 use Rattle.cip_problem.specs.Log.{Parked, Entry, Node, node_of}
-use Rattle.cip_answers.specs.LinearProgram.{LinearProgram, moved}
-use Rattle.cip_answers.proofs.PassedOn.{ray_cost}
-use Rattle.cip_answers.specs.Leaf.{IsLeafIn}
-use Rattle.cip_answers.specs.Wide.{InRow, InCost}
-use Rattle.cip_answers.specs.Searched.{first_node, nodes_given, OpenMatters, NoMore, IsFirstLeast, LeadsTo}
-use Rattle.cip_answers.proofs.PassedOn.{only_leaf_of}
+use Rattle.cip_search.specs.LinearProgram.{LinearProgram, moved}
+use Rattle.cip_problem.proofs.Rays.{ray_cost}
+use Rattle.cip_search.specs.Leaf.{IsLeafIn}
+use Rattle.cip_search.specs.Wide.{InRow, InCost}
+use Rattle.cip_search.specs.Searched.{first_node, nodes_given, OpenMatters, NoMore, IsFirstLeast, LeadsTo}
+use Rattle.cip_search.proofs.Points.{only_leaf_of}
 use Rattle.cip_problem.proofs.Log.Given.{node_of_log}
 use Rattle.cip_search.proofs.Members.{none_in}
 use Rattle.cip_search.proofs.OneMore.{contains_here, contains_cons, node_of_among}
-use Rattle.cip_answers.specs.WideLeaf.{Shown, AtPlace, AfterMoves, IsWideBy}
-use Rattle.cip_answers.specs.LeafProgramExamples.{steep, endless}
-use Rattle.cip_answers.proofs.PassedOn as leaves
-use Rattle.cip_answers.specs.Figures.{AtMoves, Held}
+use Rattle.cip_search.specs.WideLeaf.{Shown, AtPlace, AfterMoves, IsWideBy}
+use Rattle.cip_search.specs.LeafProgramExamples.{steep, endless}
+use Rattle.cip_search.proofs.LeafProgramsTried as leaves
+use Rattle.cip_search.specs.Figures.{AtMoves, Held}
 use Rattle.cip_search.specs.Headline.{IsEndless, ShowsOverflow, overflow_at}
 use Rattle.cip_search.specs.HeadlineExamples.{at_zeros, along, up, down, root_parked, no_choices, Examples}
 

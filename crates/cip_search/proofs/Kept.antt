@@ -9,11 +9,11 @@ use Rattle.cip_rational.specs.Rational.{ℚ}
 use Rattle.cip_problem.specs.Program.{Sides, Program}
 use Rattle.cip_problem.specs.Box.{IsInBox}
 use Rattle.cip_problem.specs.Log.{Entry, Node, node_of, matters}
-use Rattle.cip_linear.specs.Improving.{HoldsInBox, IsBoundIn, IsNoDearer}
-use Rattle.cip_linear.specs.Cover.{IsBounded, IsCover, IsReplacedBy}
-use Rattle.cip_linear.proofs.Covers as covers
-use Rattle.cip_linear.proofs.Improving.{fewer}
-use Rattle.cip_answers.specs.Searched.{first_node, nodes_given, NoMore}
+use Rattle.cip_problem.specs.Improving.{HoldsInBox, IsBoundIn, IsNoDearer}
+use Rattle.cip_problem.specs.Cover.{IsBounded, IsCover, IsReplacedBy}
+use Rattle.cip_problem.proofs.Covers as covers
+use Rattle.cip_problem.proofs.Improving.{fewer}
+use Rattle.cip_search.specs.Searched.{first_node, nodes_given, NoMore}
 use Rattle.cip_search.specs.SearchState.{State, WayBack, IsWayBack, unended, all_nodes, IsGiven, IsAttained, IsSearch, IsAsGiven}
 use Rattle.cip_search.proofs.Members.{none_in, here, later, here_or_later, only_one, kept_was_there, is_kept, hits, same_hits, fewer_hits}
 use Rattle.cip_search.proofs.Bounds.{HoldsThere, no_more_itself, there_inside, there_later, at_point, matters_at, matters_before}

@@ -7,14 +7,14 @@ use Rattle.cip_problem.specs.Program.{Program}
 use Rattle.cip_problem.specs.Points.{IsFeasible, cost_of}
 use Rattle.cip_problem.specs.Choices.{decided}
 use Rattle.cip_problem.specs.Log.{Entry, Node, AllFollow}
-use Rattle.cip_linear.specs.Improving.{IsNoDearer}
-use Rattle.cip_linear.proofs.Improving.{fewer}
-use Rattle.cip_linear.proofs.Reductions.{reduction_itself}
-use Rattle.cip_answers.specs.Leaf.{Leaf}
-use Rattle.cip_answers.specs.Searched.{first_node}
-use Rattle.cip_answers.specs.WideLeaf.{Shown, IsWideLeaf}
-use Rattle.cip_answers.specs.WideNodes.{IsWideAs}
-use Rattle.cip_answers.proofs.PassedOn.{only_leaf_of}
+use Rattle.cip_problem.specs.Improving.{IsNoDearer}
+use Rattle.cip_problem.proofs.Improving.{fewer}
+use Rattle.cip_problem.proofs.Reductions.{reduction_itself}
+use Rattle.cip_search.specs.Leaf.{Leaf}
+use Rattle.cip_search.specs.Searched.{first_node}
+use Rattle.cip_search.specs.WideLeaf.{Shown, IsWideLeaf}
+use Rattle.cip_search.specs.WideNodes.{IsWideAs}
+use Rattle.cip_search.proofs.Points.{only_leaf_of}
 use Rattle.cip_search.specs.SearchState.{State, WayBack, stay, IsWayBack, unended, IsGiven, LeadsBackTo, LeadsToWide, IsStuckAt, IsStuck, IsWideBack, IsSearch}
 use Rattle.cip_search.specs.EndLaws.{IsFirstLeastNode, IsShownNode}
 use Rattle.cip_search.proofs.Members.{here}

@@ -1,23 +1,56 @@
+mod AnswersTried
+mod HeadlineTried
+mod LeavesTried
+mod SeenTried
+pub mod Agreeing
 pub mod Alike
+pub mod AnswerTexts
+pub mod Apart
 pub mod AsGiven
 pub mod AtOnce
 pub mod Bounds
+pub mod CompactPairs
+pub mod Covers
 pub mod Ended
 pub mod Endless
 pub mod Ends
 pub mod EndsRight
+pub mod Equalities
 pub mod Fitting
+pub mod Following
+pub mod FrontTexts
 pub mod GivenBoxes
-mod HeadlineTried
+pub mod Inside
 pub mod Kept
 pub mod Leading
+pub mod LeafProgramsTried
 pub mod Logs
+pub mod LogsSeen
 pub mod Members
+pub mod Merged
+pub mod Mirrors
+pub mod Moving
+pub mod NearPoints
 pub mod OneMore
+pub mod Pairing
+pub mod Points
+pub mod ReductionsTried
 pub mod Relaxed
+pub mod Replacing
+pub mod Returning
 pub mod Roots
+pub mod RowSteps
+pub mod SeenColumns
+pub mod SeenEnds
+pub mod SeenNodes
+pub mod SeenSearch
+pub mod SelfLines
 pub mod ShownNode
+pub mod Spreading
 pub mod StartBounds
 pub mod Told
+pub mod TraceTexts
 pub mod TrueFigures
+pub mod WholeColumns
+pub mod WholeLeaves
 pub mod WorkLogs

@@ -8,9 +8,9 @@ use Rattle.cip_rational.proofs.Rational.Order.{le_or_lt, test_of_lt}
 use Rattle.cip_problem.specs.Program.{Program}
 use Rattle.cip_problem.specs.Log.{Closed, Parked, Entry, Node, root, leaf_count, node_of, IsLog, matters}
 use Rattle.cip_problem.proofs.Log.Length.{log_is_short}
-use Rattle.cip_answers.specs.Leaf.{Leaf}
-use Rattle.cip_answers.specs.Wide.{IsWide}
-use Rattle.cip_answers.specs.Searched.{first_node, nodes_given, IsLeftOpen, OpenMatters, ParkedMatters, NoMore, IsOneOf, IsLeast, IsCovered, AreTrueEntries, LeadsTo}
+use Rattle.cip_search.specs.Leaf.{Leaf}
+use Rattle.cip_search.specs.Wide.{IsWide}
+use Rattle.cip_search.specs.Searched.{first_node, nodes_given, IsLeftOpen, OpenMatters, ParkedMatters, NoMore, IsOneOf, IsLeast, IsCovered, AreTrueEntries, LeadsTo}
 use Rattle.cip_search.specs.SearchState.{State, WayBack, stay, unended, all_nodes, HasNoEntry, IsGiven, parked_entry, is_parked_end, LeadsBackTo, IsSearch, IsAsGiven}
 use Rattle.cip_search.specs.Endings.{OneMatters, IsBoundOfOne, IsLeastBound}
 use Rattle.cip_search.specs.Statements.{EntriesAreTrue}

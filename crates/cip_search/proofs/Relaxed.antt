@@ -7,8 +7,8 @@ use Rattle.cip_rational.proofs.Rational.Order.{≤ℚ_trans}
 use Rattle.cip_problem.specs.Program.{Sides, Row, Program}
 use Rattle.cip_problem.specs.Box.{IsInBox}
 use Rattle.cip_problem.specs.Points.{IsSatisfied}
-use Rattle.cip_answers.specs.LinearProgram.{IsPoint, IsOptimal}
-use Rattle.cip_answers.specs.Searched.{NoMore}
+use Rattle.cip_search.specs.LinearProgram.{IsPoint, IsOptimal}
+use Rattle.cip_search.specs.Searched.{NoMore}
 use Rattle.cip_search.specs.Relaxation.{relaxation, IsRelaxedBound}
 
 pub no_more_trans : (a b c : Option ℚ) → NoMore a b → NoMore b c → NoMore a c

@@ -6,8 +6,8 @@ use Rattle.cip_rational.specs.Rational.{ℚ, integer, ceil, ◌<ℚ◌}
 use Rattle.cip_rational.proofs.Rational.Order.{le_or_lt, not_le_of_lt, ≤ℚ_refl, ≤ℚ_trans}
 use Rattle.cip_rational.proofs.Rational.Rounding.{le_ceil}
 use Rattle.cip_problem.specs.Program.{Program}
-use Rattle.cip_linear.specs.Cuts.{HasWholeCosts}
-use Rattle.cip_answers.specs.Searched.{NoMore}
+use Rattle.cip_problem.specs.Cuts.{HasWholeCosts}
+use Rattle.cip_search.specs.Searched.{NoMore}
 
 some_none : {b : ℚ} → None ≡ Some b → ⊥
 some_none e = cc

@@ -5,9 +5,9 @@ use Rattle.std.proofs.lemmas.List.Elements.{Contains-append_right}
 use Rattle.cip_rational.specs.Rational.{ℚ}
 use Rattle.cip_problem.specs.Program.{Program}
 use Rattle.cip_problem.specs.Log.{Parked, Entry, Node}
-use Rattle.cip_answers.specs.Leaf.{Leaf}
-use Rattle.cip_answers.specs.Searched.{NoMore}
-use Rattle.cip_answers.specs.WideLeaf.{Shown, IsWideLeaf}
+use Rattle.cip_search.specs.Leaf.{Leaf}
+use Rattle.cip_search.specs.Searched.{NoMore}
+use Rattle.cip_search.specs.WideLeaf.{Shown, IsWideLeaf}
 use Rattle.cip_search.specs.SearchState.{State, stay, unended, all_nodes, IsSearch, parked_entry, is_parked_end, parked_entries}
 use Rattle.cip_search.proofs.Logs.{parked_from, given_leads}
 use Rattle.cip_search.proofs.Members.{ComesFrom, here, of_mapped, is_kept}

@@ -5,7 +5,7 @@ use Rattle.cip_rational.specs.Rational.{ℚ, ◌≤ℚ◌}
 use Rattle.cip_problem.specs.Program.{Program}
 use Rattle.cip_problem.specs.Points.{IsLowerBound}
 use Rattle.cip_problem.specs.Log.{End, Split, Closed, Parked, Entry, Node, node_of, low_node, high_node, halves, nodes_of, given_after, AllFollow}
-use Rattle.cip_answers.specs.Searched.{NoMore, IsOneOf, first_node, nodes_given}
+use Rattle.cip_search.specs.Searched.{NoMore, IsOneOf, first_node, nodes_given}
 use Rattle.cip_search.proofs.Alike.{is_log_from}
 use Rattle.cip_search.proofs.Bounds.{no_more_same}
 use Rattle.cip_search.proofs.Members.{none_in, here, later, here_or_later, only_one}

@@ -11,12 +11,12 @@ use Rattle.cip_problem.specs.Choices.{AreMade, AreStillOpen, decided, made_on}
 use Rattle.cip_problem.specs.Log.{Entry, Node, AllFollow, matters}
 use Rattle.cip_problem.specs.Statements.{IsNodeOf}
 use Rattle.cip_problem.proofs.Log.Given.{node_of_log}
-use Rattle.cip_linear.specs.Improving.{IsImproving}
-use Rattle.cip_linear.specs.Cover.{IsInOneOf, IsCover, HasBoundFrom}
-use Rattle.cip_linear.specs.Reduced.{HasNoDearer}
-use Rattle.cip_linear.proofs.Covers as covers
-use Rattle.cip_linear.proofs.Reductions.{reduction_bound, reduction_no_point}
-use Rattle.cip_answers.specs.Searched.{first_node}
+use Rattle.cip_problem.specs.Improving.{IsImproving}
+use Rattle.cip_problem.specs.Cover.{IsInOneOf, IsCover, HasBoundFrom}
+use Rattle.cip_problem.specs.Reduced.{HasNoDearer}
+use Rattle.cip_problem.proofs.Covers as covers
+use Rattle.cip_problem.proofs.Reductions.{reduction_bound, reduction_no_point}
+use Rattle.cip_search.specs.Searched.{first_node}
 use Rattle.cip_search.specs.SearchState.{State, WayBack, unended, all_nodes, IsGiven, IsSearch}
 use Rattle.cip_search.specs.Endings.{NoneMatters, HasWidePoint}
 use Rattle.cip_search.proofs.Bounds.{at_point, matters_at}

@@ -10,15 +10,15 @@ use Rattle.cip_problem.specs.Program.{Program}
 use Rattle.cip_problem.specs.WellFormed.{IsWellFormed}
 use Rattle.cip_problem.specs.Points.{IsFeasible, cost_of, printed, IsLowerBound}
 use Rattle.cip_problem.specs.Log.{Entry, matters}
-use Rattle.cip_answers.specs.Leaf.{Leaf}
-use Rattle.cip_answers.specs.Searched.{NoMore, OpenMatters, ParkedMatters, IsOneOf, IsLeast}
-use Rattle.cip_answers.specs.WideLeaf.{Shown, IsWideLeaf}
+use Rattle.cip_search.specs.Leaf.{Leaf}
+use Rattle.cip_search.specs.Searched.{NoMore, OpenMatters, ParkedMatters, IsOneOf, IsLeast}
+use Rattle.cip_search.specs.WideLeaf.{Shown, IsWideLeaf}
 use Rattle.cip_search.specs.Endings.{HasWidePoint}
 use Rattle.cip_search.specs.SearchEnds as ends
 use Rattle.cip_search.specs.SearchEnds.{Ended, Optimal, Infeasible, Unbounded, NodeLimit, Gap, Wide, NoMemory, Held, Answer, cost_of_held, IsHeldPoint, ReachesGap, NothingIsLeft, EndsAs, Agrees, IsCheaper, IsUnbounded, EndHolds}
-use Rattle.cip_answers.specs.Figures.{Held as PrintedHeld, Overflow, Optimal as PrintedOptimal, Infeasible as PrintedInfeasible, Wide as PrintedWide, names_of}
-use Rattle.cip_answers.specs.Headline.{IsBetter, IsTruePoint, IsTrueBound, Agree}
-use Rattle.cip_answers.proofs.AnswerTexts.{answer_text_injective}
+use Rattle.cip_search.specs.Figures.{Held as PrintedHeld, Overflow, Optimal as PrintedOptimal, Infeasible as PrintedInfeasible, Wide as PrintedWide, names_of}
+use Rattle.cip_search.specs.AnswerHeadline.{IsBetter, IsTruePoint, IsTrueBound, Agree}
+use Rattle.cip_search.proofs.AnswerTexts.{answer_text_injective}
 use Rattle.cip_search.specs.Headline.{cost_of_printed, IsBetterThan, IsWithinBox, ShowsOverflow, ShowsGap, overflow_at, EndsWith, EndsItself, AgreeAtLast, IsEndless, AreTrue}
 use Rattle.cip_search.specs.Printed.{status_of, printed_held, figures_of, IsPrintable}
 use Rattle.cip_search.specs.HeadlineStatements.{FiguresAreTrue}

@@ -5,7 +5,7 @@ use Rattle.std.proofs.lemmas.Option.{same_Some}
 use Rattle.cip_rational.specs.Rational.{ℚ}
 use Rattle.cip_problem.specs.Program.{Program}
 use Rattle.cip_problem.specs.Log.{Entry, Node, node_of, nodes_of, AllFollow}
-use Rattle.cip_answers.specs.Searched.{first_node, nodes_given}
+use Rattle.cip_search.specs.Searched.{first_node, nodes_given}
 use Rattle.cip_search.specs.Relaxation.{IsRelaxedBound}
 use Rattle.cip_search.proofs.Members.{none_in, mapped}
 use Rattle.cip_search.proofs.OneMore.{node_of_kept, given_more, taken_given}

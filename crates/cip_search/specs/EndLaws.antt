@@ -6,9 +6,9 @@ use Rattle.cip_rational.specs.Rational.{ℚ}
 use Rattle.cip_problem.specs.Program.{Program}
 use Rattle.cip_problem.specs.Choices.{decided}
 use Rattle.cip_problem.specs.Log.{Node}
-use Rattle.cip_answers.specs.Leaf.{Leaf, IsLeafOf}
-use Rattle.cip_answers.specs.Searched.{NoMore}
-use Rattle.cip_answers.specs.WideLeaf.{Shown, IsWideBy, IsWideLeaf}
+use Rattle.cip_search.specs.Leaf.{Leaf, IsLeafOf}
+use Rattle.cip_search.specs.Searched.{NoMore}
+use Rattle.cip_search.specs.WideLeaf.{Shown, IsWideBy, IsWideLeaf}
 use Rattle.cip_search.specs.SearchState.{State, WayBack, stay, all_nodes, LeadsBackTo, IsWideBack, IsSearch, IsAsGiven}
 use Rattle.cip_search.specs.Endings.{OneMatters, NoneMatters, IsLeastBound}
 use Rattle.cip_search.specs.SearchEnds.{Ended, Optimal, Infeasible, Unbounded, NodeLimit, Gap, Wide, NoMemory, Answer, cost_of_held, IsHeldPoint, ReachesGap, IsAnswer}

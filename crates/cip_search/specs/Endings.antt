@@ -6,8 +6,8 @@ use Rattle.cip_problem.specs.Program.{Program}
 use Rattle.cip_problem.specs.Points.{cost_of}
 use Rattle.cip_problem.specs.Choices.{decided}
 use Rattle.cip_problem.specs.Log.{Node, matters}
-use Rattle.cip_answers.specs.Leaf.{Leaf, IsLeafOf, IsPointOfLeaf}
-use Rattle.cip_answers.specs.Searched.{NoMore, IsCostHeld}
+use Rattle.cip_search.specs.Leaf.{Leaf, IsLeafOf, IsPointOfLeaf}
+use Rattle.cip_search.specs.Searched.{NoMore, IsCostHeld}
 
 -- one of the nodes matters beside the cost held
 pub record OneMatters (held : Option ℚ) (nodes : List Node) : Type 0 where

@@ -7,16 +7,16 @@ use Rattle.cip_rational.specs.Rational.{ℚ}
 use Rattle.cip_problem.specs.Program.{Program}
 use Rattle.cip_problem.specs.Points.{IsFeasible, cost_of, printed}
 use Rattle.cip_problem.specs.Log.{Entry, IsLog}
-use Rattle.cip_answers.specs.Leaf.{Leaf}
-use Rattle.cip_answers.specs.Wide.{InRow, InCost}
-use Rattle.cip_answers.specs.Searched.{OpenMatters, ParkedMatters}
-use Rattle.cip_answers.specs.WideLeaf.{Shown, AtPlace, AfterMoves, IsWideLeaf}
+use Rattle.cip_search.specs.Leaf.{Leaf}
+use Rattle.cip_search.specs.Wide.{InRow, InCost}
+use Rattle.cip_search.specs.Searched.{OpenMatters, ParkedMatters}
+use Rattle.cip_search.specs.WideLeaf.{Shown, AtPlace, AfterMoves, IsWideLeaf}
 use Rattle.cip_search.specs.Endings.{HasWidePoint}
 use Rattle.cip_search.specs.SearchEnds.{IsShownLeaf, ReachesGap, NothingIsLeft}
-use Rattle.cip_answers.specs.Figures.{Overflow, AtRow, AtCost, AtMoves, Status, Figures, Held}
-use Rattle.cip_answers.specs.Figures.{Optimal, Infeasible, Unbounded, NodeLimit, Gap, Wide, NoMemory}
-use Rattle.cip_answers.specs.Figures.{FitNames, status_word, names_of, answer_text}
-use Rattle.cip_answers.specs.Headline.{IsBetter, printed_cost, IsTruePoint, IsTrueBound, Agree, ShowsRay}
+use Rattle.cip_search.specs.Figures.{Overflow, AtRow, AtCost, AtMoves, Status, Figures, Held}
+use Rattle.cip_search.specs.Figures.{Optimal, Infeasible, Unbounded, NodeLimit, Gap, Wide, NoMemory}
+use Rattle.cip_search.specs.Figures.{FitNames, status_word, names_of, answer_text}
+use Rattle.cip_search.specs.AnswerHeadline.{IsBetter, printed_cost, IsTruePoint, IsTrueBound, Agree, ShowsRay}
 
 -- the cost of the point that is printed, if one is
 abbrev pub cost_of_printed : Program → Option Held → Option ℚ

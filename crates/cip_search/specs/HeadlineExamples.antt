@@ -3,9 +3,9 @@
 use Rattle.std.specs.Prelude.{negsuc, List, [], ◌∷◌, Option, None, Some}
 use Rattle.cip_rational.specs.Rational.{ℚ, integer, zeroℚ, oneℚ}
 use Rattle.cip_problem.specs.Log.{Parked, Entry}
-use Rattle.cip_answers.specs.Leaf.{Leaf}
-use Rattle.cip_answers.specs.LeafProgramExamples.{steep, endless}
-use Rattle.cip_answers.specs.Figures.{AtMoves, Unbounded, Figures, Held}
+use Rattle.cip_search.specs.Leaf.{Leaf}
+use Rattle.cip_search.specs.LeafProgramExamples.{steep, endless}
+use Rattle.cip_search.specs.Figures.{AtMoves, Unbounded, Figures, Held}
 use Rattle.cip_search.specs.Headline.{IsEndless, ShowsOverflow}
 
 -- the point of zeros, at the cost 0

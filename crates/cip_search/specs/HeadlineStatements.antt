@@ -5,8 +5,8 @@ use Rattle.cip_problem.specs.Program.{Program}
 use Rattle.cip_problem.specs.WellFormed.{IsWellFormed}
 use Rattle.cip_problem.specs.Points.{IsLowerBound}
 use Rattle.cip_problem.specs.Log.{Entry, root, leaf_count, IsLog}
-use Rattle.cip_answers.specs.Falling.{FallsWithoutEnd}
-use Rattle.cip_answers.specs.Figures.{Figures, Held, Status, status_word}
+use Rattle.cip_search.specs.Falling.{FallsWithoutEnd}
+use Rattle.cip_search.specs.Figures.{Figures, Held, Status, status_word}
 use Rattle.cip_search.specs.SearchEnds.{Answer}
 use Rattle.cip_search.specs.Headline.{HasOpen, EndsWith, EndsItself, AgreeAtLast, AreTrue}
 use Rattle.cip_search.specs.Printed.{IsPrintable, figures_of}

@@ -5,13 +5,13 @@ use Rattle.cip_problem.specs.Program.{Program}
 use Rattle.cip_problem.specs.WellFormed.{columns}
 use Rattle.cip_problem.specs.Points.{printed}
 use Rattle.cip_problem.specs.Log.{Entry}
-use Rattle.cip_answers.specs.Searched.{NoMore}
+use Rattle.cip_search.specs.Searched.{NoMore}
 use Rattle.cip_search.specs.SearchEnds.{Held, Answer, IsAnswer}
 use Rattle.cip_search.specs.SearchEnds.{Ended, Optimal, Infeasible, Unbounded, NodeLimit, Gap, Wide, NoMemory}
-use Rattle.cip_answers.specs.Figures.{Status, Figures, Held as PrintedHeld}
-use Rattle.cip_answers.specs.Figures.{Optimal as PrintedOptimal, Infeasible as PrintedInfeasible}
-use Rattle.cip_answers.specs.Figures.{Unbounded as PrintedUnbounded, NodeLimit as PrintedNodeLimit}
-use Rattle.cip_answers.specs.Figures.{Gap as PrintedGap, Wide as PrintedWide, NoMemory as PrintedNoMemory}
+use Rattle.cip_search.specs.Figures.{Status, Figures, Held as PrintedHeld}
+use Rattle.cip_search.specs.Figures.{Optimal as PrintedOptimal, Infeasible as PrintedInfeasible}
+use Rattle.cip_search.specs.Figures.{Unbounded as PrintedUnbounded, NodeLimit as PrintedNodeLimit}
+use Rattle.cip_search.specs.Figures.{Gap as PrintedGap, Wide as PrintedWide, NoMemory as PrintedNoMemory}
 use Rattle.cip_search.specs.Headline.{overflow_at}
 
 -- the end as it is printed, for rows of these names

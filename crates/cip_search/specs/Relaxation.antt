@@ -2,8 +2,8 @@
 use Rattle.std.specs.Prelude.{List, ◌++◌, Option, Some}
 use Rattle.cip_rational.specs.Rational.{ℚ, ◌+ℚ◌}
 use Rattle.cip_problem.specs.Program.{Sides, Row, Program}
-use Rattle.cip_answers.specs.LinearProgram.{LinearProgram, IsPoint, CostsAtLeast}
-use Rattle.cip_answers.specs.Searched.{NoMore}
+use Rattle.cip_search.specs.LinearProgram.{LinearProgram, IsPoint, CostsAtLeast}
+use Rattle.cip_search.specs.Searched.{NoMore}
 
 -- the linear program of a box: the rows of a program and further ones, the box, and the program's costs
 abbrev pub relaxation : Program → List Row → List Sides → LinearProgram

@@ -8,10 +8,10 @@ use Rattle.cip_problem.specs.Program.{Program}
 use Rattle.cip_problem.specs.Points.{IsFeasible, cost_of, IsLowerBound}
 use Rattle.cip_problem.specs.Choices.{decided}
 use Rattle.cip_problem.specs.Log.{Entry, Node, node_of, IsLog}
-use Rattle.cip_answers.specs.Falling.{FallsWithoutEnd}
-use Rattle.cip_answers.specs.Leaf.{Leaf, IsLeafOf}
-use Rattle.cip_answers.specs.Searched.{nodes_given, OpenMatters, ParkedMatters, IsLeast, IsCovered, AreTrueEntries, LeadsTo, IsFirstLeast}
-use Rattle.cip_answers.specs.WideLeaf.{Shown, IsWideBy, IsWideLeaf}
+use Rattle.cip_search.specs.Falling.{FallsWithoutEnd}
+use Rattle.cip_search.specs.Leaf.{Leaf, IsLeafOf}
+use Rattle.cip_search.specs.Searched.{nodes_given, OpenMatters, ParkedMatters, IsLeast, IsCovered, AreTrueEntries, LeadsTo, IsFirstLeast}
+use Rattle.cip_search.specs.WideLeaf.{Shown, IsWideBy, IsWideLeaf}
 use Rattle.cip_search.specs.Endings.{HasWidePoint}
 
 -- how a search ended

@@ -10,12 +10,12 @@ use Rattle.cip_problem.specs.Box.{IsInBox}
 use Rattle.cip_problem.specs.Choices.{decided}
 use Rattle.cip_problem.specs.Points.{IsFeasible, cost_of}
 use Rattle.cip_problem.specs.Log.{End, Split, Closed, Parked, Entry, Node, node_of, AllFollow, matters}
-use Rattle.cip_linear.specs.Improving.{HoldsInBox, IsBoundIn}
-use Rattle.cip_linear.specs.Cover.{IsCover}
-use Rattle.cip_linear.specs.Reduced.{IsReduction}
-use Rattle.cip_answers.specs.Leaf.{at_wholes, Leaf, IsLeafOf, IsOnlyLeafOf}
-use Rattle.cip_answers.specs.Searched.{first_node, nodes_given, IsLeftOpen, NoMore, HasPointOfLeaf}
-use Rattle.cip_answers.specs.WideLeaf.{Shown, IsWideBy}
+use Rattle.cip_problem.specs.Improving.{HoldsInBox, IsBoundIn}
+use Rattle.cip_problem.specs.Cover.{IsCover}
+use Rattle.cip_problem.specs.Reduced.{IsReduction}
+use Rattle.cip_search.specs.Leaf.{at_wholes, Leaf, IsLeafOf, IsOnlyLeafOf}
+use Rattle.cip_search.specs.Searched.{first_node, nodes_given, IsLeftOpen, NoMore, HasPointOfLeaf}
+use Rattle.cip_search.specs.WideLeaf.{Shown, IsWideBy}
 
 -- where a search stands: the cost held, if a point is; the nodes in work, the open and the parked ones, each with the
 -- box and the bound that it has now; and the log

@@ -7,11 +7,11 @@ use Rattle.cip_problem.specs.Program.{Sides, Row, Program}
 use Rattle.cip_problem.specs.Box.{IsInBox}
 use Rattle.cip_problem.specs.Points.{IsFeasible, cost_of, IsLowerBound}
 use Rattle.cip_problem.specs.Log.{Split, Closed, Parked, Entry, Node, root, low_node, high_node, leaf_count, node_of, CanSplit, AllFollow, IsLog, matters}
-use Rattle.cip_answers.specs.LinearProgram.{IsOptimal}
-use Rattle.cip_linear.specs.Improving.{HoldsInBox, IsBoundIn, HasNoImproving, IsNoDearer}
-use Rattle.cip_linear.specs.Cover.{HasBoundFrom}
-use Rattle.cip_answers.specs.Searched.{first_node, nodes_given, OpenMatters, ParkedMatters, NoMore, IsLeast, IsCovered, AreTrueEntries}
-use Rattle.cip_answers.specs.Wide.{IsWide}
+use Rattle.cip_search.specs.LinearProgram.{IsOptimal}
+use Rattle.cip_problem.specs.Improving.{HoldsInBox, IsBoundIn, HasNoImproving, IsNoDearer}
+use Rattle.cip_problem.specs.Cover.{HasBoundFrom}
+use Rattle.cip_search.specs.Searched.{first_node, nodes_given, OpenMatters, ParkedMatters, NoMore, IsLeast, IsCovered, AreTrueEntries}
+use Rattle.cip_search.specs.Wide.{IsWide}
 use Rattle.cip_search.specs.SearchState.{State, WayBack, stay, IsWayBack, unended, all_nodes, IsAttained, IsStuck, IsSearch, IsAsGiven, HasGivenBoxes}
 use Rattle.cip_search.specs.Endings.{OneMatters, NoneMatters, HasWidePoint, IsLeastBound}
 use Rattle.cip_search.specs.Relaxation.{relaxation, IsRelaxedBound}

@@ -1,19 +1,27 @@
-//! What holds of a search over a tree of boxes between two steps, that each step keeps it, and what it says of the
-//! program at the end. `specs/` holds the definitions.
+//! Leaves, and the points of a program with given whole values; what holds of a search over a tree of boxes between two
+//! steps, that each step keeps it, and what it says of the program at the end; the answers that go out, with their
+//! figures and texts; and reduction pairs: when a program may be solved in place of another, and how points, whole
+//! values and costs come back. `specs/` holds the definitions.
 // Each function here does nothing. Its contract is one of the laws of the definitions, so that the check proves it.
 #![tactic(auto)]
 
+pub mod answer_laws;
 pub mod headline;
+pub mod leaf_laws;
+pub mod leaf_programs;
+pub mod reduction_laws;
 pub mod search_ends;
+pub mod seen;
+pub mod traces;
 
 ghost use Rattle.std.specs.Prelude.{Option};
 ghost use Rattle.cip_rational.specs.Rational.{ℚ};
 ghost use Rattle.cip_problem.specs.Program.{Program};
-ghost use Rattle.cip_answers.specs.Wide.{IsWide};
+ghost use Rattle.cip_search.specs.Wide.{IsWide};
 ghost use Rattle.cip_search.specs.SearchState.{WayBack};
 ghost use Rattle.cip_search.specs.Statements.{StepsKeepSearches, StepsKeepGiven, StepsKeepBoxes, WaysAreFree, SearchesTell, SearchLogsTell, EntriesAreTrue, RelaxedBoundsHold};
 
-pub use cip_answers::{Move, Stand};
+pub use cip_bland::{Move, Stand};
 
 /// A search begins with its root open, and what holds of it goes on holding as nodes are taken up, their bounds rise
 /// and their boxes shrink, as they are closed, put aside, split and made open again, as a cheaper point is held, and

@@ -1,7 +1,7 @@
 -- What an answer in code says holds, where the answer that it is is right.
 use Rattle.std.proofs.Common.{◌≡◌, List, refl, sym, subst}
 use Rattle.cip_rational.specs.Rational.{ℚ}
-use Rattle.cip_linear.specs.LinearProgram.{LinearProgram, IsProper}
+use Rattle.cip_problem.specs.LinearProgram.{LinearProgram, IsProper}
 use Rattle.cip_bland.specs.Dictionary.{Dictionary}
 use Rattle.cip_bland.specs.declared.moves.Move.{Move}
 use Rattle.cip_bland.specs.EndAnswers.{Certificate, Answer, Optimal, NoPoint, Unbounded, OutOfRange, LimitReached, answer_at}

@@ -3,7 +3,7 @@ use Rattle.std.proofs.Common.{◌≡◌, ℕ, zero, suc, ◌<◌, true, false, c
 use Rattle.std.proofs.lemmas.Bool.{lt-ltb}
 use Rattle.cip_problem.specs.Program.{Sides}
 use Rattle.cip_problem.specs.Box.{sides_at}
-use Rattle.cip_linear.specs.LinearProgram.{LinearProgram}
+use Rattle.cip_problem.specs.LinearProgram.{LinearProgram}
 use Rattle.cip_bland.specs.Tables.{least}
 use Rattle.cip_bland.specs.Dictionary.{Dictionary, size, stand, is_basic, CanStand}
 use Rattle.cip_bland.specs.FirstState.{first_operations}

@@ -1,8 +1,8 @@
 -- The answer from the first state of a linear program.
 use Rattle.std.proofs.Common.{◌≡◌, ℕ, ◌+◌, ◌^◌, List, [], length, length-append, cond, is_some, None, Some, Option, Result, Ok, Err, IfOk, arith, sym, ap, ◌∙◌, subst}
 use Rattle.std.proofs.lemmas.List.{length-map}
-use Rattle.cip_linear.specs.LinearProgram.{LinearProgram}
-use Rattle.cip_linear.specs.Multipliers.{row_sides}
+use Rattle.cip_problem.specs.LinearProgram.{LinearProgram}
+use Rattle.cip_problem.specs.Multipliers.{row_sides}
 use Rattle.cip_bland.specs.Dictionary.{Dictionary, size, stand}
 use Rattle.cip_bland.specs.Operations.{first_overflow}
 use Rattle.cip_bland.specs.FirstState.{is_column, variables_of, first_stand, first, first_operations}

@@ -1,7 +1,7 @@
 -- Starts lead to states of the program, and what is answered from them is right.
 use Rattle.std.proofs.Common.{◌≡◌, ℕ, zero, suc, ◌<◌, Bool, true, false, cond, ◌||◌, is_some, List, [], ◌∷◌, ◌++◌, length, Option, None, Some, refl, sym, ap, ◌∙◌, arith}
 use Rattle.cip_problem.specs.Box.{sides_at}
-use Rattle.cip_linear.specs.LinearProgram.{LinearProgram, IsProper}
+use Rattle.cip_problem.specs.LinearProgram.{LinearProgram, IsProper}
 use Rattle.cip_bland.specs.Tables.{least}
 use Rattle.cip_bland.specs.Dictionary.{Dictionary, size, stand, is_basic, IsConsistent}
 use Rattle.cip_bland.specs.Exchange.{after, CanMove}

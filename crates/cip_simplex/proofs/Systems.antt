@@ -8,9 +8,9 @@ use Rattle.cip_rational.proofs.Rational.Ring.{+ℚ-zero, zero-+ℚ}
 use Rattle.cip_problem.specs.Program.{Term, Row, no_row}
 use Rattle.cip_problem.specs.Activity.{value_at, StandsBelow}
 use Rattle.cip_problem.specs.RowTerms.{column_at, AreTerms}
-use Rattle.cip_linear.specs.LinearProgram.{LinearProgram, IsProper}
-use Rattle.cip_linear.specs.Aggregate.{coefficient_on}
-use Rattle.cip_linear.specs.Multipliers.{row_sides}
+use Rattle.cip_problem.specs.LinearProgram.{LinearProgram, IsProper}
+use Rattle.cip_problem.specs.Aggregate.{coefficient_on}
+use Rattle.cip_problem.specs.Multipliers.{row_sides}
 use Rattle.cip_bland.specs.Tables.{each}
 use Rattle.cip_bland.specs.ProgramState.{terms_at, system_of}
 use Rattle.cip_dict.specs.Entries.{Entry, entry_from, AreWithin, system_in}

@@ -1,7 +1,7 @@
 -- Lists of moves without a limit, one move after another.
 use Rattle.std.proofs.Common.{◌≡◌, suc, ◌<◌, List, [], ◌∷◌, ◌++◌, None, sym, ap, ◌∙◌, subst, arith}
 use Rattle.std.proofs.lemmas.List.{append_assoc, append-nil}
-use Rattle.cip_linear.specs.LinearProgram.{LinearProgram, IsProper}
+use Rattle.cip_problem.specs.LinearProgram.{LinearProgram, IsProper}
 use Rattle.cip_bland.specs.Dictionary.{Dictionary}
 use Rattle.cip_bland.specs.Exchange.{after}
 use Rattle.cip_bland.specs.declared.moves.Move.{Move}

@@ -2,7 +2,7 @@
 use Rattle.std.specs.Prelude.{ℕ, ◌+◌, ◌<◌, ◌^◌, List, ◌++◌, map, length}
 use Rattle.std.specs.Borrow.{Bor}
 use Rattle.cip_problem.specs.Program.{Row}
-use Rattle.cip_linear.specs.LinearProgram.{LinearProgram, IsProper}
+use Rattle.cip_problem.specs.LinearProgram.{LinearProgram, IsProper}
 
 -- rows, and behind them others, each of which is lent
 abbrev pub joined : List Row → List (Bor Row) → List Row

@@ -1,7 +1,7 @@
 -- What is said of an answer whichever moves led to it.
 use Rattle.std.specs.Prelude.{◌≡◌, List, Option, length, IfSome}
 use Rattle.cip_rational.specs.Rational.{ℚ}
-use Rattle.cip_linear.specs.LinearProgram.{LinearProgram}
+use Rattle.cip_problem.specs.LinearProgram.{LinearProgram}
 use Rattle.cip_lin.specs.declared.combos.Combo.{Combo}
 use Rattle.cip_bland.specs.Dictionary.{Dictionary}
 use Rattle.cip_bland.specs.EndAnswers as def

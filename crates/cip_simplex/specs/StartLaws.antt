@@ -1,6 +1,6 @@
 -- What is said of starts, each as one statement.
 use Rattle.std.specs.Prelude.{◌≡◌, ℕ}
-use Rattle.cip_linear.specs.LinearProgram.{LinearProgram, IsProper}
+use Rattle.cip_problem.specs.LinearProgram.{LinearProgram, IsProper}
 use Rattle.cip_bland.specs.ProgramState.{first_of_program}
 use Rattle.cip_bland.specs.EndAnswers.{answer}
 use Rattle.cip_bland.specs.Statements.{IsStateOf, IsRight}

@@ -9,7 +9,7 @@
 use Rattle.std.specs.Prelude.{ℕ, zero, suc, Bool, true, false, ◌&&◌, ◌||◌, not, List, [], ◌∷◌, ◌++◌, length, Option, None, Some, is_some, unwrap_or, slice_index_or, if◌then◌else◌, ⊤}
 use Rattle.cip_problem.specs.Program.{Sides}
 use Rattle.cip_problem.specs.Box.{sides_at}
-use Rattle.cip_linear.specs.LinearProgram.{LinearProgram}
+use Rattle.cip_problem.specs.LinearProgram.{LinearProgram}
 use Rattle.cip_bland.specs.Tables.{table, least}
 use Rattle.cip_bland.specs.Dictionary.{Dictionary, size, stand, is_basic, entry}
 use Rattle.cip_bland.specs.Exchange.{after, CanMove}

@@ -1,7 +1,7 @@
 //! The first state of a linear program.
 ghost use Rattle.std.specs.Prelude.{◌≡◌, ℕ, ◌<◌, ◌^◌, ◌++◌, length, map, None, IfOk, MatchResult};
 ghost use Rattle.cip_problem.specs.RowTerms.{AreTerms};
-ghost use Rattle.cip_linear.specs.Multipliers.{row_sides};
+ghost use Rattle.cip_problem.specs.Multipliers.{row_sides};
 ghost use Rattle.cip_bland.specs.Operations.{first_overflow};
 ghost use Rattle.cip_bland.specs.FirstState.{first_operations};
 ghost use Rattle.cip_bland.specs.ProgramState.{terms_at, system_of, first_of_program};

@@ -1,7 +1,7 @@
 //! Linear programs, lent to be solved.
 ghost use Rattle.std.specs.Prelude.{◌≡◌, ◌<◌, ◌↔◌, IsTrue, All, length, slice_index_or};
 ghost use Rattle.cip_problem.specs.Activity.{StandsBelow};
-ghost use Rattle.cip_linear.specs.LinearProgram.{LinearProgram};
+ghost use Rattle.cip_problem.specs.LinearProgram.{LinearProgram};
 ghost use Rattle.cip_problem.specs.Program.{no_row};
 ghost use Rattle.cip_simplex.specs.LpShape as shape;
 
@@ -20,7 +20,7 @@ pub struct Lp<'a> {
 }
 
 impl<'a> Model for Lp<'a> {
-    ghost use Rattle.cip_linear.specs.LinearProgram.{LinearProgram};
+    ghost use Rattle.cip_problem.specs.LinearProgram.{LinearProgram};
     ghost use Rattle.cip_simplex.specs.LpCode.{program_code};
 
     ghost Value = { LinearProgram };

@@ -6,11 +6,11 @@ use Rattle.cip_rational.proofs.Rational.Order.{≤ℚ_antisymm}
 use Rattle.cip_problem.specs.Program.{Program}
 use Rattle.cip_problem.specs.Points.{IsLowerBound, cost_of}
 use Rattle.cip_problem.specs.Log.{Entry, Node}
-use Rattle.cip_linear.specs.Improving.{IsNoDearer}
-use Rattle.cip_linear.proofs.Improving.{holds_later}
-use Rattle.cip_leaves.specs.Searched.{NoMore, IsOneOf, IsLeast, IsCovered, HasPointOfLeaf, HasWideLeaf, AreTrueEntries}
-use Rattle.cip_leaves.proofs.Covers.{bound_holds}
-use Rattle.cip_leaves.specs.WideLeaf.{IsWideLeaf}
+use Rattle.cip_problem.specs.Improving.{IsNoDearer}
+use Rattle.cip_problem.proofs.Improving.{holds_later}
+use Rattle.cip_search.specs.Searched.{NoMore, IsOneOf, IsLeast, IsCovered, HasPointOfLeaf, HasWideLeaf, AreTrueEntries}
+use Rattle.cip_search.proofs.Covers.{bound_holds}
+use Rattle.cip_search.specs.WideLeaf.{IsWideLeaf}
 use Rattle.cip_incumbent.specs.HeldPoint.{HeldPoint, HoldsPointOf}
 use Rattle.cip_search.specs.SearchState.{State, WayBack, stay, all_nodes, IsSearch, IsAsGiven}
 use Rattle.cip_search.specs.Endings.{IsLeastBound}
@@ -23,7 +23,7 @@ use Rattle.cip_search.specs.SearchEnds.{IsAnswer}
 use Rattle.cip_search.specs.EndLaws.{ComesTo}
 use Rattle.cip_search.proofs.EndsRight.{ends_are_right}
 use Rattle.cip_endings.specs.Held.{Held}
-use Rattle.cip_reductions.specs.SeenLogs.{log_seen, state_seen}
+use Rattle.cip_search.specs.SeenLogs.{log_seen, state_seen}
 use Rattle.cip_endings.specs.AnswerOf.{held_of}
 use Rattle.cip_endings.specs.LeastBounds.{is_no_more, capped}
 use Rattle.cip_solve.specs.Stopping.{WasLeast, BestIs}

@@ -6,15 +6,15 @@ use Rattle.cip_problem.specs.Program.{Program}
 use Rattle.cip_problem.specs.Points.{IsLowerBound}
 use Rattle.cip_problem.specs.WellFormed.{IsWellFormed, columns}
 use Rattle.cip_problem.specs.Log.{Entry, Node, node_of}
-use Rattle.cip_linear.specs.Improving.{IsBoundIn}
-use Rattle.cip_linear.proofs.Reductions.{reduction_itself}
-use Rattle.cip_leaves.specs.Searched.{NoMore, first_node, nodes_given}
-use Rattle.cip_leaves.specs.WideLeaf.{IsWideLeaf}
+use Rattle.cip_problem.specs.Improving.{IsBoundIn}
+use Rattle.cip_problem.proofs.Reductions.{reduction_itself}
+use Rattle.cip_search.specs.Searched.{NoMore, first_node, nodes_given}
+use Rattle.cip_search.specs.WideLeaf.{IsWideLeaf}
 use Rattle.cip_incumbent.specs.HeldPoint.{Holding, nothing_held}
-use Rattle.cip_reductions.specs.NarrowedPrograms.{IsInfeasible}
-use Rattle.cip_processing.specs.StepsBack.{StepsTaken}
-use Rattle.cip_processing.specs.Presolved.{Presolved}
-use Rattle.cip_processing.specs.PresolvedPrograms.{IsPresolved}
+use Rattle.cip_search.specs.NarrowedPrograms.{IsInfeasible}
+use Rattle.cip_solve.specs.StepsBack.{StepsTaken}
+use Rattle.cip_solve.specs.Presolved.{Presolved}
+use Rattle.cip_solve.specs.PresolvedPrograms.{IsPresolved}
 use Rattle.cip_search.specs.SearchState.{State, WayBack, stay, IsWayBack, IsSearch, IsAsGiven}
 use Rattle.cip_search.specs.Endings.{IsLeastBound}
 use Rattle.cip_search.proofs.Kept as searching
@@ -28,10 +28,10 @@ use Rattle.cip_search.specs.SearchAnswers.{IsSearchAnswer}
 use Rattle.cip_search.proofs.Logs.{true_entries}
 use Rattle.cip_search.proofs.WorkLogs.{none_relaxed, none_marked}
 use Rattle.cip_tree.specs.Nodes.{Nodes}
-use Rattle.cip_processing.specs.Beginning.{IsRootBound, HasNotBegun}
-use Rattle.cip_processing.specs.CoreStates.{CoreState, reduced_of, way_of, IsSound}
-use Rattle.cip_processing.specs.KeptNodes.{cost_held, IsKept}
-use Rattle.cip_processing.specs.Mark.{Mark}
+use Rattle.cip_solve.specs.Beginning.{IsRootBound, HasNotBegun}
+use Rattle.cip_solve.specs.CoreStates.{CoreState, reduced_of, way_of, IsSound}
+use Rattle.cip_solve.specs.KeptNodes.{cost_held, IsKept}
+use Rattle.cip_solve.specs.Mark.{Mark}
 use Rattle.cip_solve.specs.Reducing.{IsOfReduced}
 use Rattle.cip_solve.specs.Solved.{AreMet, IsSolved, IsSolvedBy}
 use Rattle.cip_solve.specs.Searching.{IsStillAt, IsAtRoot, IsTold, IsWritten, CanBeSeen}

@@ -6,20 +6,20 @@ use Rattle.cip_rational.specs.Rational.{ℚ}
 use Rattle.cip_rational.proofs.Rational.Order.{le_of_lt_test, lt_test_of_le, ≤ℚ_trans}
 use Rattle.cip_problem.specs.Program.{Program}
 use Rattle.cip_problem.specs.Log.{Node, matters}
-use Rattle.cip_leaves.specs.Leaf.{Leaf}
-use Rattle.cip_leaves.specs.Searched.{NoMore, IsCostHeld}
+use Rattle.cip_search.specs.Leaf.{Leaf}
+use Rattle.cip_search.specs.Searched.{NoMore, IsCostHeld}
 use Rattle.cip_tree.specs.Bounds.{IsBoundAtMost}
 use Rattle.cip_tree.specs.Moves as tree
-use Rattle.cip_leaves.specs.WideLeaf.{IsWideLeaf}
+use Rattle.cip_search.specs.WideLeaf.{IsWideLeaf}
 use Rattle.cip_search.specs.SearchState.{State, WayBack, IsSearch}
 use Rattle.cip_search.specs.Endings.{OneMatters, NoneMatters, IsBoundOfOne, IsLeastBound}
 use Rattle.cip_search.proofs.Members.{none_in, here}
 use Rattle.cip_search.specs.EndLaws.{IsShownNode, ComesTo}
 use Rattle.cip_search.proofs.Leading.{shown_node}
-use Rattle.cip_processing.specs.Shown.{Shown}
+use Rattle.cip_solve.specs.Shown.{Shown}
 use Rattle.cip_endings.specs.Ended.{Ended}
 use Rattle.cip_endings.specs.Ended.TheVariants.{Optimal, Infeasible, Unbounded, NodeLimit, Gap, Wide, NoMemory}
-use Rattle.cip_processing.specs.LeafAnswers.{shown_as}
+use Rattle.cip_solve.specs.LeafAnswers.{shown_as}
 use Rattle.cip_endings.specs.AnswerOf.{ended_of}
 use Rattle.cip_endings.specs.LeastBounds.{least_of, bound_held}
 use Rattle.cip_endings.specs.Ends.{one_matters, IsShownWorst, EndsBy}

@@ -7,11 +7,11 @@ use Rattle.cip_problem.specs.Program.{Sides, Program}
 use Rattle.cip_problem.specs.WellFormed.{IsWellFormed, columns}
 use Rattle.cip_problem.specs.Points.{cost_of}
 use Rattle.cip_problem.specs.Log.{Entry, AllFollow}
-use Rattle.cip_leaves.specs.Searched.{first_node}
-use Rattle.cip_leaves.specs.WideLeaf.{IsWideLeaf}
+use Rattle.cip_search.specs.Searched.{first_node}
+use Rattle.cip_search.specs.WideLeaf.{IsWideLeaf}
 use Rattle.cip_search.specs.SearchState.{WayBack, IsSearch}
 use Rattle.cip_search.proofs.Alike as alike
-use Rattle.cip_linear.specs.LinearProgram.{StaysBetween}
+use Rattle.cip_problem.specs.LinearProgram.{StaysBetween}
 use Rattle.cip_problem.proofs.Points.AtPlaces.{IsInBox-long}
 use Rattle.cip_model.specs.Rays.{IsShownRay}
 use Rattle.cip_model.proofs.Meaning.Ray.{falls_along}
@@ -20,12 +20,12 @@ use Rattle.cip_search.specs.Endings.{IsLeastBound}
 use Rattle.cip_search.specs.SearchEnds as ends
 use Rattle.cip_search.specs.SearchEnds.{IsAnswer}
 use Rattle.cip_search.specs.SearchAnswers.{IsParkedLast, IsSearchAnswer}
-use Rattle.cip_reductions.specs.SeenLogs.{log_seen}
+use Rattle.cip_search.specs.SeenLogs.{log_seen}
 use Rattle.cip_search.proofs.StartBounds.{answer_above}
 use Rattle.cip_tree.specs.Moves as tree
 use Rattle.cip_tree.specs.Nodes.{Nodes}
-use Rattle.cip_processing.specs.Mark.{Mark}
-use Rattle.cip_processing.specs.KeptNodes.{cost_held, state_of, IsHolding}
+use Rattle.cip_solve.specs.Mark.{Mark}
+use Rattle.cip_solve.specs.KeptNodes.{cost_held, state_of, IsHolding}
 use Rattle.cip_endings.specs.Ended.{Ended}
 use Rattle.cip_endings.specs.Ended.TheVariants.{Optimal, Infeasible, Unbounded, NodeLimit, Gap, Wide, NoMemory}
 use Rattle.cip_endings.specs.Held.{Held}

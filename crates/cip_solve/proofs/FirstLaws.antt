@@ -8,7 +8,7 @@ use Rattle.cip_incumbent.specs.HeldPoint.{Holding}
 use Rattle.cip_tree.specs.Moves as tree
 use Rattle.cip_tree.specs.Nodes.{Nodes}
 use Rattle.cip_search.specs.SearchState.{WayBack}
-use Rattle.cip_processing.specs.KeptNodes.{cost_held}
+use Rattle.cip_solve.specs.KeptNodes.{cost_held}
 use Rattle.cip_endings.specs.LeastBounds.{least_of, bound_held, flat}
 use Rattle.cip_endings.specs.Gaps.{reaches_gap}
 use Rattle.cip_endings.specs.Worst.{worst_bound}

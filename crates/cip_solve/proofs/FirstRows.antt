@@ -8,15 +8,15 @@ use Rattle.cip_problem.specs.Program.{Program}
 use Rattle.cip_bland.specs.Tables.{each}
 use Rattle.cip_bland.specs.Operations.{Placed, Sum, Product, placed, overflows, first_overflow, value_place}
 use Rattle.cip_bland.specs.FirstState.{System, columns_of, first_value, form_operations, first_operations}
-use Rattle.cip_linear.specs.Multipliers.{row_sides}
+use Rattle.cip_problem.specs.Multipliers.{row_sides}
 use Rattle.cip_bland.specs.ProgramState.{system_of}
 use Rattle.cip_bland.proofs.Overflow.{overflow-append, overflow-found}
 use Rattle.cip_bland.specs.declared.places.Line.{Line}
 use Rattle.cip_bland.specs.declared.places.Line.TheVariants as line
 use Rattle.cip_bland.specs.declared.places.EntryPlace as dictionary
-use Rattle.cip_leaves.specs.Wide.{InRow}
-use Rattle.cip_leaves.specs.LeafProgram.{row_of_leaf, program_of_leaf}
-use Rattle.cip_leaves.specs.WideLeaf.{FirstValueOverflows}
+use Rattle.cip_search.specs.Wide.{InRow}
+use Rattle.cip_search.specs.LeafProgram.{row_of_leaf, program_of_leaf}
+use Rattle.cip_search.specs.WideLeaf.{FirstValueOverflows}
 
 split_at : (xs ys : List Placed) (place : dictionary.EntryPlace) (first : Option dictionary.EntryPlace) → first_overflow xs ≡ first → first_overflow (xs ++ ys) ≡ Some place → (first_overflow xs ≡ Some place) ⊎ (first_overflow ys ≡ Some place)
 split_at xs ys place None e h = inr (sym (overflow-append xs ys e) ∙ h)

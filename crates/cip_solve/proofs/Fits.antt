@@ -11,12 +11,12 @@ use Rattle.cip_problem.proofs.Points.AtPlaces.{IsInBox-long}
 use Rattle.cip_problem.specs.Log.{Entry}
 use Rattle.cip_bland.specs.EndAnswers as linear
 use Rattle.cip_bland.specs.NoRepeat.{whole_answer}
-use Rattle.cip_leaves.specs.Leaf.{Leaf, IsLeafOf}
-use Rattle.cip_leaves.specs.Wide.{InRow}
-use Rattle.cip_leaves.specs.LeafProgram.{program_of_leaf}
-use Rattle.cip_leaves.specs.WideLeaf.{AtPlace, EndOverflows, IsWideBy}
+use Rattle.cip_search.specs.Leaf.{Leaf, IsLeafOf}
+use Rattle.cip_search.specs.Wide.{InRow}
+use Rattle.cip_search.specs.LeafProgram.{program_of_leaf}
+use Rattle.cip_search.specs.WideLeaf.{AtPlace, EndOverflows, IsWideBy}
 use Rattle.cip_model.specs.declared.verdicts.Place.TheVariants.{Row as AtRow, Cost}
-use Rattle.cip_processing.specs.Figures.{names_of}
+use Rattle.cip_solve.specs.Figures.{names_of}
 use Rattle.cip_search.proofs.Fitting.{leaf_values, leaf_choices}
 use Rattle.cip_search.specs.SearchEnds as ends
 use Rattle.cip_search.specs.SearchEnds.{IsHeldPoint, EndHolds}
@@ -24,11 +24,11 @@ use Rattle.cip_search.specs.SearchAnswers.{IsSearchAnswer}
 use Rattle.cip_endings.specs.Answers.{StandsAmong, EndedFits, AnswerFits}
 use Rattle.cip_endings.specs.Ended.{Ended}
 use Rattle.cip_endings.specs.Ended.TheVariants.{Optimal, Infeasible, Unbounded, NodeLimit, Gap, Wide, NoMemory}
-use Rattle.cip_processing.specs.Shown.{Shown}
-use Rattle.cip_processing.specs.Shown.TheVariants.{Place, Moves}
+use Rattle.cip_solve.specs.Shown.{Shown}
+use Rattle.cip_solve.specs.Shown.TheVariants.{Place, Moves}
 use Rattle.cip_endings.specs.Held.{Held}
 use Rattle.cip_endings.specs.Answer.{Answer}
-use Rattle.cip_processing.specs.LeafAnswers.{shown_as}
+use Rattle.cip_solve.specs.LeafAnswers.{shown_as}
 use Rattle.cip_endings.specs.AnswerOf.{ended_of, held_of, answer_of}
 use Rattle.cip_solve.proofs.FirstRows.{first_row_there}
 

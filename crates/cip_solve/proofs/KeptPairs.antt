@@ -8,13 +8,13 @@ use Rattle.cip_problem.specs.WellFormed.{IsWellFormed}
 use Rattle.cip_problem.specs.Activity.{value_at}
 use Rattle.cip_problem.specs.Box.{sides_at, sides_inside}
 use Rattle.cip_problem.specs.Choices.{choice_at}
-use Rattle.cip_reductions.specs.Forms.{kept_at}
-use Rattle.cip_reductions.specs.Pairs.{IsHeldFast, IsPair}
-use Rattle.cip_reductions.proofs.Spreading.{numbers_listed}
-use Rattle.cip_processing.specs.Presolved.{Presolved}
-use Rattle.cip_processing.specs.PresolvedPrograms.{IsPresolved}
-use Rattle.cip_processing.specs.StepsBack.{point_back, old_number}
-use Rattle.cip_processing.specs.CoreStates.{CoreState, reduced_of}
+use Rattle.cip_search.specs.Forms.{kept_at}
+use Rattle.cip_search.specs.Pairs.{IsHeldFast, IsPair}
+use Rattle.cip_search.proofs.Spreading.{numbers_listed}
+use Rattle.cip_solve.specs.Presolved.{Presolved}
+use Rattle.cip_solve.specs.PresolvedPrograms.{IsPresolved}
+use Rattle.cip_solve.specs.StepsBack.{point_back, old_number}
+use Rattle.cip_solve.specs.CoreStates.{CoreState, reduced_of}
 use Rattle.cip_solve.specs.Logs.{renamed}
 use Rattle.cip_solve.specs.Reducing.{IsOfReduced}
 use Rattle.cip_solve.specs.Searching.{CanBeSeen}

@@ -3,7 +3,7 @@ use Rattle.std.proofs.Common.{◌≡◌, inr, ℕ, ◌+◌, ◌≤◌, Bool, tru
 use Rattle.cip_events.specs.declared.traces.Trace.{Trace}
 use Rattle.cip_problem.specs.Log.{Entry}
 use Rattle.cip_plugin.specs.Seats.{State}
-use Rattle.cip_processing.proofs.PassedOn.{run_count}
+use Rattle.cip_roster.proofs.Sounding.{run_count}
 use Rattle.cip_solve.specs.Kits.{Stock, HasRoomFor}
 use Rattle.cip_solve.specs.KitsServed.{IsKitAfter}
 use Rattle.cip_solve.specs.SplitsServed.{HasServed}

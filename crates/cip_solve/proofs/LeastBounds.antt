@@ -4,7 +4,7 @@ use Rattle.std.specs.Prelude.{List}
 use Rattle.cip_rational.specs.Rational.{ℚ}
 use Rattle.cip_rational.proofs.Rational.Order.{≤ℚ_antisymm}
 use Rattle.cip_problem.specs.Log.{Node}
-use Rattle.cip_leaves.specs.Searched.{NoMore, IsCostHeld}
+use Rattle.cip_search.specs.Searched.{NoMore, IsCostHeld}
 use Rattle.cip_search.specs.Endings.{IsBoundOfOne, IsLeastBound}
 use Rattle.cip_search.proofs.Bounds.{no_more_itself}
 use Rattle.cip_search.proofs.Relaxed.{no_more_trans}

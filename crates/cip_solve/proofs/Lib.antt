@@ -1,7 +1,8 @@
 pub mod AnswerLaws
 pub mod BegunLaws
+pub mod Closing
 pub mod ComesTo
-pub mod Ending
+pub mod Coming
 pub mod FinishLaws
 pub mod FirstLaws
 pub mod FirstRows
@@ -16,10 +17,13 @@ pub mod Reduced
 pub mod Renamed
 pub mod SameColumns
 pub mod SameSearches
+pub mod SearchesEnded
 pub mod SeenLaws
 pub mod Serving
 pub mod SetAside
 pub mod SolvedLaws
+pub mod Standing
 pub mod TurnLaws
+pub mod Using
 pub mod WorkedNodes
 pub mod Working

@@ -2,9 +2,9 @@
 use Rattle.std.proofs.Common.{Bool, Result, Ok, Err, sym, subst}
 use Rattle.std.specs.Prelude.{IfOk}
 use Rattle.cip_problem.specs.Program.{Program}
-use Rattle.cip_processing.specs.Presolved.{Presolved}
-use Rattle.cip_processing.specs.PresolvedPrograms.{IsPresolved, IsUnchanged}
-use Rattle.cip_processing.specs.Beginning.{AreNearColumns}
+use Rattle.cip_solve.specs.Presolved.{Presolved}
+use Rattle.cip_solve.specs.PresolvedPrograms.{IsPresolved, IsUnchanged}
+use Rattle.cip_solve.specs.Beginning.{AreNearColumns}
 use Rattle.cip_solve.specs.Reducing.{CanBeSearched}
 
 pub itself_searched : (presolve : Bool) (program : Program) (presolved : Presolved) → AreNearColumns program → IsPresolved program presolved → IsUnchanged program presolved → CanBeSearched presolve program presolved

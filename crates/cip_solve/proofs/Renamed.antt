@@ -8,7 +8,7 @@ use Rattle.cip_tree.specs.Entries as tree
 use Rattle.cip_tree.specs.Entries.{end_of, entry_of}
 use Rattle.cip_tree.specs.declared.logs.End.{End as LoggedEnd}
 use Rattle.cip_tree.specs.declared.logs.Logged.{Logged}
-use Rattle.cip_reductions.specs.SeenLogs.{end_seen, entry_seen, log_seen}
+use Rattle.cip_search.specs.SeenLogs.{end_seen, entry_seen, log_seen}
 use Rattle.cip_solve.specs.Logs.{renamed}
 
 -- ---- one entry after the other

@@ -2,8 +2,8 @@
 use Rattle.std.proofs.Common.{◌≡◌, ℕ, zero, suc, ◌+◌, List, [], ◌∷◌, refl, ap, ◌∙◌, subst, arith}
 use Rattle.std.specs.Prelude.{slice_index_or}
 use Rattle.cip_problem.specs.Log.{End, Split, Closed, Parked, Entry}
-use Rattle.cip_reductions.specs.SeenLogs.{end_seen, log_seen}
-use Rattle.cip_processing.specs.PresolvedPrograms.{counted}
+use Rattle.cip_search.specs.SeenLogs.{end_seen, log_seen}
+use Rattle.cip_solve.specs.PresolvedPrograms.{counted}
 use Rattle.cip_solve.specs.Logs.{renamed}
 
 counted_at : (first n column : ℕ) → slice_index_or (counted first n) column (first + column) ≡ first + column

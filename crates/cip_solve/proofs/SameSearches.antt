@@ -3,9 +3,9 @@ use Rattle.std.proofs.Common.{Option, refl, ◌∙◌, subst}
 use Rattle.cip_rational.specs.Rational.{ℚ}
 use Rattle.cip_problem.specs.Program.{Program}
 use Rattle.cip_problem.specs.Log.{Node}
-use Rattle.cip_processing.specs.StepsBack.{StepsTaken, way_back}
+use Rattle.cip_solve.specs.StepsBack.{StepsTaken, way_back}
 use Rattle.cip_search.specs.SearchState.{WayBack}
-use Rattle.cip_processing.specs.CoreStates.{CoreState, reduced_of, way_of}
+use Rattle.cip_solve.specs.CoreStates.{CoreState, reduced_of, way_of}
 use Rattle.cip_endings.specs.declared.worst.Worst.{Worst}
 use Rattle.cip_solve.specs.Searching.{IsStill, IsStillAt, IsSameSearch}
 

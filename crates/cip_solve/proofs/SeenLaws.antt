@@ -5,16 +5,16 @@ use Rattle.std.proofs.lemmas.List.{map-append}
 use Rattle.cip_rational.specs.Rational.{ℚ}
 use Rattle.cip_problem.specs.Program.{Program}
 use Rattle.cip_problem.specs.Log.{Entry, Node, node_of, AllFollow, matters}
-use Rattle.cip_leaves.specs.Searched.{NoMore, first_node, nodes_given}
-use Rattle.cip_leaves.specs.WideLeaf.{IsWideLeaf}
+use Rattle.cip_search.specs.Searched.{NoMore, first_node, nodes_given}
+use Rattle.cip_search.specs.WideLeaf.{IsWideLeaf}
 use Rattle.cip_search.specs.SearchState.{State, WayBack, all_nodes, IsSearch, IsAsGiven}
 use Rattle.cip_search.specs.Endings.{IsLeastBound}
 use Rattle.cip_search.proofs.Members.{mapped, of_mapped}
-use Rattle.cip_reductions.specs.SeenLogs.{entry_seen, log_seen, with_box_of, node_seen, state_seen}
-use Rattle.cip_reductions.specs.SeenStatements.{IsReducedTo, IsLogSeen, IsSeen}
-use Rattle.cip_reductions.proofs.LogsSeen.{logs_are_seen}
-use Rattle.cip_reductions.proofs.SeenEnds.{searches_are_seen}
-use Rattle.cip_processing.specs.KeptNodes.{cost_held, state_of, AllMatter}
+use Rattle.cip_search.specs.SeenLogs.{entry_seen, log_seen, with_box_of, node_seen, state_seen}
+use Rattle.cip_search.specs.SeenStatements.{IsReducedTo, IsLogSeen, IsSeen}
+use Rattle.cip_search.proofs.LogsSeen.{logs_are_seen}
+use Rattle.cip_search.proofs.SeenEnds.{searches_are_seen}
+use Rattle.cip_solve.specs.KeptNodes.{cost_held, state_of, AllMatter}
 use Rattle.cip_solve.specs.FirstStops.{IsShortAt, IsFirstStop}
 use Rattle.cip_solve.specs.Searching.{WasShortAt, WasShort, CanBeSeen}
 

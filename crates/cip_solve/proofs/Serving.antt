@@ -13,17 +13,17 @@ use Rattle.cip_plugin.specs.Seats.{Seat, State, is_settled}
 use Rattle.cip_plugin.specs.Steps.{Step, calls_of, asks_in}
 use Rattle.cip_plugin.proofs.Hearing.{asks_in-append}
 use Rattle.cip_plugin.proofs.Running.{calls_of-append, Runs-append}
-use Rattle.cip_processing.specs.Wished.{Ran}
-use Rattle.cip_processing.specs.Served.{is_wanted, IsServed}
-use Rattle.cip_processing.proofs.PassedOn.{between}
-use Rattle.cip_processing.specs.CoreStates.{CoreState}
-use Rattle.cip_processing.specs.Mark.{Mark}
-use Rattle.cip_processing.specs.NodeEnd.{NodeEnd}
-use Rattle.cip_processing.specs.NodeEnd.TheVariants as by
-use Rattle.cip_processing.specs.NodeRecord.{NodeRecord}
-use Rattle.cip_processing.specs.Judged.{Judged}
-use Rattle.cip_processing.specs.NodesReached.{asks_in_pass}
-use Rattle.cip_processing.specs.NodesDone.{asks_for_split, asks_until, IsUsedAt}
+use Rattle.cip_solve.specs.Wished.{Ran}
+use Rattle.cip_solve.specs.Served.{is_wanted, IsServed}
+use Rattle.cip_calls.proofs.PassedOn.{between}
+use Rattle.cip_solve.specs.CoreStates.{CoreState}
+use Rattle.cip_solve.specs.Mark.{Mark}
+use Rattle.cip_solve.specs.NodeEnd.{NodeEnd}
+use Rattle.cip_solve.specs.NodeEnd.TheVariants as by
+use Rattle.cip_solve.specs.NodeRecord.{NodeRecord}
+use Rattle.cip_solve.specs.Judged.{Judged}
+use Rattle.cip_solve.specs.NodesReached.{asks_in_pass}
+use Rattle.cip_solve.specs.NodesDone.{asks_for_split, asks_until, IsUsedAt}
 use Rattle.cip_solve.specs.NodesWorked.{IsWorkedEnd}
 use Rattle.cip_solve.specs.SplitsServed.{split_count, splits_in, splits_by, is_worker, HasServed}
 

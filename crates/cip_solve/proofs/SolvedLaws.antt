@@ -6,14 +6,14 @@ use Rattle.cip_problem.specs.Program.{Program}
 use Rattle.cip_problem.specs.WellFormed.{columns}
 use Rattle.cip_problem.specs.Log.{End, Split, Closed, Parked, Entry, Node}
 use Rattle.cip_search.specs.SearchEnds as ends
-use Rattle.cip_reductions.specs.SeenLogs.{end_seen, entry_seen, log_seen}
-use Rattle.cip_processing.specs.Presolved.{Presolved}
-use Rattle.cip_processing.specs.Mark.{Mark}
-use Rattle.cip_processing.specs.CoreStates.{CoreState, reduced_of, way_of}
+use Rattle.cip_search.specs.SeenLogs.{end_seen, entry_seen, log_seen}
+use Rattle.cip_solve.specs.Presolved.{Presolved}
+use Rattle.cip_solve.specs.Mark.{Mark}
+use Rattle.cip_solve.specs.CoreStates.{CoreState, reduced_of, way_of}
 use Rattle.cip_solve.specs.Answered.{IsAnswered}
 use Rattle.cip_solve.specs.FirstStops.{StopsFirst}
 use Rattle.cip_solve.specs.Logs.{renamed}
-use Rattle.cip_processing.specs.PresolvedPrograms.{IsUnchanged}
+use Rattle.cip_solve.specs.PresolvedPrograms.{IsUnchanged}
 use Rattle.cip_solve.specs.Reducing.{IsOfReduced}
 use Rattle.cip_solve.specs.Searching.{IsAtRoot, IsSameSearch, IsWritten, WasShort, CanBeSeen}
 use Rattle.cip_solve.specs.Solved.{AreMet, IsSolvedBy}

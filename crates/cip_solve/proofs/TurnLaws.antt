@@ -4,24 +4,24 @@ use Rattle.std.proofs.lemmas.List.{take-append-le}
 use Rattle.cip_rational.specs.Rational.{ℚ}
 use Rattle.cip_rational.proofs.Rational.Order.{≤ℚ_refl}
 use Rattle.cip_problem.specs.Program.{Program}
-use Rattle.cip_processing.specs.StepsBack.{StepsTaken, way_back}
+use Rattle.cip_solve.specs.StepsBack.{StepsTaken, way_back}
 use Rattle.cip_problem.specs.Log.{End, Split, Closed, Parked, Entry, Node}
-use Rattle.cip_linear.specs.Improving.{IsNoDearer}
-use Rattle.cip_processing.specs.LeafAnswers.{shown_as}
+use Rattle.cip_problem.specs.Improving.{IsNoDearer}
+use Rattle.cip_solve.specs.LeafAnswers.{shown_as}
 use Rattle.cip_incumbent.specs.HeldPoint.{Holding}
 use Rattle.cip_search.specs.SearchState.{WayBack}
 use Rattle.cip_search.specs.Endings.{IsLeastBound}
 use Rattle.cip_tree.specs.Moves as tree
 use Rattle.cip_tree.specs.Nodes.{Nodes, TakenNode, shown}
-use Rattle.cip_processing.specs.Mark.{Mark}
-use Rattle.cip_processing.specs.CoreStates.{CoreState, reduced_of, way_of, held_of, IsKeptIn, IsTakenUp}
-use Rattle.cip_processing.specs.KeptNodes.{cost_held, state_of, IsHolding}
-use Rattle.cip_processing.specs.Later.{IsLater}
-use Rattle.cip_processing.specs.Steps.{LeavesEntry, IsBack}
+use Rattle.cip_solve.specs.Mark.{Mark}
+use Rattle.cip_solve.specs.CoreStates.{CoreState, reduced_of, way_of, held_of, IsKeptIn, IsTakenUp}
+use Rattle.cip_solve.specs.KeptNodes.{cost_held, state_of, IsHolding}
+use Rattle.cip_solve.specs.Later.{IsLater}
+use Rattle.cip_solve.specs.Steps.{LeavesEntry, IsBack}
 use Rattle.cip_tree.specs.Moves.{TakesFirst}
-use Rattle.cip_processing.specs.NodeEnds.{IsEndless as EndsEndless}
-use Rattle.cip_processing.specs.NodeEnd.{NodeEnd}
-use Rattle.cip_processing.specs.NodeEnd.TheVariants as by
+use Rattle.cip_solve.specs.NodeEnds.{IsEndless as EndsEndless}
+use Rattle.cip_solve.specs.NodeEnd.{NodeEnd}
+use Rattle.cip_solve.specs.NodeEnd.TheVariants as by
 use Rattle.cip_endings.specs.LeastBounds.{least_of, bound_held, flat}
 use Rattle.cip_solve.specs.FirstStops.{IsLongerLog}
 use Rattle.cip_solve.specs.Logs.{marks_by}

@@ -14,16 +14,16 @@ use Rattle.cip_search.proofs.Relaxed.{wider}
 use Rattle.cip_search.specs.SearchAnswers.{IsSplitEnd, AreRelaxed, AreOfEntries}
 use Rattle.cip_search.proofs.WorkLogs.{unmarked_more, marked_more, later_given, relaxed_more}
 use Rattle.cip_tree.specs.Nodes.{TakenNode, shown}
-use Rattle.cip_processing.specs.NodeRows.{usable_rows}
-use Rattle.cip_processing.specs.Relaxing.{IsMark}
-use Rattle.cip_processing.specs.Mark.{Mark}
-use Rattle.cip_processing.specs.CoreStates.{CoreState, reduced_of, held_of, IsTakenUp}
-use Rattle.cip_processing.specs.Steps.{LeavesEntry}
-use Rattle.cip_processing.specs.Bounding.{IsMarkOf, IsAsGood}
-use Rattle.cip_leaves.specs.Leaf.{Leaf}
-use Rattle.cip_processing.specs.NodeEnd.{NodeEnd}
-use Rattle.cip_processing.specs.NodeEnd.TheVariants as by
-use Rattle.cip_leaves.specs.WideLeaf.{Shown}
+use Rattle.cip_solve.specs.NodeRows.{usable_rows}
+use Rattle.cip_solve.specs.Relaxing.{IsMark}
+use Rattle.cip_solve.specs.Mark.{Mark}
+use Rattle.cip_solve.specs.CoreStates.{CoreState, reduced_of, held_of, IsTakenUp}
+use Rattle.cip_solve.specs.Steps.{LeavesEntry}
+use Rattle.cip_solve.specs.Bounding.{IsMarkOf, IsAsGood}
+use Rattle.cip_search.specs.Leaf.{Leaf}
+use Rattle.cip_solve.specs.NodeEnd.{NodeEnd}
+use Rattle.cip_solve.specs.NodeEnd.TheVariants as by
+use Rattle.cip_search.specs.WideLeaf.{Shown}
 use Rattle.cip_solve.specs.Logs.{numbers_of, marks_by}
 use Rattle.cip_solve.specs.NodesWorked.{IsWorkedEnd, HasWorked}
 use Rattle.cip_solve.specs.Solved.{own_rows, IsMet, AreMet}

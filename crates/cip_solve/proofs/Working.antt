@@ -3,14 +3,14 @@ use Rattle.std.proofs.Common.{Bool, true, false, Option, Result, Ok, Err, sym, s
 use Rattle.std.specs.Prelude.{MatchResult}
 use Rattle.cip_problem.specs.Log.{Node}
 use Rattle.cip_tree.specs.Nodes.{TakenNode}
-use Rattle.cip_processing.specs.Mark.{Mark}
-use Rattle.cip_processing.specs.CoreStates.{CoreState}
-use Rattle.cip_processing.specs.NodeEnds.{IsEnd, HasEnded}
-use Rattle.cip_processing.specs.NodeEnd.{NodeEnd}
-use Rattle.cip_processing.specs.NodeEnd.TheVariants as by
-use Rattle.cip_processing.specs.NodeRecord.{NodeRecord}
-use Rattle.cip_processing.specs.NodesDone.{HasParted, HasEndedBy, IsDone}
-use Rattle.cip_processing.specs.declared.ends.Done.{Done}
+use Rattle.cip_solve.specs.Mark.{Mark}
+use Rattle.cip_solve.specs.CoreStates.{CoreState}
+use Rattle.cip_solve.specs.NodeEnds.{IsEnd, HasEnded}
+use Rattle.cip_solve.specs.NodeEnd.{NodeEnd}
+use Rattle.cip_solve.specs.NodeEnd.TheVariants as by
+use Rattle.cip_solve.specs.NodeRecord.{NodeRecord}
+use Rattle.cip_solve.specs.NodesDone.{HasParted, HasEndedBy, IsDone}
+use Rattle.cip_solve.specs.declared.ends.Done.{Done}
 use Rattle.cip_solve.specs.NodesWorked.{IsWorkedEnd, HasWorked}
 
 worked_end : (old new : CoreState) (node : TakenNode) (ended : Node) (mark : Option Mark) (end : NodeEnd) → IsEnd old new node ended mark end → IsWorkedEnd old new ended mark end

@@ -5,7 +5,7 @@ use Rattle.cip_problem.specs.Program.{Program}
 use Rattle.cip_problem.specs.Log.{Entry}
 use Rattle.cip_search.specs.SearchEnds.{NoMemory, Answer}
 use Rattle.cip_search.specs.SearchAnswers.{IsSearchAnswer}
-use Rattle.cip_processing.specs.Mark.{Mark}
+use Rattle.cip_solve.specs.Mark.{Mark}
 use Rattle.cip_solve.specs.Logs.{numbers_of}
 use Rattle.cip_solve.specs.Solved.{RayIsShown}
 

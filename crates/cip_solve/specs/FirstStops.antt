@@ -5,11 +5,11 @@ use Rattle.std.specs.Prelude.{◌≡◌, ℕ, ◌<◌, ◌≤◌, List, [], leng
 use Rattle.cip_rational.specs.Rational.{ℚ}
 use Rattle.cip_problem.specs.Program.{Program}
 use Rattle.cip_problem.specs.Log.{Entry}
-use Rattle.cip_leaves.specs.WideLeaf.{IsWideLeaf}
+use Rattle.cip_search.specs.WideLeaf.{IsWideLeaf}
 use Rattle.cip_incumbent.specs.HeldPoint.{Holding}
 use Rattle.cip_search.specs.SearchState.{State, stay, all_nodes, IsSearch, IsAsGiven, HasGivenBoxes}
-use Rattle.cip_processing.specs.Beginning.{IsRootBound}
-use Rattle.cip_processing.specs.KeptNodes.{cost_held, AllMatter, IsHolding}
+use Rattle.cip_solve.specs.Beginning.{IsRootBound}
+use Rattle.cip_solve.specs.KeptNodes.{cost_held, AllMatter, IsHolding}
 use Rattle.cip_solve.specs.Searching.{HasReachedGap}
 
 -- entries were only added behind those of a log

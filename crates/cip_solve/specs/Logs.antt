@@ -2,7 +2,7 @@
 use Rattle.std.specs.Prelude.{ℕ, List, [], ◌∷◌, map, slice_index_or, Option, None, Some}
 use Rattle.cip_problem.specs.Log.{Entry}
 use Rattle.cip_tree.specs.Entries as tree
-use Rattle.cip_processing.specs.Mark.{Mark}
+use Rattle.cip_solve.specs.Mark.{Mark}
 use Rattle.cip_solve.specs.declared.logs.Log.{Log}
 
 -- the entries

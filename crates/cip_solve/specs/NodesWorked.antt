@@ -1,16 +1,16 @@
 -- What a search needs of how the work on a node ends, whoever did it: with plugins or without.
 use Rattle.std.specs.Prelude.{◌≡◌, ◌+◌, ◌≤◌, [], ℕ, ℤ, false, Option, IfSome}
 use Rattle.cip_problem.specs.Log.{Split, Closed, Node}
-use Rattle.cip_processing.specs.LeafAnswers.{shown_as}
-use Rattle.cip_processing.specs.Mark.{Mark}
+use Rattle.cip_solve.specs.LeafAnswers.{shown_as}
+use Rattle.cip_solve.specs.Mark.{Mark}
 use Rattle.cip_tree.specs.Nodes.{TakenNode, box_of, shown}
-use Rattle.cip_processing.specs.CoreStates.{CoreState, IsKeptIn}
-use Rattle.cip_processing.specs.Later.{IsLater, IsNarrower}
-use Rattle.cip_processing.specs.Steps.{LeavesEntry}
-use Rattle.cip_processing.specs.Bounding.{IsMarkOf, IsAsGood}
-use Rattle.cip_processing.specs.NodeEnds.{IsAside, IsEndless}
-use Rattle.cip_processing.specs.NodeEnd.{NodeEnd}
-use Rattle.cip_processing.specs.NodeEnd.TheVariants as by
+use Rattle.cip_solve.specs.CoreStates.{CoreState, IsKeptIn}
+use Rattle.cip_solve.specs.Later.{IsLater, IsNarrower}
+use Rattle.cip_solve.specs.Steps.{LeavesEntry}
+use Rattle.cip_solve.specs.Bounding.{IsMarkOf, IsAsGood}
+use Rattle.cip_solve.specs.NodeEnds.{IsAside, IsEndless}
+use Rattle.cip_solve.specs.NodeEnd.{NodeEnd}
+use Rattle.cip_solve.specs.NodeEnd.TheVariants as by
 
 -- it was closed
 pub record IsClosedOff (old new : CoreState) (ended : Node) : Type 0 where

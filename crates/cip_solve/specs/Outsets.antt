@@ -2,7 +2,7 @@
 use Rattle.std.specs.Prelude.{◌≡◌, length}
 use Rattle.cip_problem.specs.Program.{Program}
 use Rattle.cip_problem.specs.WellFormed.{columns}
-use Rattle.cip_processing.specs.Presolved.{Presolved}
+use Rattle.cip_solve.specs.Presolved.{Presolved}
 use Rattle.cip_solve.specs.Reducing.{IsOfReduced}
 use Rattle.cip_solve.specs.Searching.{IsAtRoot}
 use Rattle.cip_solve.specs.declared.outsets.Begun.{Begun}

@@ -2,11 +2,11 @@
 use Rattle.std.specs.Prelude.{◌≡◌, Bool, true, false, Option, None, Some}
 use Rattle.cip_problem.specs.Program.{Program}
 use Rattle.cip_problem.specs.WellFormed.{IsWellFormed}
-use Rattle.cip_reductions.specs.NarrowedPrograms.{IsInfeasible}
-use Rattle.cip_processing.specs.Presolved.{Presolved}
-use Rattle.cip_processing.specs.PresolvedPrograms.{IsPresolved, IsUnchanged}
-use Rattle.cip_processing.specs.Beginning.{AreNearColumns}
-use Rattle.cip_processing.specs.CoreStates.{CoreState}
+use Rattle.cip_search.specs.NarrowedPrograms.{IsInfeasible}
+use Rattle.cip_solve.specs.Presolved.{Presolved}
+use Rattle.cip_solve.specs.PresolvedPrograms.{IsPresolved, IsUnchanged}
+use Rattle.cip_solve.specs.Beginning.{AreNearColumns}
+use Rattle.cip_solve.specs.CoreStates.{CoreState}
 
 -- a reduced program may be searched in place of a program; where nothing may be presolved it is the program itself
 pub record CanBeSearched (presolve : Bool) (program : Program) (presolved : Presolved) : Type 0 where

@@ -10,16 +10,16 @@ use Rattle.cip_problem.specs.Points.{IsFeasible, IsLowerBound}
 use Rattle.cip_problem.specs.Log.{Entry, Node, AllFollow}
 use Rattle.cip_model.specs.Rays.{IsShownRay}
 use Rattle.cip_incumbent.specs.HeldPoint.{Holding}
-use Rattle.cip_leaves.specs.Searched.{first_node}
+use Rattle.cip_search.specs.Searched.{first_node}
 use Rattle.cip_search.specs.Endings.{IsLeastBound}
 use Rattle.cip_search.specs.SearchAnswers.{AreRelaxed, AreOfEntries, IsParkedLast}
 use Rattle.cip_search.specs.SearchState.{WayBack, HasGivenBoxes}
-use Rattle.cip_reductions.specs.Pairs.{IsPair}
+use Rattle.cip_search.specs.Pairs.{IsPair}
 use Rattle.cip_tree.specs.Nodes.{Nodes}
-use Rattle.cip_processing.specs.Mark.{Mark}
-use Rattle.cip_processing.specs.Beginning.{IsRootBound}
-use Rattle.cip_processing.specs.CoreStates.{CoreState, reduced_of, way_of, held_of}
-use Rattle.cip_processing.specs.KeptNodes.{cost_held, state_of, IsSearchOf, IsKept, AllMatter, IsHolding}
+use Rattle.cip_solve.specs.Mark.{Mark}
+use Rattle.cip_solve.specs.Beginning.{IsRootBound}
+use Rattle.cip_solve.specs.CoreStates.{CoreState, reduced_of, way_of, held_of}
+use Rattle.cip_solve.specs.KeptNodes.{cost_held, state_of, IsSearchOf, IsKept, AllMatter, IsHolding}
 use Rattle.cip_endings.specs.Gaps.{reaches_gap}
 use Rattle.cip_solve.specs.Logs.{numbers_of}
 use Rattle.cip_solve.specs.Solved.{AreMet}

@@ -5,14 +5,14 @@ use Rattle.cip_rational.specs.Rational.{ℚ}
 use Rattle.cip_problem.specs.Program.{Program}
 use Rattle.cip_problem.specs.WellFormed.{columns}
 use Rattle.cip_problem.specs.Log.{Entry, Node, node_of}
-use Rattle.cip_processing.specs.Lent.{Lent}
-use Rattle.cip_leaves.specs.Searched.{nodes_given}
+use Rattle.cip_solve.specs.Lent.{Lent}
+use Rattle.cip_search.specs.Searched.{nodes_given}
 use Rattle.cip_model.specs.Rays.{IsShownRay}
 use Rattle.cip_search.specs.SearchEnds.{Unbounded, NoMemory, Answer}
 use Rattle.cip_search.specs.SearchAnswers.{IsSearchAnswer}
-use Rattle.cip_processing.specs.Relaxing.{IsMark}
-use Rattle.cip_processing.specs.Mark.{Mark}
-use Rattle.cip_processing.specs.Beginning.{IsRootBound}
+use Rattle.cip_solve.specs.Relaxing.{IsMark}
+use Rattle.cip_solve.specs.Mark.{Mark}
+use Rattle.cip_solve.specs.Beginning.{IsRootBound}
 use Rattle.cip_solve.specs.Logs.{numbers_of}
 
 -- the program's rows, and no others

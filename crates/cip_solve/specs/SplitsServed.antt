@@ -7,8 +7,8 @@ use Rattle.cip_plugin.specs.declared.kinds.Kind.{Kind}
 use Rattle.cip_plugin.specs.Seats.{Seat, State}
 use Rattle.cip_plugin.specs.Steps.{Step, Runs, calls_of, asks_in}
 use Rattle.cip_plugin.specs.Wishing.{IsOnThroughout}
-use Rattle.cip_processing.specs.NodeEnd.{NodeEnd}
-use Rattle.cip_processing.specs.NodeEnd.TheVariants as by
+use Rattle.cip_solve.specs.NodeEnd.{NodeEnd}
+use Rattle.cip_solve.specs.NodeEnd.TheVariants as by
 
 -- 1 where an entry's end is a split, else 0
 abbrev pub split_count : End → ℕ

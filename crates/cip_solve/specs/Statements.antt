@@ -4,7 +4,7 @@ use Rattle.cip_rational.specs.Rational.{ℚ}
 use Rattle.cip_problem.specs.Program.{Program}
 use Rattle.cip_problem.specs.WellFormed.{IsWellFormed}
 use Rattle.cip_problem.specs.Log.{Entry}
-use Rattle.cip_processing.specs.Mark.{Mark}
+use Rattle.cip_solve.specs.Mark.{Mark}
 use Rattle.cip_endings.specs.Answers.{AnswerFits}
 use Rattle.cip_endings.specs.Answer.{Answer}
 use Rattle.cip_endings.specs.AnswerOf.{answer_of}

@@ -3,8 +3,8 @@ use Rattle.std.specs.Prelude.{◌≡◌, List, [], Option, None, Some}
 use Rattle.cip_rational.specs.Rational.{ℚ}
 use Rattle.cip_problem.specs.Program.{Program}
 use Rattle.cip_problem.specs.Log.{Entry}
-use Rattle.cip_linear.specs.Improving.{IsNoDearer}
-use Rattle.cip_leaves.specs.WideLeaf.{IsWideLeaf}
+use Rattle.cip_problem.specs.Improving.{IsNoDearer}
+use Rattle.cip_search.specs.WideLeaf.{IsWideLeaf}
 use Rattle.cip_incumbent.specs.HeldPoint.{HeldPoint}
 use Rattle.cip_search.specs.SearchState.{State, WayBack, all_nodes, IsSearch, IsAsGiven}
 use Rattle.cip_search.specs.Endings.{IsLeastBound}

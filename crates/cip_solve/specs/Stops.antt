@@ -3,14 +3,14 @@ use Rattle.std.specs.Prelude.{◌≡◌, ℕ, Option, None, Some}
 use Rattle.cip_rational.specs.Rational.{ℚ}
 use Rattle.cip_problem.specs.Program.{Program}
 use Rattle.cip_incumbent.specs.HeldPoint.{Holding}
-use Rattle.cip_leaves.specs.Leaf.{Leaf}
-use Rattle.cip_leaves.specs.WideLeaf.{Shown}
-use Rattle.cip_processing.specs.LeafAnswers.{shown_as}
+use Rattle.cip_search.specs.Leaf.{Leaf}
+use Rattle.cip_search.specs.WideLeaf.{Shown}
+use Rattle.cip_solve.specs.LeafAnswers.{shown_as}
 use Rattle.cip_search.specs.SearchState.{WayBack}
 use Rattle.cip_tree.specs.Nodes.{Nodes}
-use Rattle.cip_processing.specs.CoreStates.{CoreState, reduced_of, way_of}
-use Rattle.cip_processing.specs.NodeEnd.{NodeEnd}
-use Rattle.cip_processing.specs.NodeEnd.TheVariants as by
+use Rattle.cip_solve.specs.CoreStates.{CoreState, reduced_of, way_of}
+use Rattle.cip_solve.specs.NodeEnd.{NodeEnd}
+use Rattle.cip_solve.specs.NodeEnd.TheVariants as by
 use Rattle.cip_endings.specs.Worst.{leaf_of, IsWorse}
 use Rattle.cip_endings.specs.declared.worst.Worst.{Worst}
 use Rattle.cip_solve.specs.Searching.{StopsStill, StopsEndless, StopsRefused}

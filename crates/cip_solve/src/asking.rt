@@ -1,6 +1,10 @@
 //! Work with plugins.
+use crate::ends::Done;
+use crate::processing::process;
+use crate::telling::tell_end;
 use crate::works::Works;
-use cip_processing::{Asks, Done, NodeEnd, NodeRecord, NodeWork, Plugins, process, tell_end};
+use cip_calls::{Asks, Plugins};
+use cip_node::{NodeEnd, NodeRecord, NodeWork};
 use cip_tree::Node;
 use std::alloc::{AllocError, Global};
 
@@ -15,8 +19,8 @@ pub struct Asking<R> {
 
 impl<R: Asks> Works for Asking<R> {
     ghost use Rattle.std.specs.Prelude.{true};
-    ghost use Rattle.cip_processing.specs.Turns.{IsSound};
-    ghost use Rattle.cip_processing.specs.ProposalsJudged.{HaveRoom};
+    ghost use Rattle.cip_solve.specs.Turns.{IsSound};
+    ghost use Rattle.cip_solve.specs.ProposalsJudged.{HaveRoom};
 
     ghost asks = { true };
 

@@ -1,10 +1,10 @@
 //! What a search did.
 ghost use Rattle.std.specs.Prelude.{◌≡◌, []};
 ghost use Rattle.cip_tree.specs.Entries.{end_of};
-ghost use Rattle.cip_reductions.specs.SeenLogs.{end_seen, log_seen};
+ghost use Rattle.cip_search.specs.SeenLogs.{end_seen, log_seen};
 ghost use Rattle.cip_solve.specs.Logs.{entries_of, renamed};
 
-use cip_processing::Mark;
+use cip_node::Mark;
 use cip_tree::{End, Logged};
 use std::alloc::Global;
 

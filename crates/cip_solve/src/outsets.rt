@@ -1,22 +1,22 @@
 //! How a search begins, and one with plugins.
 ghost use Rattle.std.specs.Prelude.{◌≡◌, IfOk, OnErr, vec_len, vec_capacity};
 ghost use Rattle.cip_problem.specs.WellFormed.{columns};
-ghost use Rattle.cip_processing.specs.PresolvedPrograms.{IsPresolved};
-ghost use Rattle.cip_processing.specs.Beginning.{AreNearColumns};
-ghost use Rattle.cip_processing.specs.ProposalsJudged.{HaveRoom};
-ghost use Rattle.cip_processing.specs.Turns.{IsSound};
+ghost use Rattle.cip_solve.specs.PresolvedPrograms.{IsPresolved};
+ghost use Rattle.cip_solve.specs.Beginning.{AreNearColumns};
+ghost use Rattle.cip_solve.specs.ProposalsJudged.{HaveRoom};
+ghost use Rattle.cip_solve.specs.Turns.{IsSound};
 ghost use Rattle.cip_solve.specs.Kits.{stock_of, IsFew, HasBegun, HasRoomFor};
 ghost use Rattle.cip_solve.specs.Outsets.{HasBegunWith};
 
 use crate::asking::Asking;
-use crate::begin;
+use crate::kits::begin;
+use cip_calls::{Core, Last, Plugins, Presolved, Scratches, view_of};
 use cip_frac::Frac;
 use cip_lin::Combo;
 use cip_model::{Blocks, Program};
+use cip_node::NodeWork;
 use cip_plugin::{AnyPlugin, Kit, Tells, View};
-use cip_processing::{
-    Core, Last, NodeWork, Plugins, Presolved, Roster, Scratches, Seated, view_of,
-};
+use cip_roster::{Roster, Seated};
 use std::alloc::{AllocError, Global};
 
 /// What a search begins with: what is worked on, and room for the point that is found.

@@ -2,15 +2,15 @@
 ghost use Rattle.std.specs.Prelude.{◌≤◌, ◌^◌, ◌↔◌, unsigned_abs, true, false, IfOk, IsTrue, IfSome};
 ghost use Rattle.cip_rational.specs.Rational.{floor, ceil};
 ghost use Rattle.cip_node_rules.specs.SplitRules.{AreNear};
-ghost use Rattle.cip_processing.specs.PresolvedPrograms.{IsPresolved};
-ghost use Rattle.cip_processing.specs.Beginning.{AreNearColumns};
+ghost use Rattle.cip_solve.specs.PresolvedPrograms.{IsPresolved};
+ghost use Rattle.cip_solve.specs.Beginning.{AreNearColumns};
 ghost use Rattle.cip_solve.specs.Reducing.{IsReducedFor, CanBeSearched};
 
+use cip_calls::Presolved;
 use cip_frac::Frac;
 use cip_lin::Sides;
 use cip_model::Program;
 use cip_presolve::{PresolveEnd, presolve as reduce};
-use cip_processing::Presolved;
 use std::alloc::{AllocError, Global};
 
 /// Whether a number has a size of at most 2^100.

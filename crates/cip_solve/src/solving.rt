@@ -2,9 +2,9 @@
 ghost use Rattle.std.specs.Prelude.{◌≡◌, ℕ, Bool, true, false, Option, None, [], ◌<◌, length};
 ghost use Rattle.cip_rational.specs.Rational.{ℚ};
 ghost use Rattle.cip_problem.specs.WellFormed.{columns};
-ghost use Rattle.cip_reductions.specs.NarrowedPrograms.{IsInfeasible};
-ghost use Rattle.cip_processing.specs.PresolvedPrograms.{IsPresolved, IsUnchanged};
-ghost use Rattle.cip_processing.specs.Beginning.{AreNearColumns};
+ghost use Rattle.cip_search.specs.NarrowedPrograms.{IsInfeasible};
+ghost use Rattle.cip_solve.specs.PresolvedPrograms.{IsPresolved, IsUnchanged};
+ghost use Rattle.cip_solve.specs.Beginning.{AreNearColumns};
 ghost use Rattle.cip_endings.specs.AnswerOf.{answer_of};
 ghost use Rattle.cip_solve.specs.Kits.{stock_of, IsFew};
 ghost use Rattle.cip_solve.specs.FirstStops.{StopsFirst};
@@ -15,17 +15,18 @@ ghost use Rattle.cip_solve.specs.Solved.{IsSolved, IsSolvedBy};
 ghost use Rattle.cip_solve.specs.SplitsServed.{splits_in, HasServed};
 
 use crate::finish::search_from;
+use crate::kits::{end, is_bare};
 use crate::logs::Log;
 use crate::outsets::{Outset, begun_with, set_out};
 use crate::reducing::reduced_for;
 use crate::works::{Alone, Works};
-use crate::{end, is_bare};
+use cip_calls::Presolved;
 use cip_endings::{Answer, Ended};
 use cip_events::Trace;
 use cip_frac::Frac;
 use cip_model::Program;
+use cip_node::root_bound;
 use cip_plugin::{AnyPlugin, Kit, Tells};
-use cip_processing::{Presolved, root_bound};
 use std::alloc::Global;
 
 /// What a search may do.

@@ -4,7 +4,7 @@ ghost use Rattle.std.specs.Prelude.{vec_len, vec_capacity};
 ghost use Rattle.cip_rational.specs.Rational.{ℚ};
 ghost use Rattle.cip_problem.specs.WellFormed.{columns};
 ghost use Rattle.cip_plugin.specs.Seats.{State};
-ghost use Rattle.cip_processing.specs.CoreStates.{reduced_of, way_of};
+ghost use Rattle.cip_solve.specs.CoreStates.{reduced_of, way_of};
 ghost use Rattle.cip_solve.specs.FirstStops.{IsLongerLog};
 ghost use Rattle.cip_solve.specs.Logs.{marks_by};
 ghost use Rattle.cip_solve.specs.SplitsServed.{splits_in, HasServed};
@@ -14,7 +14,7 @@ ghost use Rattle.cip_solve.specs.Stops.{IsKeptAs, StopsAt};
 use crate::works::Works;
 use cip_endings::{Worst, flat, least_left, reaches_gap, worse};
 use cip_frac::Frac;
-use cip_processing::{Mark, NodeEnd, NodeRecord, NodeWork};
+use cip_node::{Mark, NodeEnd, NodeRecord, NodeWork};
 use std::alloc::Global;
 
 /// How a search stops.

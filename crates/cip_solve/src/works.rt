@@ -2,13 +2,13 @@
 ghost use Rattle.std.specs.Prelude.{◌≡◌, ℕ, Bool, true, false, All, MatchResult};
 ghost use Rattle.cip_problem.specs.WellFormed.{columns};
 ghost use Rattle.cip_plugin.specs.Seats.{State, is_settled};
-ghost use Rattle.cip_processing.specs.CoreStates.{reduced_of};
-ghost use Rattle.cip_processing.specs.Steps.{IsBack};
-ghost use Rattle.cip_processing.specs.Looking.{CanWorkOn};
+ghost use Rattle.cip_solve.specs.CoreStates.{reduced_of};
+ghost use Rattle.cip_solve.specs.Steps.{IsBack};
+ghost use Rattle.cip_solve.specs.Looking.{CanWorkOn};
 ghost use Rattle.cip_solve.specs.NodesWorked.{HasWorked};
 ghost use Rattle.cip_solve.specs.SplitsServed.{splits_by, HasServed};
 
-use cip_processing::{NodeEnd, NodeRecord, NodeWork};
+use cip_node::{NodeEnd, NodeRecord, NodeWork};
 use cip_tree::Node;
 use std::alloc::{AllocError, Global};
 

@@ -1,5 +1,5 @@
 //! Words that are read.
-use cip_tasks::{Job, Words, WordsFault};
+use cip_input::{Job, Words, WordsFault};
 use std::alloc::Global;
 
 /// Words, and how many nodes they ask for at most, over the text `M`; 0 where they are refused.

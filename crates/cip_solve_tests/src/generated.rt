@@ -1,7 +1,7 @@
 //! Programs that are drawn from a seed.
 use cip_frac::Frac;
+use cip_input::{MOST_DRAWN, entries, generate};
 use cip_model::{Program, Verdict};
-use cip_tasks::{MOST_DRAWN, entries, generate};
 use std::alloc::Global;
 
 /// The seed, with how many columns and rows.

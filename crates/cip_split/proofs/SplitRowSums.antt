@@ -17,10 +17,10 @@ use Rattle.cip_frac.specs.Outcomes.{product_added}
 use Rattle.cip_frac.proofs.Outcomes.{product_added-value}
 use Rattle.cip_problem.specs.Program.{Sides}
 use Rattle.cip_problem.specs.Activity.{activity, value_at}
-use Rattle.cip_linear.specs.Aggregate.{Part, Inequality, Holds}
-use Rattle.cip_linear.proofs.Aggregates.{aggregate_holds}
-use Rattle.cip_linear.specs.Splits.{IsWholeForm, left_part, right_part, IsWithPart}
-use Rattle.cip_linear.proofs.Splits.{split_holds}
+use Rattle.cip_problem.specs.Aggregate.{Part, Inequality, Holds}
+use Rattle.cip_problem.proofs.Aggregates.{aggregate_holds}
+use Rattle.cip_problem.specs.Splits.{IsWholeForm, left_part, right_part, IsWithPart}
+use Rattle.cip_problem.proofs.Splits.{split_holds}
 use Rattle.cip_cert.specs.declared.faults.CutFault.{CutFault}
 use Rattle.cip_cert.specs.declared.splits.FormTerm.{FormTerm}
 use Rattle.cip_cert.specs.declared.splits.SplitCut.{SplitCut}

@@ -4,7 +4,7 @@ use Rattle.cip_rational.specs.Rational.{ℚ, integer}
 use Rattle.cip_rational.specs.Range.{too_large}
 use Rattle.cip_problem.specs.Program.{Sides}
 use Rattle.cip_problem.specs.Activity.{value_at}
-use Rattle.cip_linear.specs.Aggregate.{Inequality}
+use Rattle.cip_problem.specs.Aggregate.{Inequality}
 use Rattle.cip_frac.specs.declared.operations.Wide.{Wide as Overflow}
 use Rattle.cip_frac.specs.Outcomes.{product_added}
 use Rattle.cip_cert.specs.Lent.{Lent}

@@ -3,8 +3,8 @@ use Rattle.std.proofs.Common.{◌≡◌, ℕ, ◌≤◌, ◌+ℤ◌, pos, Bool, 
 use Rattle.std.proofs.lemmas.Bool.{or_parts}
 use Rattle.cip_rational.specs.Rational.{ℚ, negate}
 use Rattle.cip_problem.specs.Program.{Sides, Program}
-use Rattle.cip_linear.specs.Aggregate.{Inequality}
-use Rattle.cip_linear.specs.Improving.{IsValid}
+use Rattle.cip_problem.specs.Aggregate.{Inequality}
+use Rattle.cip_problem.specs.Improving.{IsValid}
 use Rattle.cip_cert.specs.declared.faults.CutFault.{CutFault}
 use Rattle.cip_cert.specs.declared.splits.SplitCut.{SplitCut}
 use Rattle.cip_cert.specs.declared.splits.SplitFormFault.{SplitFormFault}

@@ -4,7 +4,7 @@ use Rattle.cip_rational.specs.Rational.{ℚ, negate, integer, minimum, zeroℚ, 
 use Rattle.cip_rational.specs.Range.{magnitude, too_large}
 use Rattle.cip_problem.specs.Program.{Sides}
 use Rattle.cip_problem.specs.Activity.{value_at}
-use Rattle.cip_linear.specs.Aggregate.{Inequality}
+use Rattle.cip_problem.specs.Aggregate.{Inequality}
 use Rattle.cip_frac.specs.Order.{same_rational}
 use Rattle.cip_frac.specs.declared.operations.Wide.{Wide as Overflow}
 use Rattle.cip_frac.specs.Outcomes.{product_added}

@@ -2,8 +2,8 @@
 use Rattle.std.specs.Prelude.{◌≡◌, ℕ, ◌||◌, Bool, List, map, Ok}
 use Rattle.cip_rational.specs.Rational.{integer}
 use Rattle.cip_problem.specs.Program.{Term, Sides}
-use Rattle.cip_linear.specs.Aggregate.{Inequality}
-use Rattle.cip_linear.specs.Splits.{SplitForm, IsSplitRow}
+use Rattle.cip_problem.specs.Aggregate.{Inequality}
+use Rattle.cip_problem.specs.Splits.{SplitForm, IsSplitRow}
 use Rattle.cip_cert.specs.declared.rows.PoolRow.{PoolRow}
 use Rattle.cip_cert.specs.declared.splits.FormTerm.{FormTerm}
 use Rattle.cip_cert.specs.declared.splits.SplitCut.{SplitCut}

@@ -2,7 +2,7 @@
 use Rattle.std.specs.Prelude.{◌≡◌, ℕ, ◌≤◌, Bool, false, List, length, Option, IfOk}
 use Rattle.cip_rational.specs.Rational.{ℚ}
 use Rattle.cip_problem.specs.Program.{Sides, Program}
-use Rattle.cip_linear.specs.Improving.{IsValid}
+use Rattle.cip_problem.specs.Improving.{IsValid}
 use Rattle.cip_cert.specs.declared.splits.SplitCut.{SplitCut}
 use Rattle.cip_cert.specs.Lent.{Lent, Fits}
 use Rattle.cip_cert.specs.Resting.{lent_released, valid_below, IsLentOf}

@@ -5,9 +5,9 @@ use Rattle.std.proofs.lemmas.Bool.{ltb-true, ltb-false}
 use Rattle.std.proofs.lemmas.List.{take_all, drop_all, length-drop}
 use Rattle.std.proofs.lemmas.List.Sums.{fails_before_first}
 use Rattle.std.proofs.lemmas.List.Splits.{slice_split_first, slice_split_none, slice_split-cons_yes}
-use Rattle.cip_line_texts.specs.Lines.{Record, is_line_feed, is_blank, is_filled, without_empty_end, lines, fields, record_of}
-use Rattle.cip_mps_rules.specs.LineTexts as texts
-use Rattle.cip_mps_rules.specs.LineTexts.{Numbered, records_in}
+use Rattle.cip_text_rules.specs.Lines.{Record, is_line_feed, is_blank, is_filled, without_empty_end, lines, fields, record_of}
+use Rattle.cip_text_rules.specs.LineTexts as texts
+use Rattle.cip_text_rules.specs.LineTexts.{Numbered, records_in}
 use Rattle.cip_text.specs.LineStarts.{begins_blank}
 use Rattle.cip_text.specs.TextLines.{records_with}
 

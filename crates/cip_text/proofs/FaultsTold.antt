@@ -1,7 +1,7 @@
 -- What is told of texts.
 use Rattle.std.proofs.Common.{◌≡◌, ℕ, List, Option, None, Result, Ok, Err, ap, ◌∙◌}
-use Rattle.cip_line_texts.specs.LineTexts.{Reading, outcome_of, HasResult, HasFault}
-use Rattle.cip_line_texts.specs.LineStream.{stream_of, FaultsOfEndedLines}
+use Rattle.cip_text_rules.specs.LineTexts.{Reading, outcome_of, HasResult, HasFault}
+use Rattle.cip_text_rules.specs.LineStream.{stream_of, FaultsOfEndedLines}
 use Rattle.cip_text.specs.declared.faults.KnownFault.{KnownFault}
 use Rattle.cip_text.specs.declared.text_faults.TextFault.{TextFault}
 use Rattle.cip_text.specs.PieceCuts.{Cut, known_fault}

@@ -4,7 +4,7 @@ use Rattle.std.specs.Prelude.{slice_index}
 use Rattle.std.proofs.lemmas.Bool.{eqb-true}
 use Rattle.std.proofs.lemmas.List.{take_all, length-drop}
 use Rattle.std.specs.List.{list_any}
-use Rattle.cip_line_texts.specs.Lines.{is_line_feed}
+use Rattle.cip_text_rules.specs.Lines.{is_line_feed}
 
 -- no byte is a line feed
 pub no_feed : (bytes : List ℕ) → ((k : ℕ) → 0 ≤ k → k < length bytes → (is_line_feed (slice_index bytes k) ≡ true) → ⊥) → list_any is_line_feed bytes ≡ false

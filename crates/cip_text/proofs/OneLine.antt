@@ -2,10 +2,10 @@
 use Rattle.std.proofs.Common.{◌≡◌, ℕ, true, false, Bool, ◌||◌, List, [], ◌∷◌, ◌++◌, map, Option, None, Some, MatchOption, refl, sym, ap, ◌∙◌}
 use Rattle.std.specs.Prelude.{option_map}
 use Rattle.std.specs.List.{list_any}
-use Rattle.cip_line_texts.specs.Lines.{Record, is_line_feed, HasNoLineFeed, lines, record_of}
-use Rattle.cip_line_texts.proofs.Cuts.{lines_last}
-use Rattle.cip_mps_rules.specs.LineTexts as texts
-use Rattle.cip_mps_rules.specs.LineTexts.{Numbered, records_in}
+use Rattle.cip_text_rules.specs.Lines.{Record, is_line_feed, HasNoLineFeed, lines, record_of}
+use Rattle.cip_text_rules.proofs.Cuts.{lines_last}
+use Rattle.cip_text_rules.specs.LineTexts as texts
+use Rattle.cip_text_rules.specs.LineTexts.{Numbered, records_in}
 use Rattle.cip_text.specs.TextLines.{records_with, content_of, numbered}
 use Rattle.cip_text.specs.declared.text_lines.TextLine.{TextLine}
 

@@ -6,11 +6,11 @@ use Rattle.std.proofs.lemmas.List.{append-nil, append_assoc}
 use Rattle.std.proofs.lemmas.List.Sums.{fold-append, sum_by-cons}
 use Rattle.std.proofs.lemmas.Bool.{cond-true, cond-false, le-leb, lt-leb, le-ltb, lt-ltb, leb-true, ltb-true, eqb-true, false_from_ne_true}
 use Rattle.cip_problem.specs.Limits.{longest_text}
-use Rattle.cip_line_texts.specs.Lines.{is_line_feed, is_filled}
-use Rattle.cip_line_texts.specs.LineTexts.{Reading, Outcome, Means, Faulty, outcome_at, too_long, outcome_of}
-use Rattle.cip_line_texts.specs.LineStream.{Progress, Going, Failed, line_read, Stream, no_stream, byte_read, stream_with, stream_of, outcome_from, last_progress, closed, read_outcome, LineFault, fault_in, progress_fault, ended_fault, TextsAreRead, FaultsOfEndedLines, FaultsStay}
-use Rattle.cip_line_texts.specs.LineStream as plain
-use Rattle.cip_line_texts.proofs.LineBytes.{failed_items}
+use Rattle.cip_text_rules.specs.Lines.{is_line_feed, is_filled}
+use Rattle.cip_text_rules.specs.LineTexts.{Reading, Outcome, Means, Faulty, outcome_at, too_long, outcome_of}
+use Rattle.cip_text_rules.specs.LineStream.{Progress, Going, Failed, line_read, Stream, no_stream, byte_read, stream_with, stream_of, outcome_from, last_progress, closed, read_outcome, LineFault, fault_in, progress_fault, ended_fault, TextsAreRead, FaultsOfEndedLines, FaultsStay}
+use Rattle.cip_text_rules.specs.LineStream as plain
+use Rattle.cip_text_rules.proofs.LineBytes.{failed_items}
 use Rattle.cip_text.specs.declared.faults.KnownFault.{KnownFault}
 use Rattle.cip_text.specs.PieceFaults.{line_fault, first_fault, stays, fault_when_long, has_kind_to}
 use Rattle.cip_text.specs.PieceCuts.{Cut, no_bytes, with_bytes, with_tail, with_feed, known_fault, last_line, end_fault}

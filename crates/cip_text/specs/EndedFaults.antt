@@ -3,8 +3,8 @@
 use Rattle.std.specs.Prelude.{ℕ, ◌+◌, ◌≤◌, List, ◌++◌, take}
 use Rattle.std.specs.List.{count_by}
 use Rattle.cip_problem.specs.Limits.{longest_text}
-use Rattle.cip_line_texts.specs.Lines.{is_line_feed}
-use Rattle.cip_line_texts.specs.LineTexts.{Reading, HasFault}
+use Rattle.cip_text_rules.specs.Lines.{is_line_feed}
+use Rattle.cip_text_rules.specs.LineTexts.{Reading, HasFault}
 
 -- how many lines have ended, as far as the first byte too many
 abbrev pub lines_ended : List ℕ → ℕ

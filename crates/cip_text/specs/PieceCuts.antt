@@ -2,7 +2,7 @@
 --     cut_of pieces      what the code keeps
 use Rattle.std.specs.Prelude.{ℕ, ◌+◌, nat_le, Bool, false, ◌||◌, if◌then◌else◌, List, [], ◌++◌, length, Option, None, Some, is_none}
 use Rattle.cip_problem.specs.Limits.{longest_text}
-use Rattle.cip_line_texts.specs.Lines.{is_filled}
+use Rattle.cip_text_rules.specs.Lines.{is_filled}
 use Rattle.cip_text.specs.declared.faults.KnownFault.{KnownFault}
 use Rattle.cip_text.specs.declared.pieces.Pieces.{Pieces}
 use Rattle.cip_text.specs.PieceFaults.{first_fault, fault_when_long}

@@ -1,6 +1,6 @@
 -- Faults of a text, and which of them counts.
 use Rattle.std.specs.Prelude.{ℕ, ◌==◌, nat_lt, nat_le, Bool, true, ◌&&◌, ◌||◌, if◌then◌else◌, Option, None, Some}
-use Rattle.cip_line_texts.specs.LineStream.{LineFault}
+use Rattle.cip_text_rules.specs.LineStream.{LineFault}
 use Rattle.cip_text.specs.declared.faults.KnownFault.{KnownFault}
 
 -- a fault of the code

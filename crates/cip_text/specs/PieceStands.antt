@@ -1,8 +1,8 @@
 -- What is kept of a text stands for its stream, which is read byte by byte on plain values.
 use Rattle.std.specs.Prelude.{◌≡◌, ℕ, ◌+◌, true, false, Option, None, Some}
-use Rattle.cip_line_texts.specs.Lines.{is_filled}
-use Rattle.cip_line_texts.specs.LineTexts.{Reading, Outcome, Means, Faulty}
-use Rattle.cip_line_texts.specs.LineStream.{Progress, Going, Failed, line_read, Stream}
+use Rattle.cip_text_rules.specs.Lines.{is_filled}
+use Rattle.cip_text_rules.specs.LineTexts.{Reading, Outcome, Means, Faulty}
+use Rattle.cip_text_rules.specs.LineStream.{Progress, Going, Failed, line_read, Stream}
 use Rattle.cip_text.specs.declared.faults.KnownFault.{KnownFault}
 use Rattle.cip_text.specs.PieceCuts.{Cut}
 

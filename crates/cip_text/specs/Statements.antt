@@ -1,7 +1,7 @@
 -- The laws of texts, each as one statement: functions of `src/laws.rt` have them as contracts.
 use Rattle.std.specs.Prelude.{◌≡◌, ℕ, List}
-use Rattle.cip_mps_rules.specs.LineTexts.{items_from}
-use Rattle.cip_mps_rules.specs.MpsOutcome.{mps_records}
+use Rattle.cip_text_rules.specs.LineTexts.{items_from}
+use Rattle.cip_text_rules.specs.MpsOutcome.{mps_records}
 use Rattle.cip_text.specs.TextLines.{records_with}
 
 -- with `*` for comments the records are those of free MPS

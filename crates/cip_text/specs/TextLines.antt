@@ -2,8 +2,8 @@
 --     records_with comment number lines      the records of lines, the first of which has this number
 --     left lines      those that are still to come
 use Rattle.std.specs.Prelude.{ℕ, List, if◌then◌else◌}
-use Rattle.cip_line_texts.specs.Lines.{Record, Section, Entry, lines, fields}
-use Rattle.cip_mps_rules.specs.LineTexts.{Numbered, items_from, records_of}
+use Rattle.cip_text_rules.specs.Lines.{Record, Section, Entry, lines, fields}
+use Rattle.cip_text_rules.specs.LineTexts.{Numbered, items_from, records_of}
 use Rattle.cip_text.specs.declared.text_lines.Fields.{Fields}
 use Rattle.cip_text.specs.declared.text_lines.TextLine.{TextLine}
 use Rattle.cip_text.specs.declared.text_lines.Lines.{Lines}

@@ -1,9 +1,9 @@
 //! The fields of one line.
 ghost use Rattle.std.specs.Prelude.{◌≡◌, false, option_map};
 ghost use Rattle.std.specs.List.{list_any};
-ghost use Rattle.cip_line_texts.specs.Lines as text;
+ghost use Rattle.cip_text_rules.specs.Lines as text;
 ghost use Rattle.cip_text.specs.TextLines.{fields_left};
-ghost use Rattle.cip_line_texts.specs.LineTexts.{words_in};
+ghost use Rattle.cip_text_rules.specs.LineTexts.{words_in};
 
 use crate::{Fields, record_of};
 

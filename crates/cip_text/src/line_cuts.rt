@@ -1,7 +1,7 @@
 //! A text is cut into lines, and a line into fields.
 ghost use Rattle.std.specs.Prelude.{◌≡◌, ◌==◌, ◌+◌, ◌<◌, ◌≤◌, ◌^◌, ◌∷◌, [], List, length, false, MatchOption, IfSome, option_map};
 ghost use Rattle.std.specs.List.{before_first, after_first, position_or_len};
-ghost use Rattle.cip_line_texts.specs.Lines as text;
+ghost use Rattle.cip_text_rules.specs.Lines as text;
 ghost use Rattle.cip_text.specs.LineStarts.{begins_blank};
 ghost use Rattle.cip_text.specs.TextLines.{records_with, content_of, numbered, fields_left, left};
 

@@ -1,7 +1,7 @@
 //! The record of one line.
 ghost use Rattle.std.specs.Prelude.{◌≡◌, false, option_map};
 ghost use Rattle.std.specs.List.{list_any};
-ghost use Rattle.cip_line_texts.specs.Lines as text;
+ghost use Rattle.cip_text_rules.specs.Lines as text;
 ghost use Rattle.cip_text.specs.TextLines.{content_of};
 
 use crate::line_cuts::lines;

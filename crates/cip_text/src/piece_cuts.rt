@@ -1,7 +1,7 @@
 //! Cutting a text at line feeds.
 ghost use Rattle.std.specs.Prelude.{◌≡◌, ◌++◌, ◌∷◌, false, MatchOption};
 ghost use Rattle.std.specs.List.{list_any};
-ghost use Rattle.cip_line_texts.specs.Lines.{is_line_feed};
+ghost use Rattle.cip_text_rules.specs.Lines.{is_line_feed};
 
 use memchr::memchr;
 

@@ -2,7 +2,7 @@
 ghost use Rattle.std.specs.Prelude.{◌≡◌, ◌≢◌, ◌+◌, ◌-◌, ◌≤◌, length, take, false, MatchOption, IfSome, OnOk};
 ghost use Rattle.std.specs.List.{list_any};
 ghost use Rattle.cip_problem.specs.Limits.{longest_text};
-ghost use Rattle.cip_line_texts.specs.Lines.{is_line_feed, is_filled};
+ghost use Rattle.cip_text_rules.specs.Lines.{is_line_feed, is_filled};
 
 use crate::faults::{KnownFault, fault_when_long, first_fault};
 use std::alloc::{AllocError, Global};

@@ -1,8 +1,8 @@
 //! The rows of a linear program's bound, added up with the cutoff row: minus the reduced costs.
+use crate::tight::{row_of, short};
 use cip_frac::Frac;
 use cip_lin::{Combo, Row, RowFault, RowId, RowMultiple, Term};
 use cip_plugin::View;
-use cip_row_sums::{row_of, short};
 use std::alloc::{AllocError, Global};
 
 /// Rows with their factors, and their sum by column.

@@ -1,10 +1,14 @@
 //! The separator of covers.
 ghost use Rattle.std.specs.Prelude.{None, codes};
 
+use crate::candidates::Candidates;
 use crate::covers::Covers;
+use crate::gains::Gains;
+use crate::stops::{Stop, unless_refused};
+use crate::sums::{Standing, Sum};
+use crate::tight::{short, tight_row};
 use cip_lin::RowId;
 use cip_plugin::{Cut, Plugin, Separator, View};
-use cip_row_sums::{Candidates, Gains, Standing, Stop, Sum, short, tight_row, unless_refused};
 use std::alloc::{AllocError, Global};
 
 // The most cuts of a round.

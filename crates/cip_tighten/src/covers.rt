@@ -1,11 +1,14 @@
 //! Covers: columns of a row, each with two values, that can't all stand at the costlier one. The row, divided by the
 //! greatest of their coefficients and rounded, says that one of them doesn't.
+use crate::candidates::{Candidate, Candidates};
 use crate::mixing::best_division;
+use crate::numbers::UNIT;
+use crate::roundings::rounded_cut;
+use crate::shifts::{Aim, Shift, Shifted};
 use crate::split_cuts::mixed_cut;
+use crate::stops::{Stop, unless_refused};
+use crate::sums::{Sum, Terms};
 use cip_plugin::View;
-use cip_row_sums::{
-    Aim, Candidate, Candidates, Shift, Shifted, Stop, Sum, Terms, UNIT, rounded_cut, unless_refused,
-};
 use std::alloc::{AllocError, Global};
 
 // The most coefficients of a cover by which a row is divided.

@@ -1,15 +1,18 @@
 //! The separator of mixed roundings.
 ghost use Rattle.std.specs.Prelude.{None, codes};
 
+use crate::candidates::Candidates;
+use crate::column_rows::ColumnRows;
+use crate::gains::Gains;
 use crate::mixing::{Scored, best_division, list_divisors};
 use crate::paths::go_on;
+use crate::shifts::{Shift, Shifted, list_nearest};
 use crate::split_cuts::mixed_cut;
+use crate::stops::{Stop, unless_refused};
+use crate::sums::{Sum, Terms};
+use crate::tight::{Standings, tight_at};
 use cip_frac::Frac;
 use cip_plugin::{Cut, Plugin, Separator, View};
-use cip_row_sums::{
-    Candidates, ColumnRows, Gains, Shift, Shifted, Standings, Stop, Sum, Terms, list_nearest,
-    tight_at, unless_refused,
-};
 use std::alloc::{AllocError, Global};
 
 // The most cuts of a round.

@@ -3,8 +3,12 @@
 //! stays where it is below 0, over 1 - f, and is 0 else; the right side goes down.
 //!
 //! All is told times the common denominator, so that it stays whole.
+use crate::candidates::{broken_by, measure_of, score};
+use crate::numbers::kept;
+use crate::shifts::{Shift, Shifted};
+use crate::stops::{Stop, found};
+use crate::sums::Terms;
 use cip_frac::Frac;
-use cip_row_sums::{Shift, Shifted, Stop, Terms, broken_by, found, kept, measure_of, score};
 
 // The greatest denominator of a right side.
 const MOST_UNDER: i128 = 1 << 20;

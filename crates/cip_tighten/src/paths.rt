@@ -1,10 +1,13 @@
 //! Which row is added to a sum: one that takes a continuous column between its sides out of it.
+use crate::column_rows::ColumnRows;
+use crate::numbers::{raised, rough};
+use crate::shifts::place_of;
+use crate::stops::{Stop, found};
+use crate::sums::{Standing, Sum, TightRow};
+use crate::tight::{Standings, tight_row};
 use cip_frac::{Frac, short_gcd};
 use cip_lin::{RowId, Sides, Term};
 use cip_plugin::View;
-use cip_row_sums::{
-    ColumnRows, Standing, Standings, Stop, Sum, TightRow, found, place_of, raised, rough, tight_row,
-};
 
 // The most rows of a column that are looked at.
 const MOST_ROWS: usize = 64;

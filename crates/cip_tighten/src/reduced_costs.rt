@@ -2,13 +2,14 @@
 ghost use Rattle.std.specs.Prelude.{None, codes};
 
 use crate::cost_rows::CostRow;
+use crate::gains::{cost_of, most_cost};
+use crate::implied::{Implied, Narrowing, Region, Source, list_implied};
+use crate::numbers::{UNIT, rough};
+use crate::patience::Patience;
+use crate::reductions::reduction_of;
 use cip_frac::Frac;
 use cip_lin::{Combo, Row, RowMultiple};
 use cip_plugin::{Plugin, Propagator, Reduction, View};
-use cip_row_sums::{
-    Implied, Narrowing, Patience, Region, Source, UNIT, cost_of, list_implied, most_cost,
-    reduction_of, rough,
-};
 use std::alloc::{AllocError, Global};
 
 // The most sides of a call: each is judged with all rows of the bound.

@@ -1,11 +1,14 @@
 //! The separator of rows that are divided by small numbers and rounded.
 ghost use Rattle.std.specs.Prelude.{None, codes};
 
+use crate::candidates::Candidates;
+use crate::gains::Gains;
+use crate::roundings::rounded_cut;
+use crate::shifts::{Aim, Shifted};
+use crate::stops::{Stop, unless_refused};
+use crate::sums::{Standing, Sum};
+use crate::tight::{Standings, tight_at};
 use cip_plugin::{Cut, Plugin, Separator, View};
-use cip_row_sums::{
-    Aim, Candidates, Gains, Shifted, Standing, Standings, Stop, Sum, rounded_cut, tight_at,
-    unless_refused,
-};
 use std::alloc::{AllocError, Global};
 
 // The most cuts of a round.

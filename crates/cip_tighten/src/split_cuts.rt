@@ -2,14 +2,18 @@
 //! it leaves more than the right side does. On the left the form is at most the right side rounded down: that, with
 //! ways of at least 0, is the cut. On the right it is at least the next number: the row, with ways of at least 0, is
 //! the cut.
+use crate::candidates::{Candidate, Measure, measure_of, score};
+use crate::combos::{empty_combo, push_row, push_way};
 use crate::mixing::{Division, Scored, write_terms};
+use crate::numbers::ratio;
+use crate::roundings::lower;
+use crate::shifts::{Shift, Shifted};
+use crate::stops::{Stop, found};
+use crate::sums::{Multiple, Sum, Terms, Used, write_sum};
+use crate::tight::row_of;
 use cip_cert::{FormTerm, SplitCut};
 use cip_lin::Combo;
 use cip_plugin::{Cut, View};
-use cip_row_sums::{
-    Candidate, Measure, Multiple, Shift, Shifted, Stop, Sum, Terms, Used, empty_combo, found,
-    lower, measure_of, push_row, push_way, ratio, row_of, score, write_sum,
-};
 use std::alloc::Global;
 use std::mem;
 

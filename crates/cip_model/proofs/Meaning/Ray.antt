@@ -18,9 +18,9 @@ use Rattle.cip_problem.specs.Box.{IsInBox, sides_at}
 use Rattle.cip_problem.specs.Choices.{choice_at, Allows, KeepsChoices, greater, open_sides}
 use Rattle.cip_problem.specs.Points.{AreWhole, IsFeasible, cost_of}
 use Rattle.cip_problem.specs.WellFormed.{IsChoice, IsWellFormed, columns}
-use Rattle.cip_linear.specs.LinearProgram.{LinearProgram, IsPoint, StaysBetween, IsRay as IsLinearRay, moved}
-use Rattle.cip_linear.specs.Falling.{FallsWithoutEnd}
-use Rattle.cip_linear.proofs.Rays.{ray_points, ray_cost}
+use Rattle.cip_problem.specs.LinearProgram.{LinearProgram, IsPoint, StaysBetween, IsRay as IsLinearRay, moved}
+use Rattle.cip_problem.specs.Falling.{FallsWithoutEnd}
+use Rattle.cip_problem.proofs.Rays.{ray_points, ray_cost}
 use Rattle.cip_lin.specs.RowSums.{activity_from}
 use Rattle.cip_lin.proofs.RowSums.ActivityValue.{activity_from-zero}
 use Rattle.cip_model.specs.declared.verdicts.Place.TheVariants.{Row as AtRow, Cost}

@@ -1,4 +1,4 @@
-use Rattle.cip_answers.specs.Wide.{IsWide}
+use Rattle.cip_search.specs.Wide.{IsWide}
 use Rattle.cip_search.proofs.Logs.{is_log, covered, least, open_matter, parked_matter, short}
 use Rattle.cip_search.proofs.search_logs_tell.Goals as goal
 

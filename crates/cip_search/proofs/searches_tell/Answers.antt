@@ -1,4 +1,4 @@
-use Rattle.cip_answers.specs.Wide.{IsWide}
+use Rattle.cip_search.specs.Wide.{IsWide}
 use Rattle.cip_search.proofs.Told.{no_point, no_reduced_point, nothing_cheaper, bound, wide}
 use Rattle.cip_search.proofs.searches_tell.Goals as goal
 

@@ -1,4 +1,4 @@
-use Rattle.cip_answers.specs.Wide.{IsWide}
+use Rattle.cip_search.specs.Wide.{IsWide}
 use Rattle.cip_search.proofs.AsGiven.{begun, taken, raised, closed, parked, split, offered, closed_from, put_back}
 use Rattle.cip_search.proofs.steps_keep_given.Goals as goal
 

@@ -1,6 +1,6 @@
 use Rattle.cip_search.proofs.Kept.{begun, taken, raised, tightened, offered, closed_from, put_back, reordered}
 use Rattle.cip_search.proofs.Ended.{closed, pruned, parked, split}
-use Rattle.cip_answers.specs.Wide.{IsWide}
+use Rattle.cip_search.specs.Wide.{IsWide}
 use Rattle.cip_search.proofs.steps_keep_searches.Goals as goal
 
 pub returns : goal.returns

@@ -1,4 +1,4 @@
-use Rattle.cip_answers.specs.Wide.{IsWide}
+use Rattle.cip_search.specs.Wide.{IsWide}
 use Rattle.cip_search.proofs.Leading as leading
 use Rattle.cip_search.proofs.ways_are_free.Goals as goal
 

@@ -1,6 +1,6 @@
 use Rattle.cip_text.proofs.Streams.{stay}
-use Rattle.cip_block_rules.specs.BlockRules.{block_reading}
-use Rattle.cip_block_rules.specs.BlockSteps.{block_steps}
+use Rattle.cip_text_rules.specs.BlockRules.{block_reading}
+use Rattle.cip_text_rules.specs.BlockSteps.{block_steps}
 use Rattle.cip_blocks.proofs.laws.known_block_faults_stay.Goals as goal
 
 pub returns : goal.returns

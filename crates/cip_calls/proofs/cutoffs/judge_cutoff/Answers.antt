@@ -1,5 +1,5 @@
 use Rattle.std.proofs.Common.{length, sym, ap, ◌∙◌, subst, arith}
-use Rattle.cip_linear.specs.Improving.{HasNoImproving}
+use Rattle.cip_problem.specs.Improving.{HasNoImproving}
 use Rattle.cip_cert.specs.Follows.{EmptinessFollows}
 use Rattle.cip_cert.specs.Lent.{Fits}
 use Rattle.cip_domain.specs.Changes.{Region}

@@ -1,6 +1,6 @@
 use Rattle.std.proofs.Common.{◌≡◌, ◌∙◌, None, refl, sym, ap, subst}
 use Rattle.cip_problem.specs.Box.{sides_at}
-use Rattle.cip_linear.specs.Improving.{HoldsInBox, HasNoImproving}
+use Rattle.cip_problem.specs.Improving.{HoldsInBox, HasNoImproving}
 use Rattle.cip_domain.specs.Changes.{Region, side_change}
 use Rattle.cip_domain.specs.Domain.{tightening}
 use Rattle.cip_domain.specs.Narrowing.{Meets}

@@ -1,7 +1,7 @@
 use Rattle.std.proofs.Common.{◌≡◌, ◌∙◌, if◌then◌else◌, length, refl, sym, ap, subst, arith}
 use Rattle.cip_problem.specs.Program.{Program}
-use Rattle.cip_linear.specs.Improving.{IsValid}
-use Rattle.cip_linear.specs.Aggregate.{Inequality}
+use Rattle.cip_problem.specs.Improving.{IsValid}
+use Rattle.cip_problem.specs.Aggregate.{Inequality}
 use Rattle.cip_cert.specs.Lent.{Lent, Fits, lent_of}
 use Rattle.cip_cert.specs.Resting.{valid_below}
 use Rattle.cip_split.specs.SplitMeaning.{split_rests}

@@ -1,5 +1,5 @@
 use Rattle.std.proofs.Common.{◌≡◌, ◌+◌, nat_lt, ap, ◌∙◌, arith}
-use Rattle.cip_row_rules.specs.RowRules.{most_multiples}
+use Rattle.cip_node_rules.specs.RowRules.{most_multiples}
 use Rattle.cip_cert.specs.Lent.{multiples_of, count_of}
 use Rattle.cip_cert.proofs.aggregate.is_too_long.Goals as goal
 

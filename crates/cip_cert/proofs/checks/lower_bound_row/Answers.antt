@@ -1,7 +1,7 @@
 use Rattle.std.proofs.Common.{List, length, Result, sym, ap, ap₂, ◌∙◌, arith}
 use Rattle.cip_rational.specs.Rational.{ℚ}
 use Rattle.cip_problem.specs.Program.{Sides}
-use Rattle.cip_linear.specs.Aggregate.{Inequality}
+use Rattle.cip_problem.specs.Aggregate.{Inequality}
 use Rattle.cip_cert.specs.Checks.{chain, bound_from}
 use Rattle.cip_cert.specs.declared.faults.CutFault.{CutFault}
 use Rattle.cip_cert.proofs.checks.lower_bound_row.Goals as goal

@@ -1,5 +1,5 @@
 use Rattle.std.proofs.Common.{◌≡◌, ◌+◌, refl, ap, ◌∙◌, arith}
-use Rattle.cip_linear.specs.Aggregate.{Inequality}
+use Rattle.cip_problem.specs.Aggregate.{Inequality}
 use Rattle.cip_cert.specs.Checks.{add_low, add_lows}
 use Rattle.cip_cert.proofs.Stepwise.{entry_added, entry_failed, entries_added}
 use Rattle.cip_cert.proofs.entries.add_lows.Goals as goal

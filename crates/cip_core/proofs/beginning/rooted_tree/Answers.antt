@@ -1,6 +1,6 @@
 use Rattle.std.proofs.Common.{[], None, sym, subst}
 use Rattle.cip_search.specs.SearchState.{HasGivenBoxes}
-use Rattle.cip_postsolve.specs.StepsBack.{way_back}
+use Rattle.cip_presolve.specs.StepsBack.{way_back}
 use Rattle.cip_tree.specs.Moves.{IsNew}
 use Rattle.cip_core.specs.KeptNodes.{state_of, IsKept}
 use Rattle.cip_core.proofs.Begun.{begun, begun_boxes, if_ok}

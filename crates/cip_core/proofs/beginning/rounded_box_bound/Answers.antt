@@ -1,6 +1,6 @@
 use Rattle.std.proofs.Common.{None, IfSome, ◌∙◌, sym, ap, subst}
 use Rattle.cip_problem.specs.BoxBound.{box_bound}
-use Rattle.cip_linear.specs.Improving.{IsBoundIn}
+use Rattle.cip_problem.specs.Improving.{IsBoundIn}
 use Rattle.cip_model.specs.Meaning.{BoundHolds}
 use Rattle.cip_model.specs.Least.{least_cost_from}
 use Rattle.cip_core.proofs.Begun.{value_holds, root_is, when_true}

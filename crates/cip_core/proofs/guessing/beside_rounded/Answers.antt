@@ -1,5 +1,5 @@
 use Rattle.std.proofs.Common.{IfSome, subst}
-use Rattle.cip_linear.specs.LinearProgram.{LinearProgram, IsPoint}
+use Rattle.cip_problem.specs.LinearProgram.{LinearProgram, IsPoint}
 use Rattle.cip_core.proofs.guessing.beside_rounded.Goals as goal
 
 pub returns-in-Beside : goal.returns-in-Beside

@@ -1,5 +1,5 @@
 use Rattle.std.proofs.Common.{subst}
-use Rattle.cip_linear.specs.LinearProgram.{LinearProgram, HasNoPoint, CostsAtLeast}
+use Rattle.cip_problem.specs.LinearProgram.{LinearProgram, HasNoPoint, CostsAtLeast}
 use Rattle.cip_core.proofs.Rounding.{shown_bound}
 use Rattle.cip_core.proofs.guessing.by_rounding.Goals as goal
 

@@ -3,7 +3,7 @@ use Rattle.std.specs.Prelude.{MatchBool}
 use Rattle.cip_rational.specs.Rational.{ℚ, le_test}
 use Rattle.cip_rational.proofs.Comparisons.{is_le-compare}
 use Rattle.cip_rational.proofs.Rational.Order.{≤ℚ_of_lt, le_of_test, lt_of_le_test}
-use Rattle.cip_leaves.specs.Searched.{NoMore}
+use Rattle.cip_search.specs.Searched.{NoMore}
 use Rattle.cip_core.proofs.raising.is_weaker.Goals as goal
 
 told : (t : Bool) (own bound : ℚ) → t ≡ le_test own bound → MatchBool t (NoMore (Some own) (Some bound)) (NoMore (Some bound) (Some own))

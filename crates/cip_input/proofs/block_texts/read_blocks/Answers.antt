@@ -1,4 +1,4 @@
-use Rattle.cip_line_texts.specs.LineTexts.{HasResult, HasFault}
+use Rattle.cip_text_rules.specs.LineTexts.{HasResult, HasFault}
 use Rattle.cip_blocks.proofs.PassedOn.{begun_or_spent}
 use Rattle.cip_blocks.specs.BlockRules.{block_reading}
 use Rattle.cip_blocks.specs.BlockKindTexts.{kind_number}

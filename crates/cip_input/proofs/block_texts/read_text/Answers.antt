@@ -1,5 +1,5 @@
 use Rattle.std.proofs.Common.{refl, inl, inr}
-use Rattle.cip_line_texts.specs.LineTexts.{HasResult, HasFault}
+use Rattle.cip_text_rules.specs.LineTexts.{HasResult, HasFault}
 use Rattle.cip_blocks.specs.BlockRules.{block_reading}
 use Rattle.cip_blocks.specs.BlockKindTexts.{kind_number}
 use Rattle.cip_blocks.specs.EndedBlocks.{IsFaultOf}

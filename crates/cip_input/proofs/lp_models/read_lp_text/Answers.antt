@@ -1,6 +1,6 @@
 use Rattle.std.proofs.Common.{◌≡◌, true, refl, ap, inl, inr}
 use Rattle.cip_blocks.proofs.PassedOn.{begun}
-use Rattle.cip_lp_rules.specs.LpOutcome.{HasLpProgram, HasLpFault}
+use Rattle.cip_text_rules.specs.LpOutcome.{HasLpProgram, HasLpFault}
 use Rattle.cip_lp.specs.LpKindTexts.{kind_number}
 use Rattle.cip_lp.specs.LpReaders.{HasCome, IsFaultOf}
 use Rattle.cip_input.specs.declared.model_kinds.ModelKind.TheVariants.{Lp}

@@ -1,6 +1,6 @@
 use Rattle.std.proofs.Common.{◌≡◌, false, refl, ap, inl, inr}
 use Rattle.cip_blocks.proofs.PassedOn.{begun}
-use Rattle.cip_mps_rules.specs.MpsOutcome.{HasProgram, HasFault}
+use Rattle.cip_text_rules.specs.MpsOutcome.{HasProgram, HasFault}
 use Rattle.cip_mps.specs.MpsKindTexts.{kind_number}
 use Rattle.cip_mps.specs.MpsReaders.{HasCome, IsFaultOf}
 use Rattle.cip_input.specs.declared.model_kinds.ModelKind.TheVariants.{Mps}

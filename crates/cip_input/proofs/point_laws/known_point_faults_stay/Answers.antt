@@ -1,6 +1,6 @@
 use Rattle.cip_text.proofs.Streams.{stay}
-use Rattle.cip_point_rules.specs.PointRules.{point_reading}
-use Rattle.cip_point_rules.specs.PointSteps.{point_steps}
+use Rattle.cip_text_rules.specs.PointRules.{point_reading}
+use Rattle.cip_text_rules.specs.PointSteps.{point_steps}
 use Rattle.cip_input.proofs.point_laws.known_point_faults_stay.Goals as goal
 
 pub returns : goal.returns

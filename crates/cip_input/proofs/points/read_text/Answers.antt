@@ -1,5 +1,5 @@
 use Rattle.std.proofs.Common.{refl, inl, inr}
-use Rattle.cip_line_texts.specs.LineTexts.{HasResult, HasFault}
+use Rattle.cip_text_rules.specs.LineTexts.{HasResult, HasFault}
 use Rattle.cip_input.specs.PointRules.{point_reading}
 use Rattle.cip_input.specs.PointKindTexts.{kind_number}
 use Rattle.cip_input.specs.PointReaders.{IsFaultOf}

@@ -1,8 +1,8 @@
 use Rattle.std.proofs.Common.{sym, subst}
-use Rattle.cip_linear.specs.LinearProgram.{LinearProgram, HasNoPoint}
+use Rattle.cip_problem.specs.LinearProgram.{LinearProgram, HasNoPoint}
 use Rattle.cip_simplex.specs.LpShape.{IsSolvable}
-use Rattle.cip_leaves.specs.LeafProgram.{at_continuous, program_of_leaf}
-use Rattle.cip_leaves.proofs.Merged.{point_on}
+use Rattle.cip_search.specs.LeafProgram.{at_continuous, program_of_leaf}
+use Rattle.cip_search.proofs.Merged.{point_on}
 use Rattle.cip_leaf.proofs.Answered.{leaf_solvable}
 use Rattle.cip_leaf.proofs.by_basis.shown_by_basis.Goals as goal
 

@@ -1,7 +1,7 @@
 use Rattle.std.proofs.Common.{◌∙◌, length, All, IfOk, IfSome, List, ap, sym, subst}
 use Rattle.cip_problem.specs.Program.{Row}
 use Rattle.cip_problem.specs.Activity.{StandsBelow}
-use Rattle.cip_linear.specs.LinearProgram.{LinearProgram}
+use Rattle.cip_problem.specs.LinearProgram.{LinearProgram}
 use Rattle.cip_basis.specs.Shown.{IsShown}
 use Rattle.cip_leaf.proofs.by_basis.shown_of.Goals as goal
 

@@ -1,5 +1,5 @@
 use Rattle.std.proofs.Common.{Option, None, Some, IfSome}
-use Rattle.cip_linear.specs.LinearProgram.{LinearProgram}
+use Rattle.cip_problem.specs.LinearProgram.{LinearProgram}
 use Rattle.cip_simplex.specs.Reached.{Holds, IsReached}
 use Rattle.cip_simplex.specs.Starts.{Stands}
 use Rattle.cip_simplex.specs.declared.answers.LpAnswer.{LpAnswer}

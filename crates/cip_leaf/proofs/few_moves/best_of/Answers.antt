@@ -1,10 +1,10 @@
 use Rattle.std.proofs.Common.{◌≡◌, sym, subst, rules}
-use Rattle.cip_leaves.specs.LeafProgram.{merged}
+use Rattle.cip_search.specs.LeafProgram.{merged}
 use Rattle.cip_model.specs.declared.verdicts.Verdict.TheVariants.{Feasible}
 use Rattle.cip_model.specs.Meaning.{VerdictHolds}
 use Rattle.cip_model.specs.Verdicts.{verdict_of}
 use Rattle.cip_leaf.proofs.Ends.{best_on}
-use Rattle.cip_leaves.proofs.Merged.{point_back}
+use Rattle.cip_search.proofs.Merged.{point_back}
 use Rattle.cip_problem.specs.Points.{IsFeasible}
 use Rattle.cip_leaf.proofs.few_moves.best_of.Goals as goal
 

@@ -1,8 +1,8 @@
 use Rattle.std.proofs.Common.{◌≡◌, sym, subst, rules}
-use Rattle.cip_leaves.specs.LeafProgram.{merged}
+use Rattle.cip_search.specs.LeafProgram.{merged}
 use Rattle.cip_model.specs.Rays.{IsShownRay}
 use Rattle.cip_leaf.proofs.Rays.{ray_on}
-use Rattle.cip_leaves.proofs.Merged.{point_back}
+use Rattle.cip_search.proofs.Merged.{point_back}
 use Rattle.cip_problem.specs.Points.{IsFeasible}
 use Rattle.cip_leaf.proofs.few_moves.ray_of.Goals as goal
 

@@ -1,8 +1,8 @@
-use Rattle.cip_linear.specs.LinearProgram.{HasNoPoint}
+use Rattle.cip_problem.specs.LinearProgram.{HasNoPoint}
 use Rattle.cip_simplex.specs.Reached.{Holds}
 use Rattle.cip_simplex.specs.declared.answers.LpAnswer.TheVariants.{Infeasible}
-use Rattle.cip_leaves.specs.LeafProgram.{at_continuous, program_of_leaf}
-use Rattle.cip_leaves.proofs.Merged.{point_on}
+use Rattle.cip_search.specs.LeafProgram.{at_continuous, program_of_leaf}
+use Rattle.cip_search.proofs.Merged.{point_on}
 use Rattle.cip_leaf.proofs.few_moves.shown_by.Goals as goal
 
 pub returns-in-Infeasible : goal.returns-in-Infeasible

@@ -1,5 +1,5 @@
 use Rattle.std.proofs.Common.{◌≡◌, map, take}
-use Rattle.cip_linear.specs.Multipliers.{row_sides}
+use Rattle.cip_problem.specs.Multipliers.{row_sides}
 use Rattle.cip_leaf.proofs.first_values.all_sides.Given as goal
 
 abbrev pub invariant-loop-row : goal.invariant-loop-row

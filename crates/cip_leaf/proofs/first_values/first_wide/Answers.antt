@@ -1,7 +1,7 @@
 use Rattle.std.proofs.Common.{◌≡◌, ◌+◌, ◌<◌, ◌^◌, length, map, None, Some, ap, ◌∙◌, subst, arith}
 use Rattle.std.proofs.lemmas.List.{length-map}
-use Rattle.cip_linear.specs.LinearProgram.{LinearProgram}
-use Rattle.cip_linear.specs.Multipliers.{row_sides}
+use Rattle.cip_problem.specs.LinearProgram.{LinearProgram}
+use Rattle.cip_problem.specs.Multipliers.{row_sides}
 use Rattle.cip_bland.specs.Operations.{first_overflow}
 use Rattle.cip_bland.specs.FirstState.{System, first_operations}
 use Rattle.cip_bland.specs.ProgramState.{system_of}

@@ -1,11 +1,11 @@
 use Rattle.std.proofs.Common.{◌≡◌, length, refl, sym, subst, arith}
-use Rattle.cip_linear.specs.LinearProgram.{LinearProgram}
+use Rattle.cip_problem.specs.LinearProgram.{LinearProgram}
 use Rattle.cip_bland.specs.NoRepeat.{whole_answer}
 use Rattle.cip_bland.proofs.ListEnds.{answers_end}
 use Rattle.cip_simplex.specs.LpAnswers.{IsAnswer}
 use Rattle.cip_simplex.specs.LpShape.{IsSolvable}
-use Rattle.cip_leaves.specs.LeafProgram.{program_of_leaf}
-use Rattle.cip_leaves.proofs.Merged.{leaf_proper}
+use Rattle.cip_search.specs.LeafProgram.{program_of_leaf}
+use Rattle.cip_search.proofs.Merged.{leaf_proper}
 use Rattle.cip_leaf.specs.LeafAnswers.{EndsInOptimum, EndsInRay, EndsOutOfRange}
 use Rattle.cip_leaf.proofs.Answered.{leaf_solvable, optimum_of, no_point_of, ray_of, moves_of, never_limit}
 use Rattle.cip_leaf.proofs.leaves.answer_at.Goals as goal

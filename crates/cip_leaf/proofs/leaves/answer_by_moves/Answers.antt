@@ -1,9 +1,9 @@
 use Rattle.std.proofs.Common.{◌≡◌, ◌∙◌, sym, subst}
-use Rattle.cip_linear.specs.LinearProgram.{LinearProgram}
+use Rattle.cip_problem.specs.LinearProgram.{LinearProgram}
 use Rattle.cip_bland.specs.NoRepeat.{whole_answer}
 use Rattle.cip_simplex.specs.LpAnswers.{IsAnswer}
 use Rattle.cip_simplex.specs.LpShape.{IsSolvable}
-use Rattle.cip_leaves.specs.LeafProgram.{program_of_leaf}
+use Rattle.cip_search.specs.LeafProgram.{program_of_leaf}
 use Rattle.cip_leaf.proofs.Answered.{leaf_solvable}
 use Rattle.cip_leaf.proofs.leaves.answer_by_moves.Goals as goal
 

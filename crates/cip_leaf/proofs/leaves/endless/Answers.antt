@@ -1,5 +1,5 @@
 use Rattle.std.proofs.Common.{◌≡◌, [], sym, ap, ◌∙◌, subst, rules}
-use Rattle.cip_leaves.specs.LeafProgram.{merged}
+use Rattle.cip_search.specs.LeafProgram.{merged}
 use Rattle.cip_model.specs.declared.verdicts.Place.{Place}
 use Rattle.cip_model.specs.declared.verdicts.Verdict.TheVariants.{Wide}
 use Rattle.cip_model.specs.Meaning.{Overflows}

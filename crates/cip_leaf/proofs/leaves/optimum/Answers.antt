@@ -1,6 +1,6 @@
 use Rattle.std.proofs.Common.{◌≡◌, sym, subst, rules}
-use Rattle.cip_leaves.specs.LeafProgram.{merged}
-use Rattle.cip_leaves.specs.Leaf.{IsPointOf}
+use Rattle.cip_search.specs.LeafProgram.{merged}
+use Rattle.cip_search.specs.Leaf.{IsPointOf}
 use Rattle.cip_model.specs.declared.verdicts.Verdict.TheVariants.{Feasible}
 use Rattle.cip_model.specs.Meaning.{VerdictHolds, Overflows}
 use Rattle.cip_model.specs.Verdicts.{verdict_of}

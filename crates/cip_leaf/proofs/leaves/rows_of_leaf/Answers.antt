@@ -2,7 +2,7 @@ use Rattle.std.proofs.Common.{◌≡◌, Bool, List, [], ap, ◌∙◌, subst}
 use Rattle.std.specs.Prelude.{map, MatchResult}
 use Rattle.cip_rational.specs.Rational.{ℚ}
 use Rattle.cip_problem.specs.Program.{Row}
-use Rattle.cip_leaves.specs.LeafProgram.{merged}
+use Rattle.cip_search.specs.LeafProgram.{merged}
 use Rattle.cip_leaf.specs.Building.{left_of, IsRowsFault}
 use Rattle.cip_leaf.proofs.leaves.rows_of_leaf.Goals as goal
 

@@ -1,5 +1,5 @@
 use Rattle.std.proofs.Common.{◌≡◌, ◌++◌, drop}
-use Rattle.cip_leaves.specs.LeafProgram.{at_continuous}
+use Rattle.cip_search.specs.LeafProgram.{at_continuous}
 use Rattle.cip_leaf.proofs.lists.continuous_costs.Given as goal
 
 abbrev pub invariant-loop-at : goal.invariant-loop-at

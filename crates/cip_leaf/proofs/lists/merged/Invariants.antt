@@ -1,5 +1,5 @@
 use Rattle.std.proofs.Common.{◌≡◌, ◌++◌, ◌≤◌, drop, length}
-use Rattle.cip_leaves.specs.LeafProgram as program
+use Rattle.cip_search.specs.LeafProgram as program
 use Rattle.cip_leaf.proofs.lists.merged.Given as goal
 
 abbrev pub invariant-loop-at : goal.invariant-loop-at

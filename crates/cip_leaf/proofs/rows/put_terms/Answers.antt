@@ -1,7 +1,7 @@
 use Rattle.std.proofs.Common.{◌≡◌, ◌<◌, ◌∷◌, ◌++◌, [], ℕ, true, false, length, take, sym, ap, ◌∙◌, arith}
 use Rattle.std.proofs.Math.ListN.{get_or}
 use Rattle.cip_problem.specs.Program.{Term, Row}
-use Rattle.cip_leaves.specs.LeafProgram.{is_continuous, new_number, continuous_terms}
+use Rattle.cip_search.specs.LeafProgram.{is_continuous, new_number, continuous_terms}
 use Rattle.cip_leaf.proofs.Steps.{continuous_test, number_at, numbers-long, whole_term, continuous_term, stands_next, stands_on}
 use Rattle.cip_leaf.proofs.rows.put_terms.Goals as goal
 

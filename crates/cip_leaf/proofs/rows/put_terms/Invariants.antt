@@ -1,5 +1,5 @@
 use Rattle.std.proofs.Common.{◌≡◌, take}
-use Rattle.cip_leaves.specs.LeafProgram.{continuous_terms}
+use Rattle.cip_search.specs.LeafProgram.{continuous_terms}
 use Rattle.cip_leaf.proofs.rows.put_terms.Given as goal
 
 abbrev pub invariant-loop-term : goal.invariant-loop-term

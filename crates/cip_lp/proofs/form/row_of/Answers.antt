@@ -1,6 +1,6 @@
 use Rattle.std.proofs.Common.{◌++◌, ◌∷◌, [], ap, sym, ◌∙◌, take, add-one}
 use Rattle.cip_problem.specs.Program.{Row}
-use Rattle.cip_lp_rules.specs.LpFacts.{terms_of}
+use Rattle.cip_text_rules.specs.LpFacts.{terms_of}
 use Rattle.cip_lp.proofs.FormLaws.{terms_before, terms_take, number_at}
 use Rattle.cip_lp.proofs.form.row_of.Goals as goal
 

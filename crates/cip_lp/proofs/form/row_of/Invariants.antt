@@ -1,5 +1,5 @@
 use Rattle.std.proofs.Common.{◌≡◌, take}
-use Rattle.cip_lp_rules.specs.LpFacts.{terms_of}
+use Rattle.cip_text_rules.specs.LpFacts.{terms_of}
 use Rattle.cip_lp.proofs.form.row_of.Given as goal
 
 abbrev pub invariant-loop-number : goal.invariant-loop-number

@@ -1,6 +1,6 @@
 use Rattle.std.proofs.Common.{rules}
 use Rattle.std.proofs.lemmas.List.Sorted.{IsNonDecreasingBy-from_sort_by_key}
-use Rattle.cip_lp_rules.specs.LpFacts.{FormTerm}
+use Rattle.cip_text_rules.specs.LpFacts.{FormTerm}
 use Rattle.cip_lp.proofs.FormOrder.{sorted_form}
 use Rattle.cip_lp.proofs.form.sort_terms.Goals as goal
 

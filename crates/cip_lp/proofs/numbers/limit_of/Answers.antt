@@ -1,5 +1,5 @@
 use Rattle.std.proofs.Common.{sym, ap, ◌∙◌}
-use Rattle.cip_mps_rules.specs.MpsWords.{is_too_fine}
+use Rattle.cip_text_rules.specs.MpsWords.{is_too_fine}
 use Rattle.cip_lp.proofs.ValueLaws.{too_fine_read, limit_read}
 use Rattle.cip_lp.proofs.numbers.limit_of.Goals as goal
 

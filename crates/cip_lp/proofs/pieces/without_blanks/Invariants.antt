@@ -1,5 +1,5 @@
 use Rattle.std.proofs.Common.{◌≡◌, length}
-use Rattle.cip_lp_rules.specs.LpTokens.{line_pieces}
+use Rattle.cip_text_rules.specs.LpTokens.{line_pieces}
 use Rattle.cip_lp.proofs.pieces.without_blanks.Given as goal
 
 abbrev pub invariant-loop-rest : goal.invariant-loop-rest

@@ -1,6 +1,6 @@
 use Rattle.std.proofs.Common.{◌≡◌, drop, map}
 use Rattle.std.specs.Str.{str_to_ascii_lowercase}
-use Rattle.cip_mps_rules.specs.MpsWords.{meaning_in}
+use Rattle.cip_text_rules.specs.MpsWords.{meaning_in}
 use Rattle.cip_lp.specs.LpKinds.{word_shown}
 use Rattle.cip_lp.proofs.words.meaning_in.Given as goal
 

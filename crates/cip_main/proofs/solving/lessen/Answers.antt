@@ -1,6 +1,6 @@
 use Rattle.std.proofs.Common.{ap, map}
 use Rattle.std.proofs.lemmas.Result.{IfOk-weaker}
-use Rattle.cip_tasks.specs.WordsRead.{limits_of}
+use Rattle.cip_input.specs.WordsRead.{limits_of}
 use Rattle.cip_main.proofs.Searches.{kit_less, kit_plain}
 use Rattle.cip_main.proofs.solving.lessen.Goals as goal
 

@@ -1,6 +1,6 @@
 use Rattle.std.proofs.Common.{◌≡◌, ◌++◌, ◌∷◌, [], refl, rules}
 use Rattle.cip_solve.proofs.PassedOn.{near_columns}
-use Rattle.cip_tasks.specs.WordsRead.{limits_of}
+use Rattle.cip_input.specs.WordsRead.{limits_of}
 use Rattle.cip_main.proofs.Searches.{few_less, not_searched_still, searched_less}
 use Rattle.cip_main.proofs.solving.search.Goals as goal
 

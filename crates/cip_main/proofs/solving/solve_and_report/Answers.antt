@@ -1,6 +1,6 @@
-use Rattle.cip_answers.specs.Figures.{names_of}
-use Rattle.cip_answers.specs.TraceTexts.{traced_text}
-use Rattle.cip_tasks.specs.WordsRead.{limits_of}
+use Rattle.cip_search.specs.Figures.{names_of}
+use Rattle.cip_search.specs.TraceTexts.{traced_text}
+use Rattle.cip_input.specs.WordsRead.{limits_of}
 use Rattle.cip_main.proofs.Searches.{works_of, fits}
 use Rattle.cip_main.proofs.solving.solve_and_report.Goals as goal
 

@@ -1,5 +1,5 @@
 use Rattle.std.proofs.Common.{arith, ap, map}
-use Rattle.cip_tasks.specs.Jobs.{usual_limits}
+use Rattle.cip_input.specs.Jobs.{usual_limits}
 use Rattle.cip_report.specs.Drawn.{drawn_of}
 use Rattle.cip_main.specs.Answering.{self_told}
 use Rattle.cip_main.proofs.Searches.{searched_usual, works_of}

@@ -1,5 +1,5 @@
 use Rattle.std.proofs.Common.{◌≡◌, arith, sym, ap, add-one, subst, true, ℕ}
-use Rattle.cip_mps_rules.specs.MpsState.{costs_from}
+use Rattle.cip_text_rules.specs.MpsState.{costs_from}
 use Rattle.cip_mps.specs.Costs.{held_behind}
 use Rattle.cip_mps.proofs.CostLaws.{from, one_cost, behind_rises, behind_later, from_zero}
 use Rattle.cip_mps.proofs.column_program.costs_of.Goals as goal

@@ -1,8 +1,8 @@
 use Rattle.std.proofs.Common.{◌≡◌, ◌-◌, ◌++◌, true}
 use Rattle.std.specs.Prelude.{nat_le}
 use Rattle.std.specs.List.{list_all}
-use Rattle.cip_mps_rules.specs.MpsState.{Held, costs_from}
-use Rattle.cip_mps_rules.specs.MpsSoundState.{rises}
+use Rattle.cip_text_rules.specs.MpsState.{Held, costs_from}
+use Rattle.cip_text_rules.specs.MpsSoundState.{rises}
 use Rattle.cip_mps.proofs.column_program.costs_of.Given as goal
 
 abbrev pub invariant-loop-column : goal.invariant-loop-column

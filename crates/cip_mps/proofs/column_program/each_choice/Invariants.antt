@@ -1,5 +1,5 @@
 use Rattle.std.proofs.Common.{◌≡◌, map, take}
-use Rattle.cip_mps_rules.specs.MpsBounds.{settled, choice_of}
+use Rattle.cip_text_rules.specs.MpsBounds.{settled, choice_of}
 use Rattle.cip_mps.proofs.column_program.each_choice.Given as goal
 
 abbrev pub invariant-loop-column : goal.invariant-loop-column

@@ -1,4 +1,4 @@
-use Rattle.cip_mps_rules.specs.MpsBounds.{Bounded, settled}
+use Rattle.cip_text_rules.specs.MpsBounds.{Bounded, settled}
 use Rattle.cip_mps.proofs.ListLaws.{mapped_more, mapped_all}
 use Rattle.cip_mps.proofs.column_program.wholes_of.Goals as goal
 

@@ -2,7 +2,7 @@ use Rattle.std.proofs.Common.{◌+◌, ◌++◌, ◌∷◌, [], List, drop, drop
 use Rattle.std.specs.Prelude.{slice_index_or}
 use Rattle.std.proofs.lemmas.Bool.{eq-eqb, ne_eqb}
 use Rattle.std.proofs.lemmas.List.{append-nil, drop_all}
-use Rattle.cip_mps_rules.specs.MpsState.{Held}
+use Rattle.cip_text_rules.specs.MpsState.{Held}
 use Rattle.cip_mps.specs.Entries.{numbers_of}
 use Rattle.cip_mps.specs.GroupEntries.{near_entry}
 use Rattle.cip_mps.specs.declared.groups.Near.{Near}

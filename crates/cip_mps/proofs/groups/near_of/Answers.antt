@@ -2,7 +2,7 @@ use Rattle.std.proofs.Common.{◌≡◌, ℤ, to_z, of_z, w32, ap, ◌∙◌, ar
 use Rattle.std.proofs.lemmas.Int.{ints}
 use mir.Syntax.{w128}
 use Rattle.cip_rational.specs.Rational.{integer}
-use Rattle.cip_mps_rules.specs.MpsState.{Held}
+use Rattle.cip_text_rules.specs.MpsState.{Held}
 use Rattle.cip_mps.specs.Entries.{Entry}
 use Rattle.cip_mps.proofs.Numbers.{whole_held}
 use Rattle.cip_mps.proofs.groups.near_of.Goals as goal

@@ -1,6 +1,6 @@
 use Rattle.cip_text.proofs.Streams.{stay}
-use Rattle.cip_mps_rules.specs.MpsOutcome.{mps_reading}
-use Rattle.cip_mps_rules.specs.MpsSteps.{mps_steps}
+use Rattle.cip_text_rules.specs.MpsOutcome.{mps_reading}
+use Rattle.cip_text_rules.specs.MpsSteps.{mps_steps}
 use Rattle.cip_mps.proofs.laws.known_faults_stay.Goals as goal
 
 pub returns : goal.returns

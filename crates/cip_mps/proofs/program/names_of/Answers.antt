@@ -1,6 +1,6 @@
 use Rattle.std.proofs.Common.{◌++◌, ◌∷◌, [], cond, refl, ap, sym, ◌∙◌, take, add-one, arith}
 use Rattle.std.specs.Prelude.{slice_index_or}
-use Rattle.cip_mps_rules.specs.MpsState.{no_row, is_kept, kept_names}
+use Rattle.cip_text_rules.specs.MpsState.{no_row, is_kept, kept_names}
 use Rattle.cip_mps.proofs.ProgramLaws.{kept_absent, take_absent, kept_more, kept_unless}
 use Rattle.cip_mps.proofs.program.names_of.Goals as goal
 

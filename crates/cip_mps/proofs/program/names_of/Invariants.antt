@@ -1,5 +1,5 @@
 use Rattle.std.proofs.Common.{◌≡◌, take}
-use Rattle.cip_mps_rules.specs.MpsState.{kept_names}
+use Rattle.cip_text_rules.specs.MpsState.{kept_names}
 use Rattle.cip_mps.proofs.program.names_of.Given as goal
 
 abbrev pub invariant-loop-number : goal.invariant-loop-number

@@ -1,5 +1,5 @@
 use Rattle.std.proofs.Common.{◌≡◌, drop}
-use Rattle.cip_mps_rules.specs.MpsState.{objective_row}
+use Rattle.cip_text_rules.specs.MpsState.{objective_row}
 use Rattle.cip_mps.proofs.program.objective_at.Given as goal
 
 abbrev pub invariant-loop-number : goal.invariant-loop-number

@@ -1,6 +1,6 @@
 use Rattle.std.proofs.Common.{◌≡◌, ap, sym, ◌∙◌, true, false}
-use Rattle.cip_mps_rules.specs.MpsState.{is_zero_value}
-use Rattle.cip_mps_rules.proofs.Told.{zero_is_zero}
+use Rattle.cip_text_rules.specs.MpsState.{is_zero_value}
+use Rattle.cip_text_rules.proofs.Told.{zero_is_zero}
 use Rattle.cip_mps.proofs.row_terms.append.Goals as goal
 
 pub unreachable-requires-in-Err-ZeroTerm : goal.unreachable-requires-in-Err-ZeroTerm

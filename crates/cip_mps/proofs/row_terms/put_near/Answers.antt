@@ -3,7 +3,7 @@ use Rattle.std.specs.Prelude.{nat_lt, slice_index_or}
 use Rattle.std.specs.List.{list_all}
 use Rattle.std.proofs.lemmas.List.{drop_all}
 use Rattle.cip_problem.specs.Program.{Row, no_row}
-use Rattle.cip_mps_rules.specs.MpsState.{Held}
+use Rattle.cip_text_rules.specs.MpsState.{Held}
 use Rattle.cip_mps.specs.GroupEntries.{near_entry}
 use Rattle.cip_mps.specs.GroupedRows.{follow, put_number, put_numbers}
 use Rattle.cip_mps.specs.declared.groups.Near.{Near}

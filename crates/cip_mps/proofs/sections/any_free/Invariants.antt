@@ -1,6 +1,6 @@
 use Rattle.std.proofs.Common.{◌≡◌, drop}
 use Rattle.std.specs.List.{list_any}
-use Rattle.cip_mps_rules.specs.MpsProgram.{is_free}
+use Rattle.cip_text_rules.specs.MpsProgram.{is_free}
 use Rattle.cip_mps.proofs.sections.any_free.Given as goal
 
 abbrev pub invariant-loop-number : goal.invariant-loop-number

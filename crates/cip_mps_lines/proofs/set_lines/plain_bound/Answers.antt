@@ -1,6 +1,6 @@
 use Rattle.std.proofs.Common.{ap, ◌∙◌}
 use Rattle.cip_rational.specs.Numeral.{Numeral}
-use Rattle.cip_mps_rules.specs.MpsSayings.{BoundLine, of_set}
+use Rattle.cip_text_rules.specs.MpsSayings.{BoundLine, of_set}
 use Rattle.cip_mps_lines.specs.FirstWords.{texts}
 use Rattle.cip_mps_lines.specs.MpsKinds.{bound_kind_in}
 use Rattle.cip_mps_lines.proofs.SetLines.{plain_told, plain_bound_told}

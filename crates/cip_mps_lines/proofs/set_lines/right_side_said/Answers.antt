@@ -1,5 +1,5 @@
 use Rattle.std.proofs.Common.{ap, ◌∙◌}
-use Rattle.cip_mps_rules.specs.MpsSayings.{RightSideLine}
+use Rattle.cip_text_rules.specs.MpsSayings.{RightSideLine}
 use Rattle.cip_mps_lines.specs.FirstWords.{texts}
 use Rattle.cip_mps_lines.proofs.SetLines.{values_told, right_side_told}
 use Rattle.cip_mps_lines.proofs.set_lines.right_side_said.Goals as goal

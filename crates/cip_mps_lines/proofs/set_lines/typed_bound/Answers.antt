@@ -1,6 +1,6 @@
 use Rattle.std.proofs.Common.{Bool, ap, sym, ◌∙◌}
 use Rattle.std.specs.Prelude.{if◌then◌else◌}
-use Rattle.cip_mps_rules.specs.MpsSayings.{valued_bound, plain_bound}
+use Rattle.cip_text_rules.specs.MpsSayings.{valued_bound, plain_bound}
 use Rattle.cip_mps_lines.specs.FirstWords.{texts}
 use Rattle.cip_mps_lines.specs.MpsKinds.{bound_kind_in}
 use Rattle.cip_mps_lines.proofs.set_lines.typed_bound.Goals as goal

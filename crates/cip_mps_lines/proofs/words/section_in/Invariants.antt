@@ -1,5 +1,5 @@
 use Rattle.std.proofs.Common.{◌≡◌, drop, map}
-use Rattle.cip_mps_rules.specs.MpsWords.{meaning_in}
+use Rattle.cip_text_rules.specs.MpsWords.{meaning_in}
 use Rattle.cip_mps_lines.specs.MpsKinds.{section_word}
 use Rattle.cip_mps_lines.proofs.words.section_in.Given as goal
 

@@ -1,7 +1,7 @@
 use Rattle.std.proofs.Common.{◌≡◌, ◌∙◌, Option, IfSome, length, sym, ap, subst}
 use Rattle.cip_problem.specs.WellFormed.{columns}
 use Rattle.cip_domain.specs.Changes.{Region}
-use Rattle.cip_linear.specs.Improving.{IsBoundIn, HasNoImproving}
+use Rattle.cip_problem.specs.Improving.{IsBoundIn, HasNoImproving}
 use Rattle.cip_tree.specs.Nodes.{region_of, box_of}
 use Rattle.cip_core.specs.CoreStates.{CoreState, reduced_of, held_of}
 use Rattle.cip_core.specs.Steps.{IsTriedBack, IsRaisedTo}

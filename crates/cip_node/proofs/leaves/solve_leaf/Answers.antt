@@ -3,7 +3,7 @@ use Rattle.cip_problem.specs.Program.{Sides}
 use Rattle.cip_problem.specs.Choices.{made_on}
 use Rattle.cip_problem.specs.WellFormed.{columns}
 use Rattle.cip_leaf.specs.LeafAnswers.{IsLeafAnswer}
-use Rattle.cip_leaves.specs.Leaf.{IsLeaf}
+use Rattle.cip_search.specs.Leaf.{IsLeaf}
 use Rattle.cip_core.specs.Pairs.{IsAssignment}
 use Rattle.cip_core.specs.StepsBack.{whole_point, leaf_back}
 use Rattle.cip_node.specs.LeafValues.{least_values}

@@ -1,6 +1,6 @@
 use Rattle.std.proofs.Common.{false, get_or, sym, subst, arith}
 use Rattle.cip_rational.specs.Rational.{zeroℚ}
-use Rattle.cip_linear.specs.Cuts.{CanRoundAt}
+use Rattle.cip_problem.specs.Cuts.{CanRoundAt}
 use Rattle.cip_node_rules.proofs.Places.{zip_from, zip_at}
 use Rattle.cip_node_rules.proofs.values.has_whole_costs.Goals as goal
 

@@ -1,6 +1,6 @@
 use Rattle.std.proofs.Common.{ℕ, ◌<◌, false, get_or}
 use Rattle.cip_rational.specs.Rational.{zeroℚ}
-use Rattle.cip_linear.specs.Cuts.{CanRoundAt}
+use Rattle.cip_problem.specs.Cuts.{CanRoundAt}
 use Rattle.cip_node_rules.proofs.values.has_whole_costs.Given as goal
 
 abbrev pub invariant-loop-at : goal.invariant-loop-at

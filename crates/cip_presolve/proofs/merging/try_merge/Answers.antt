@@ -2,7 +2,7 @@ use Rattle.std.proofs.Common.{◌≡◌, sym, ap, ◌∙◌}
 use Rattle.std.proofs.lemmas.Option.{same_Some}
 use Rattle.cip_problem.specs.Program.{Sides, Row}
 use Rattle.cip_problem.specs.Choices.{met}
-use Rattle.cip_reductions.specs.NarrowedPrograms.{with_row}
+use Rattle.cip_search.specs.NarrowedPrograms.{with_row}
 use Rattle.cip_presolve.specs.RowsMet.{sides_of}
 use Rattle.cip_presolve.proofs.Merged.{merged_by, made_by}
 use Rattle.cip_presolve.proofs.merging.try_merge.Goals as goal

@@ -1,9 +1,9 @@
 use Rattle.std.proofs.Common.{◌≤◌, length, sym, subst}
 use Rattle.cip_problem.specs.Limits.{most_rows}
 use Rattle.cip_problem.specs.Program.{Program}
-use Rattle.cip_reductions.specs.NarrowedPrograms.{IsStep, IsInfeasible}
-use Rattle.cip_postsolve.specs.DraftParts.{unnamed}
-use Rattle.cip_postsolve.proofs.LeftPairs.{infeasible_named}
+use Rattle.cip_search.specs.NarrowedPrograms.{IsStep, IsInfeasible}
+use Rattle.cip_presolve.specs.DraftParts.{unnamed}
+use Rattle.cip_presolve.proofs.LeftPairs.{infeasible_named}
 use Rattle.cip_presolve.proofs.presolved.presolve.Goals as goal
 
 pub returns-in-Ok-NoPoint : goal.returns-in-Ok-NoPoint

@@ -1,5 +1,5 @@
 use Rattle.std.proofs.Common.{◌≡◌, length}
-use Rattle.cip_reductions.specs.NarrowedPrograms.{IsExactStep}
+use Rattle.cip_search.specs.NarrowedPrograms.{IsExactStep}
 use Rattle.cip_presolve.proofs.rounds.settle_columns.Given as goal
 
 abbrev pub invariant-loop-column : goal.invariant-loop-column

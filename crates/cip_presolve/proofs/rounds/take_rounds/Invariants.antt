@@ -1,5 +1,5 @@
 use Rattle.std.proofs.Common.{◌≡◌, length}
-use Rattle.cip_reductions.specs.NarrowedPrograms.{IsStep}
+use Rattle.cip_search.specs.NarrowedPrograms.{IsStep}
 use Rattle.cip_presolve.proofs.rounds.take_rounds.Given as goal
 
 abbrev pub invariant-loop : goal.invariant-loop

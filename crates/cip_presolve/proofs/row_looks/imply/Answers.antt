@@ -1,5 +1,5 @@
 use Rattle.std.proofs.Common.{◌∙◌}
-use Rattle.cip_postsolve.proofs.PassedOn.{stays_enclosed}
+use Rattle.cip_presolve.proofs.ImpliedSides.{stays_enclosed}
 use Rattle.cip_presolve.proofs.Chained.{follows}
 use Rattle.cip_presolve.proofs.row_looks.imply.Goals as goal
 

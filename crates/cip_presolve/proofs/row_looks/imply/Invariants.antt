@@ -1,6 +1,6 @@
 use Rattle.std.proofs.Common.{◌≡◌}
-use Rattle.cip_reductions.specs.NarrowedPrograms.{IsExactStep}
-use Rattle.cip_postsolve.specs.Taken.{IsEnclosed}
+use Rattle.cip_search.specs.NarrowedPrograms.{IsExactStep}
+use Rattle.cip_presolve.specs.Taken.{IsEnclosed}
 use Rattle.cip_presolve.proofs.row_looks.imply.Given as goal
 
 abbrev pub invariant-loop-at : goal.invariant-loop-at

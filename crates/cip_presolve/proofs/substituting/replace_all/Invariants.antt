@@ -1,5 +1,5 @@
 use Rattle.std.proofs.Common.{◌≡◌, length}
-use Rattle.cip_reductions.specs.NarrowedPrograms.{IsExactStep}
+use Rattle.cip_search.specs.NarrowedPrograms.{IsExactStep}
 use Rattle.cip_presolve.specs.Substitutions.{IsFound}
 use Rattle.cip_presolve.proofs.substituting.replace_all.Given as goal
 

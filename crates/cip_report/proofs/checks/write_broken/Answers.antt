@@ -1,8 +1,8 @@
 use Rattle.std.proofs.Common.{◌≡◌, ◌++◌, [], ◌∷◌, append_assoc, List, ℕ}
 use Rattle.cip_rational.specs.Rational.{ℚ}
 use Rattle.cip_rational.specs.NumberText.{fraction_text}
-use Rattle.cip_answers.specs.Figures.{line}
-use Rattle.cip_answers.specs.Checks.{Broken, broken_text, figure_against}
+use Rattle.cip_search.specs.Figures.{line}
+use Rattle.cip_search.specs.Checks.{Broken, broken_text, figure_against}
 use Rattle.cip_report.proofs.WritingLemmas.{first_of_three, second_of_three, third_of_three}
 use Rattle.cip_report.proofs.checks.write_broken.Goals as goal
 

@@ -1,5 +1,5 @@
 use Rattle.std.proofs.Common.{◌≡◌, ◌∙◌}
-use Rattle.cip_answers.specs.Checks.{check_word}
+use Rattle.cip_search.specs.Checks.{check_word}
 use Rattle.cip_report.specs.Checks.{checked_of}
 use Rattle.cip_report.proofs.WritingLemmas.{first_of_three, second_of_three, third_of_three}
 use Rattle.cip_report.proofs.checks.write_check.Goals as goal

@@ -1,7 +1,7 @@
 use lib.Chars.{codes}
 use Rattle.cip_rational.specs.NumberText.{natural_text}
-use Rattle.cip_answers.specs.Figures.{line}
-use Rattle.cip_answers.specs.SelfTexts.{sizes_text}
+use Rattle.cip_search.specs.Figures.{line}
+use Rattle.cip_search.specs.SelfTexts.{sizes_text}
 use Rattle.cip_report.specs.Drawn.{drawn_of}
 use Rattle.cip_report.proofs.WritingLemmas.{first_of_two, second_of_two}
 use Rattle.cip_report.proofs.drawn.write_drawn.Goals as goal

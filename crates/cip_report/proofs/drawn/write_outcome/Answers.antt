@@ -1,5 +1,5 @@
 use Rattle.std.proofs.Common.{◌≡◌, ◌∙◌}
-use Rattle.cip_answers.specs.Figures.{status_word}
+use Rattle.cip_search.specs.Figures.{status_word}
 use Rattle.cip_report.specs.Answers.{status_of}
 use Rattle.cip_report.proofs.WritingLemmas.{first_of_two, second_of_two}
 use Rattle.cip_report.proofs.drawn.write_outcome.Goals as goal

@@ -1,5 +1,5 @@
-use Rattle.cip_answers.specs.Figures.{end_line}
-use Rattle.cip_answers.specs.SelfTexts.{drawn_lines, outcome_lines}
+use Rattle.cip_search.specs.Figures.{end_line}
+use Rattle.cip_search.specs.SelfTexts.{drawn_lines, outcome_lines}
 use Rattle.cip_report.specs.Answers.{figures_of}
 use Rattle.cip_report.specs.Drawn.{drawn_of}
 use Rattle.cip_report.proofs.WritingLemmas.{first_of_three, second_of_three, third_of_three}

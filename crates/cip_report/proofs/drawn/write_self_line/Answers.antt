@@ -1,6 +1,6 @@
 use Rattle.std.proofs.Common.{[], ◌∷◌, ◌++◌}
 use lib.Chars.{codes}
-use Rattle.cip_answers.specs.SelfTexts.{sizes_text}
+use Rattle.cip_search.specs.SelfTexts.{sizes_text}
 use Rattle.cip_report.specs.Drawn.{drawn_of}
 use Rattle.cip_report.proofs.WritingLemmas.{first_of_two, second_of_two}
 use Rattle.cip_report.proofs.SelfLines.{self_line_parts}

@@ -1,7 +1,7 @@
 use Rattle.std.proofs.Common.{◌≡◌, ◌+◌, ◌++◌, ◌∙◌, suc, sym, ap, subst, take, map, append_assoc, arith, get_or}
 use Rattle.std.proofs.lemmas.List.{get_or_default}
 use Rattle.cip_events.specs.declared.words.Word.TheVariants.{Init}
-use Rattle.cip_answers.specs.TraceTexts.{trace_line, trace_lines}
+use Rattle.cip_search.specs.TraceTexts.{trace_line, trace_lines}
 use Rattle.cip_report.specs.Traces.{traced_line}
 use Rattle.cip_report.specs.Writing.{Passes}
 use Rattle.cip_report.proofs.WritingLemmas.{second_of_three, Passes-more}

@@ -1,5 +1,5 @@
 use Rattle.std.proofs.Common.{◌≡◌, ◌++◌, take, map}
-use Rattle.cip_answers.specs.TraceTexts.{trace_lines}
+use Rattle.cip_search.specs.TraceTexts.{trace_lines}
 use Rattle.cip_report.specs.Traces.{traced_line}
 use Rattle.cip_report.specs.Writing.{Passes}
 use Rattle.cip_report.proofs.traces.write_lines.Given as goal

@@ -1,5 +1,5 @@
 use Rattle.std.proofs.Common.{[], ◌∷◌}
-use Rattle.cip_answers.specs.TraceTexts.{traced_front}
+use Rattle.cip_search.specs.TraceTexts.{traced_front}
 use Rattle.cip_report.specs.Traces.{traced_line}
 use Rattle.cip_report.proofs.WritingLemmas.{first_of_three, second_of_three, third_of_three}
 use Rattle.cip_report.proofs.traces.write_traced.Goals as goal

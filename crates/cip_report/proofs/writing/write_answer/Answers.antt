@@ -1,5 +1,5 @@
 use Rattle.std.proofs.Common.{◌≡◌, ◌∙◌}
-use Rattle.cip_answers.specs.Figures.{status_word}
+use Rattle.cip_search.specs.Figures.{status_word}
 use Rattle.cip_report.specs.Answers.{status_of}
 use Rattle.cip_report.proofs.WritingLemmas.{first_of_three, second_of_three, third_of_three}
 use Rattle.cip_report.proofs.writing.write_answer.Goals as goal

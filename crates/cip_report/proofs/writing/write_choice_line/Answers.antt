@@ -1,6 +1,6 @@
 use lib.Chars.{codes}
 use Rattle.std.proofs.Common.{◌≡◌, ◌∙◌}
-use Rattle.cip_answers.specs.Figures.{line, choice_text}
+use Rattle.cip_search.specs.Figures.{line, choice_text}
 use Rattle.cip_report.proofs.WritingLemmas.{first_of_two, second_of_two}
 use Rattle.cip_report.proofs.writing.write_choice_line.Goals as goal
 

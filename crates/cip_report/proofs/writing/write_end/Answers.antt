@@ -1,5 +1,5 @@
-use Rattle.cip_answers.specs.Figures.{end_line}
-use Rattle.cip_answers.specs.TraceTexts.{trace_lines}
+use Rattle.cip_search.specs.Figures.{end_line}
+use Rattle.cip_search.specs.TraceTexts.{trace_lines}
 use Rattle.cip_report.specs.Traces.{kept_lines}
 use Rattle.cip_report.proofs.WritingLemmas.{first_of_two, second_of_two}
 use Rattle.cip_report.proofs.writing.write_end.Goals as goal

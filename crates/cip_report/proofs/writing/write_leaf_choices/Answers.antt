@@ -1,8 +1,8 @@
 use Rattle.std.proofs.Common.{◌<◌, ◌≤◌, ◌++◌, ◌∙◌, subst, false, map, get_or, take, length, append_assoc, add-one, rules, arith}
 use Rattle.std.proofs.lemmas.List.{get_or_default}
 use Rattle.cip_problem.specs.Choices.{is_open}
-use Rattle.cip_leaves.specs.Leaf.{at_wholes}
-use Rattle.cip_answers.specs.Figures.{line, leaf_name, choice_text}
+use Rattle.cip_search.specs.Leaf.{at_wholes}
+use Rattle.cip_search.specs.Figures.{line, leaf_name, choice_text}
 use Rattle.cip_report.specs.Writing.{Passes}
 use Rattle.cip_report.proofs.WritingLemmas.{second_of_three, Passes-more}
 use Rattle.cip_report.proofs.LeafLines.{on_lines, choices_are_lines, place_below, place_more, lines_around, lines_more, wholes_same, open_flag, few_flags, all_lines}

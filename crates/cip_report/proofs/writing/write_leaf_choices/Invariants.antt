@@ -1,6 +1,6 @@
 use Rattle.std.proofs.Common.{◌≡◌, ◌++◌, map, take, length}
 use Rattle.cip_problem.specs.Choices.{is_open}
-use Rattle.cip_leaves.specs.Leaf.{at_wholes}
+use Rattle.cip_search.specs.Leaf.{at_wholes}
 use Rattle.cip_report.specs.Writing.{Passes}
 use Rattle.cip_report.proofs.LeafLines.{on_lines}
 use Rattle.cip_report.proofs.writing.write_leaf_choices.Given as goal

@@ -1,7 +1,7 @@
 use Rattle.std.proofs.Common.{◌<◌, ◌∙◌, take, length, append_assoc, add-one, rules}
 use Rattle.cip_rational.specs.NumberText.{fraction_text}
-use Rattle.cip_leaves.specs.Leaf.{at_wholes}
-use Rattle.cip_answers.specs.Figures.{line, leaf_name}
+use Rattle.cip_search.specs.Leaf.{at_wholes}
+use Rattle.cip_search.specs.Figures.{line, leaf_name}
 use Rattle.cip_report.proofs.WritingLemmas.{second_of_three, Passes-more}
 use Rattle.cip_report.proofs.LeafLines.{value_lines, values_are_lines, place_below, place_more, lines_around, lines_more, wholes_same}
 use Rattle.cip_report.proofs.writing.write_leaf_values.Goals as goal

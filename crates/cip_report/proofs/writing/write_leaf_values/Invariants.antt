@@ -1,5 +1,5 @@
 use Rattle.std.proofs.Common.{◌≡◌, ◌++◌, take, length}
-use Rattle.cip_leaves.specs.Leaf.{at_wholes}
+use Rattle.cip_search.specs.Leaf.{at_wholes}
 use Rattle.cip_report.specs.Writing.{Passes}
 use Rattle.cip_report.proofs.LeafLines.{value_lines}
 use Rattle.cip_report.proofs.writing.write_leaf_values.Given as goal

@@ -1,6 +1,6 @@
 use Rattle.std.proofs.Common.{◌∙◌, take, append_assoc, add-one}
 use Rattle.cip_rational.specs.NumberText.{fraction_text}
-use Rattle.cip_answers.specs.Figures.{line, point_lines}
+use Rattle.cip_search.specs.Figures.{line, point_lines}
 use Rattle.cip_report.proofs.WritingLemmas.{point_parts, point_lines-more, second_of_three, Passes-more}
 use Rattle.cip_report.proofs.writing.write_point.Goals as goal
 

@@ -1,6 +1,6 @@
 use Rattle.std.proofs.Common.{◌∙◌, take, append_assoc, add-one}
 use Rattle.cip_rational.specs.NumberText.{fraction_text}
-use Rattle.cip_answers.specs.Figures.{line, ray_name, ray_lines}
+use Rattle.cip_search.specs.Figures.{line, ray_name, ray_lines}
 use Rattle.cip_report.proofs.WritingLemmas.{ray_parts, ray_lines-more, second_of_three, Passes-more}
 use Rattle.cip_report.proofs.writing.write_ray.Goals as goal
 

@@ -1,5 +1,5 @@
 use Rattle.std.proofs.Common.{◌≡◌, ◌++◌, take}
-use Rattle.cip_answers.specs.Figures.{ray_lines}
+use Rattle.cip_search.specs.Figures.{ray_lines}
 use Rattle.cip_report.specs.Writing.{Passes}
 use Rattle.cip_report.proofs.writing.write_ray.Given as goal
 

@@ -1,6 +1,6 @@
 use lib.Chars.{codes}
 use Rattle.cip_rational.specs.NumberText.{fraction_text}
-use Rattle.cip_answers.specs.Figures.{line}
+use Rattle.cip_search.specs.Figures.{line}
 use Rattle.cip_report.proofs.WritingLemmas.{first_of_two, second_of_two}
 use Rattle.cip_report.proofs.writing.write_ray_line.Goals as goal
 

@@ -1,6 +1,6 @@
 use Rattle.std.proofs.Common.{◌++◌, subst}
 use lib.Chars.{codes}
-use Rattle.cip_answers.specs.Figures.{line, overflow_text}
+use Rattle.cip_search.specs.Figures.{line, overflow_text}
 use Rattle.cip_report.specs.Answers.{overflow_of}
 use Rattle.cip_report.specs.Writing.{Writes}
 use Rattle.cip_report.proofs.WritingLemmas.{first_of_two, second_of_two}

@@ -1,4 +1,4 @@
-use Rattle.cip_answers.specs.WideLeaf.{IsWideLeaf}
+use Rattle.cip_search.specs.WideLeaf.{IsWideLeaf}
 use Rattle.cip_search.proofs.Leading as law
 use Rattle.cip_search.proofs.search_ends.stuck_nodes_are_shown.Goals as goal
 

@@ -1,7 +1,7 @@
 use Rattle.std.proofs.Common.{◌≡◌, ◌<◌, ℕ, length, map, None, MatchResult, ap, ◌∙◌, subst}
 use Rattle.std.proofs.lemmas.List.{length-map}
 use Rattle.cip_problem.specs.RowTerms.{AreTerms}
-use Rattle.cip_linear.specs.Multipliers.{row_sides}
+use Rattle.cip_problem.specs.Multipliers.{row_sides}
 use Rattle.cip_bland.specs.Operations.{first_overflow}
 use Rattle.cip_bland.specs.FirstState.{System, first, first_operations}
 use Rattle.cip_bland.specs.ProgramState.{terms_at, system_of}

@@ -1,5 +1,5 @@
 use Rattle.std.proofs.Common.{◌≡◌, map, take}
-use Rattle.cip_linear.specs.Multipliers.{row_sides}
+use Rattle.cip_problem.specs.Multipliers.{row_sides}
 use Rattle.cip_simplex.proofs.begin.gather_sides.Given as goal
 
 abbrev pub invariant-loop-r : goal.invariant-loop-r

@@ -4,11 +4,11 @@ use Rattle.cip_problem.specs.Program.{Program}
 use Rattle.cip_problem.specs.Log.{Entry}
 use Rattle.cip_incumbent.specs.HeldPoint.{Holding}
 use Rattle.cip_search.specs.SearchState.{WayBack}
-use Rattle.cip_reductions.specs.SeenLogs.{log_seen}
+use Rattle.cip_search.specs.SeenLogs.{log_seen}
 use Rattle.cip_tree.specs.Nodes.{Nodes}
-use Rattle.cip_processing.specs.Mark.{Mark}
-use Rattle.cip_processing.specs.CoreStates.{reduced_of, way_of}
-use Rattle.cip_processing.specs.KeptNodes.{IsHolding}
+use Rattle.cip_solve.specs.Mark.{Mark}
+use Rattle.cip_solve.specs.CoreStates.{reduced_of, way_of}
+use Rattle.cip_solve.specs.KeptNodes.{IsHolding}
 use Rattle.cip_endings.specs.AnswerOf.{answer_of}
 use Rattle.cip_solve.specs.Answered.{IsAnswered}
 use Rattle.cip_solve.specs.Searching.{IsEndless, StopsStill, StopsEndless, StopsRefused, IsWithin, CanBeSeen}

@@ -3,7 +3,7 @@ use Rattle.cip_problem.specs.Program.{Program}
 use Rattle.cip_problem.specs.Log.{Node}
 use Rattle.cip_problem.specs.Points.{IsLowerBound}
 use Rattle.cip_problem.specs.WellFormed.{columns}
-use Rattle.cip_reductions.specs.SeenLogs.{log_seen}
+use Rattle.cip_search.specs.SeenLogs.{log_seen}
 use Rattle.cip_endings.specs.AnswerOf.{answer_of}
 use Rattle.cip_solve.specs.Logs.{entries_of, renamed}
 use Rattle.cip_solve.specs.Searching.{IsWritten}

@@ -1,4 +1,4 @@
-use Rattle.cip_solve.proofs.Ending.{same_map, ended_kept}
+use Rattle.cip_solve.proofs.SearchesEnded.{same_map, ended_kept}
 use Rattle.cip_solve.proofs.kits.end.Goals as goal
 
 pub returns : goal.returns

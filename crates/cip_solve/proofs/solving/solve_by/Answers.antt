@@ -5,7 +5,7 @@ use Rattle.cip_tree.specs.Entries as tree
 use Rattle.cip_endings.specs.AnswerOf.{answer_of}
 use Rattle.cip_solve.specs.FirstStops.{StopsFirst}
 use Rattle.cip_solve.specs.Logs.{entries_of}
-use Rattle.cip_processing.specs.PresolvedPrograms.{IsUnchanged}
+use Rattle.cip_solve.specs.PresolvedPrograms.{IsUnchanged}
 use Rattle.cip_solve.specs.Solved.{IsSolvedBy}
 use Rattle.cip_solve.proofs.BegunLaws.{unsearched_by}
 use Rattle.cip_solve.proofs.solving.solve_by.Goals as goal

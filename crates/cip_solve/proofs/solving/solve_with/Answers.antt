@@ -4,10 +4,10 @@ use Rattle.cip_problem.specs.WellFormed.{columns}
 use Rattle.cip_tree.specs.Entries as tree
 use Rattle.cip_endings.specs.Answer.{Answer}
 use Rattle.cip_endings.specs.AnswerOf.{answer_of}
-use Rattle.cip_processing.specs.ProposalsJudged.{HaveRoom}
+use Rattle.cip_solve.specs.ProposalsJudged.{HaveRoom}
 use Rattle.cip_solve.specs.FirstStops.{StopsFirst}
 use Rattle.cip_solve.specs.Logs.{entries_of}
-use Rattle.cip_processing.specs.PresolvedPrograms.{IsUnchanged}
+use Rattle.cip_solve.specs.PresolvedPrograms.{IsUnchanged}
 use Rattle.cip_solve.specs.Solved.{IsSolvedBy}
 use Rattle.cip_solve.proofs.BegunLaws.{unsearched_by}
 use Rattle.cip_solve.proofs.KitLaws.{room_there, kit_told}

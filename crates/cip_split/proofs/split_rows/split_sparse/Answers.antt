@@ -1,6 +1,6 @@
 use Rattle.std.proofs.Common.{◌≡◌, ◌+ℤ◌, pos, false, None, rules, ◌∙◌, length, ap, sym, arith}
 use Rattle.cip_rational.specs.Range.{too_large}
-use Rattle.cip_linear.specs.Aggregate.{Inequality}
+use Rattle.cip_problem.specs.Aggregate.{Inequality}
 use Rattle.cip_cert.specs.Lent.{lent_of}
 use Rattle.cip_split.specs.SplitChecks.{form_fault, sign_fault, right_row, joined, split_of}
 use Rattle.cip_split.proofs.SplitRowSums.{form_within}

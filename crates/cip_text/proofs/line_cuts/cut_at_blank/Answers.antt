@@ -1,5 +1,5 @@
 use Rattle.std.proofs.Common.{arith}
-use Rattle.cip_line_texts.specs.Lines.{is_blank}
+use Rattle.cip_text_rules.specs.Lines.{is_blank}
 use Rattle.cip_text.proofs.Places.{place_within}
 use Rattle.cip_text.proofs.line_cuts.cut_at_blank.Goals as goal
 

@@ -1,6 +1,6 @@
 use Rattle.std.proofs.Common.{sym, arith, length}
 use Rattle.std.proofs.lemmas.List.Sums.{position_or_len_is}
-use Rattle.cip_line_texts.specs.Lines.{is_blank}
+use Rattle.cip_text_rules.specs.Lines.{is_blank}
 use Rattle.cip_text.proofs.line_cuts.first_blank.Goals as goal
 
 pub returns-then-is_blank : goal.returns-then-is_blank

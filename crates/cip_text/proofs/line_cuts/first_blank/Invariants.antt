@@ -1,5 +1,5 @@
 use Rattle.std.proofs.Common.{◌≡◌, ℕ, ◌<◌, false, get_or}
-use Rattle.cip_line_texts.specs.Lines.{is_blank}
+use Rattle.cip_text_rules.specs.Lines.{is_blank}
 use Rattle.cip_text.proofs.line_cuts.first_blank.Given as goal
 
 abbrev pub invariant-loop-i : goal.invariant-loop-i

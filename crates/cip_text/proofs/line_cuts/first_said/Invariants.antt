@@ -1,5 +1,5 @@
 use Rattle.std.proofs.Common.{◌≡◌, ◌+◌, ◌<◌, ◌^◌, length}
-use Rattle.cip_line_texts.specs.Lines.{lines}
+use Rattle.cip_text_rules.specs.Lines.{lines}
 use Rattle.cip_text.specs.TextLines.{records_with}
 use Rattle.cip_text.proofs.line_cuts.first_said.Given as goal
 

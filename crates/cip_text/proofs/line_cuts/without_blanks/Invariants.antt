@@ -1,5 +1,5 @@
 use Rattle.std.proofs.Common.{◌≡◌, length}
-use Rattle.cip_line_texts.specs.Lines.{fields}
+use Rattle.cip_text_rules.specs.Lines.{fields}
 use Rattle.cip_text.proofs.line_cuts.without_blanks.Given as goal
 
 abbrev pub invariant-loop-rest : goal.invariant-loop-rest

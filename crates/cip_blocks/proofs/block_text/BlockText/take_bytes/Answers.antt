@@ -1,9 +1,9 @@
 use Rattle.std.proofs.Common.{◌≡◌, ◌∷◌, ◌++◌, ◌∙◌, [], ap, arith, length-append, length}
 use Rattle.std.specs.Prelude.{fold}
 use Rattle.std.proofs.lemmas.Result.{on_ok_weaker}
-use Rattle.cip_line_texts.specs.LineStream.{byte_read}
+use Rattle.cip_text_rules.specs.LineStream.{byte_read}
 use Rattle.cip_text.proofs.Streams.{cut_read, rest_kept}
-use Rattle.cip_block_rules.specs.BlockSteps.{block_steps}
+use Rattle.cip_text_rules.specs.BlockSteps.{block_steps}
 use Rattle.cip_blocks.specs.BlockTexts.{steps_of, kept_of, state_of}
 use Rattle.cip_blocks.proofs.block_text.BlockText.take_bytes.Goals as goal
 

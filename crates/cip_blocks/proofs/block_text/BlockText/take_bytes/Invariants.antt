@@ -1,8 +1,8 @@
 use Rattle.std.proofs.Common.{◌≡◌, ◌+◌, ◌≤◌, length}
 use Rattle.std.specs.Prelude.{fold}
-use Rattle.cip_block_rules.specs.BlockSteps.{BlockState}
+use Rattle.cip_text_rules.specs.BlockSteps.{BlockState}
 use Rattle.cip_problem.specs.Limits.{longest_text}
-use Rattle.cip_line_texts.specs.LineStream.{Stream, byte_read}
+use Rattle.cip_text_rules.specs.LineStream.{Stream, byte_read}
 use Rattle.cip_blocks.specs.BlockTexts.{kept_of, program_of, steps_of, StandsFor}
 use Rattle.cip_blocks.proofs.block_text.BlockText.take_bytes.Given as goal
 

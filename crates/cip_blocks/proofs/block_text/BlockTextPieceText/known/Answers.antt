@@ -1,7 +1,7 @@
 use Rattle.std.proofs.Common.{subst}
 use Rattle.cip_text.specs.TextFaults.{IsSaid}
 use Rattle.cip_text.proofs.FaultsTold.{told_by}
-use Rattle.cip_block_rules.specs.BlockRules.{block_reading}
+use Rattle.cip_text_rules.specs.BlockRules.{block_reading}
 use Rattle.cip_blocks.specs.BlockKindTexts.{kind_number}
 use Rattle.cip_blocks.specs.BlockTexts.{kept_of, state_of, program_of, steps_of}
 use Rattle.cip_blocks.proofs.block_text.BlockTextPieceText.known.Goals as goal

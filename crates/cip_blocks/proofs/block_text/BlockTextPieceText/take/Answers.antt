@@ -1,9 +1,9 @@
 use Rattle.std.proofs.Common.{◌++◌, sym, subst}
 use Rattle.std.proofs.lemmas.Result.{on_ok_weaker}
 use Rattle.cip_problem.specs.Program.{Program}
-use Rattle.cip_line_texts.specs.LineStream.{stream_of}
+use Rattle.cip_text_rules.specs.LineStream.{stream_of}
 use Rattle.cip_text.proofs.Streams.{piece_stands}
-use Rattle.cip_block_rules.specs.BlockSteps.{block_steps}
+use Rattle.cip_text_rules.specs.BlockSteps.{block_steps}
 use Rattle.cip_blocks.specs.BlockTexts.{steps_of, kept_of, state_of, StandsFor}
 use Rattle.cip_blocks.proofs.block_text.BlockTextPieceText.take.Goals as goal
 

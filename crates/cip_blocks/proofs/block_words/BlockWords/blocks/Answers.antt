@@ -2,7 +2,7 @@ use Rattle.std.proofs.Common.{◌≡◌, ℕ, ◌<◌, List, Option, ap, sym, su
 use Rattle.std.specs.Prelude.{All, IfSome}
 use Rattle.std.proofs.lemmas.Result.{IfOk-weaker}
 use Rattle.cip_problem.specs.BlockParts.{blocks_by}
-use Rattle.cip_block_rules.specs.BlockSteps.{count_of}
+use Rattle.cip_text_rules.specs.BlockSteps.{count_of}
 use Rattle.cip_blocks.specs.BlockWordsRead.{state_of}
 use Rattle.cip_blocks.proofs.EndLaws.{kept_below, kept_columns, kept_blocks}
 use Rattle.cip_blocks.proofs.block_words.BlockWords.blocks.Goals as goal

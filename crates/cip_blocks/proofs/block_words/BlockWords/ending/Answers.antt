@@ -1,6 +1,6 @@
 use Rattle.std.proofs.Common.{◌≡◌, length, ap, sym, ◌∙◌, map}
 use Rattle.std.proofs.lemmas.List.{length-map}
-use Rattle.cip_block_rules.specs.BlockOwners.{owners_of}
+use Rattle.cip_text_rules.specs.BlockOwners.{owners_of}
 use Rattle.cip_blocks.specs.WordPlaces.{block_of}
 use Rattle.cip_blocks.specs.BlockWordsRead.{program_of}
 use Rattle.cip_blocks.proofs.EndLaws.{blocks_are}

@@ -1,8 +1,8 @@
 use Rattle.std.proofs.Common.{◌≡◌, ap, ◌∙◌, map, length, None}
 use Rattle.std.specs.Prelude.{replicate}
 use Rattle.std.specs.List.{list_all}
-use Rattle.cip_block_rules.specs.BlockWords as text
-use Rattle.cip_block_rules.specs.BlockSteps as steps
+use Rattle.cip_text_rules.specs.BlockWords as text
+use Rattle.cip_text_rules.specs.BlockSteps as steps
 use Rattle.cip_blocks.specs.WordPlaces.{row_shown, block_of, is_below}
 use Rattle.cip_blocks.proofs.WordLaws.{none_named, all_unnamed}
 use Rattle.cip_blocks.proofs.block_words.BlockWords.new.Goals as goal

@@ -1,8 +1,8 @@
 use Rattle.std.proofs.Common.{◌≡◌, ◌<◌, Some, ap, sym, ◌∙◌, arith, length, false}
 use Rattle.std.specs.Prelude.{unwrap_or}
 use Rattle.cip_problem.specs.Names.{number_of}
-use Rattle.cip_mps_rules.specs.MpsWords.{number_in}
-use Rattle.cip_block_rules.specs.BlockSteps.{put_row, place_of, is_placed}
+use Rattle.cip_text_rules.specs.MpsWords.{number_in}
+use Rattle.cip_text_rules.specs.BlockSteps.{put_row, place_of, is_placed}
 use Rattle.cip_blocks.specs.declared.word_places.RowPlace.TheVariants.{Named}
 use Rattle.cip_blocks.specs.WordPlaces.{place_shown, row_shown, block_of, is_below, is_sound_place}
 use Rattle.cip_blocks.specs.BlockWordsRead.{program_of, state_of}

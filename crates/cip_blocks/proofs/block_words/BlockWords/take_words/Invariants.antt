@@ -1,7 +1,7 @@
 use Rattle.std.proofs.Common.{◌≡◌, ℕ, length}
 use Rattle.std.specs.Prelude.{fold}
 use Rattle.cip_text.specs.TextLines.{fields_left}
-use Rattle.cip_line_texts.specs.LineStream.{Going, item_read}
+use Rattle.cip_text_rules.specs.LineStream.{Going, item_read}
 use Rattle.cip_blocks.specs.BlockWordsRead.{program_of, state_of, steps_of}
 use Rattle.cip_blocks.proofs.block_words.BlockWords.take_words.Given as goal
 

@@ -1,6 +1,6 @@
 use Rattle.std.proofs.Common.{◌≡◌, drop, vec_len}
 use Rattle.cip_problem.specs.WellFormed.{columns}
-use Rattle.cip_block_rules.specs.BlockOwners as plain
+use Rattle.cip_text_rules.specs.BlockOwners as plain
 use Rattle.cip_blocks.specs.OwnersKept.{owners_shown}
 use Rattle.cip_blocks.proofs.owners.Owners.of.Given as goal
 

@@ -1,6 +1,6 @@
 use Rattle.std.proofs.Common.{◌≡◌, drop, vec_len}
 use Rattle.std.specs.Prelude.{fold}
-use Rattle.cip_block_rules.specs.BlockOwners as plain
+use Rattle.cip_text_rules.specs.BlockOwners as plain
 use Rattle.cip_blocks.specs.OwnersKept.{owners_shown}
 use Rattle.cip_blocks.proofs.owners.Owners.take_entries.Given as goal
 

@@ -1,8 +1,8 @@
 use Rattle.std.proofs.Common.{◌≡◌, ◌∙◌, List, Option, Some, length, Ok, if◌then◌else◌, sym, ap, subst, arith}
 use Rattle.cip_problem.specs.Program.{Row}
 use Rattle.cip_problem.specs.WellFormed.{columns}
-use Rattle.cip_linear.specs.Cuts.{row_of}
-use Rattle.cip_linear.specs.Aggregate.{Inequality}
+use Rattle.cip_problem.specs.Cuts.{row_of}
+use Rattle.cip_problem.specs.Aggregate.{Inequality}
 use Rattle.cip_cert.specs.Checks.{derived}
 use Rattle.cip_cert.specs.Lent.{Lent, Fits, multiples_of}
 use Rattle.cip_cert.specs.Resting.{rests_on_cutoff}

@@ -1,8 +1,8 @@
 use Rattle.std.proofs.Common.{◌≡◌, ◌∙◌, if◌then◌else◌, length, sym, ap, subst}
 use Rattle.std.specs.Prelude.{MatchResult}
-use Rattle.cip_linear.specs.Cuts.{row_of}
-use Rattle.cip_linear.specs.Improving.{IsValid}
-use Rattle.cip_linear.specs.Aggregate.{Inequality}
+use Rattle.cip_problem.specs.Cuts.{row_of}
+use Rattle.cip_problem.specs.Improving.{IsValid}
+use Rattle.cip_problem.specs.Aggregate.{Inequality}
 use Rattle.cip_cert.specs.Resting.{valid_below}
 use Rattle.cip_rows.specs.Adding.{IsAdded}
 use Rattle.cip_core.specs.CoreStates.{CoreState, reduced_of, held_of, IsAtWork}

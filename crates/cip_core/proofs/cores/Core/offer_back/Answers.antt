@@ -1,5 +1,5 @@
 use Rattle.std.proofs.Common.{Err, ap, subst}
-use Rattle.cip_postsolve.specs.PostsolveFaults.{IsPostsolveFault}
+use Rattle.cip_presolve.specs.PostsolveFaults.{IsPostsolveFault}
 use Rattle.cip_core.specs.CoreStates.{CoreState}
 use Rattle.cip_core.proofs.OfferedBack.{tried_past}
 use Rattle.cip_core.proofs.Relations.{later_at_itself}

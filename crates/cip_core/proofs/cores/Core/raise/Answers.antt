@@ -1,9 +1,9 @@
 use Rattle.std.proofs.Common.{Some, sym, subst}
 use Rattle.std.specs.Prelude.{MatchBool}
 use Rattle.cip_rational.specs.Rational.{IsWhole}
-use Rattle.cip_linear.specs.Cuts.{HasWholeCosts}
-use Rattle.cip_linear.specs.Improving.{IsBoundIn}
-use Rattle.cip_leaves.specs.Searched.{NoMore}
+use Rattle.cip_problem.specs.Cuts.{HasWholeCosts}
+use Rattle.cip_problem.specs.Improving.{IsBoundIn}
+use Rattle.cip_search.specs.Searched.{NoMore}
 use Rattle.cip_search.proofs.Bounds.{no_more_itself}
 use Rattle.cip_tree.specs.Nodes.{TakenNode, box_of}
 use Rattle.cip_core.specs.CoreStates.{CoreState, reduced_of, held_of}

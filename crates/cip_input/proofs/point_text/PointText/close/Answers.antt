@@ -1,5 +1,5 @@
 use Rattle.cip_text.proofs.Streams.{ends_with}
-use Rattle.cip_point_rules.specs.PointRules.{point_reading}
+use Rattle.cip_text_rules.specs.PointRules.{point_reading}
 use Rattle.cip_input.specs.PointTexts.{steps_of, kept_of, values_of, program_of}
 use Rattle.cip_input.proofs.point_text.PointText.close.Goals as goal
 

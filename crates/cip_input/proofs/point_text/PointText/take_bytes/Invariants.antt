@@ -2,7 +2,7 @@ use Rattle.std.proofs.Common.{◌≡◌, ◌+◌, ◌≤◌, List, Option, lengt
 use Rattle.std.specs.Prelude.{fold}
 use Rattle.cip_rational.specs.Rational.{ℚ}
 use Rattle.cip_problem.specs.Limits.{longest_text}
-use Rattle.cip_line_texts.specs.LineStream.{Stream, byte_read}
+use Rattle.cip_text_rules.specs.LineStream.{Stream, byte_read}
 use Rattle.cip_input.specs.PointTexts.{kept_of, program_of, steps_of, StandsFor}
 use Rattle.cip_input.proofs.point_text.PointText.take_bytes.Given as goal
 

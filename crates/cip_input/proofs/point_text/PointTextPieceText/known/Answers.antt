@@ -1,7 +1,7 @@
 use Rattle.std.proofs.Common.{subst}
 use Rattle.cip_text.specs.TextFaults.{IsSaid}
 use Rattle.cip_text.proofs.FaultsTold.{told_by}
-use Rattle.cip_point_rules.specs.PointRules.{point_reading}
+use Rattle.cip_text_rules.specs.PointRules.{point_reading}
 use Rattle.cip_input.specs.PointKindTexts.{kind_number}
 use Rattle.cip_input.specs.PointTexts.{kept_of, values_of, program_of, steps_of}
 use Rattle.cip_input.proofs.point_text.PointTextPieceText.known.Goals as goal

@@ -1,9 +1,9 @@
 use Rattle.std.proofs.Common.{◌++◌, sym, subst}
 use Rattle.std.proofs.lemmas.Result.{on_ok_weaker}
 use Rattle.cip_problem.specs.Program.{Program}
-use Rattle.cip_line_texts.specs.LineStream.{stream_of}
+use Rattle.cip_text_rules.specs.LineStream.{stream_of}
 use Rattle.cip_text.proofs.Streams.{piece_stands}
-use Rattle.cip_point_rules.specs.PointSteps.{point_steps}
+use Rattle.cip_text_rules.specs.PointSteps.{point_steps}
 use Rattle.cip_input.specs.PointTexts.{steps_of, kept_of, values_of, StandsFor}
 use Rattle.cip_input.proofs.point_text.PointTextPieceText.take.Goals as goal
 

@@ -1,7 +1,7 @@
 use Rattle.std.proofs.Common.{◌≡◌, None, sym, subst}
-use Rattle.cip_mps_rules.specs.MpsWords.{number_in}
-use Rattle.cip_lp_rules.specs.LpPlaces.{Mentions}
-use Rattle.cip_lp_rules.specs.LpFacts.{LpFacts, event_fault}
+use Rattle.cip_text_rules.specs.MpsWords.{number_in}
+use Rattle.cip_text_rules.specs.LpPlaces.{Mentions}
+use Rattle.cip_text_rules.specs.LpFacts.{LpFacts, event_fault}
 use Rattle.cip_lp.specs.LpDrafts.{facts_in, IsKeptLp}
 use Rattle.cip_lp.proofs.KeptLaws.{kept_with, column_put, column_unput}
 use Rattle.cip_lp.proofs.draft.LpDraft.add_column.Goals as goal

@@ -1,6 +1,6 @@
 use Rattle.std.proofs.Common.{◌≡◌, ◌==◌, ℕ, List, Option, None, Some, length, slice_get, refl, sym, ap, ◌∙◌}
 use Rattle.std.proofs.lemmas.Option.{slice_get_read, slice_get_past}
-use Rattle.cip_lp_rules.specs.LpFacts.{FormTerm}
+use Rattle.cip_text_rules.specs.LpFacts.{FormTerm}
 use Rattle.cip_lp.specs.LpForms.{is_of}
 use Rattle.cip_lp.proofs.FormPlaces.{found_at}
 use Rattle.cip_lp.proofs.form.Form.has.Goals as goal

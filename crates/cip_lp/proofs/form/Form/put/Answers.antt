@@ -1,5 +1,5 @@
 use Rattle.std.proofs.Common.{◌≡◌, ℕ, ◌<◌, List, [], ◌∷◌, ◌++◌, length, set, ap, ◌∙◌, sym, arith}
-use Rattle.cip_lp_rules.specs.LpFacts.{FormTerm}
+use Rattle.cip_text_rules.specs.LpFacts.{FormTerm}
 use Rattle.cip_lp.specs.LpForms.{term_shown}
 use Rattle.cip_lp.proofs.FormPlaces.{placed_more}
 use Rattle.cip_lp.proofs.form.Form.put.Goals as goal

@@ -1,7 +1,7 @@
 use Rattle.std.proofs.Common.{◌≡◌, ℕ, length}
-use Rattle.cip_line_texts.specs.LineStream.{Going}
+use Rattle.cip_text_rules.specs.LineStream.{Going}
 use Rattle.cip_lp.specs.LpLines.{tokens_left}
-use Rattle.cip_lp_rules.specs.LpBytes.{tokens_read}
+use Rattle.cip_text_rules.specs.LpBytes.{tokens_read}
 use Rattle.cip_lp.specs.LinesRead.{stage_of}
 use Rattle.cip_lp.proofs.line_reader.LineReader.take_tokens.Given as goal
 

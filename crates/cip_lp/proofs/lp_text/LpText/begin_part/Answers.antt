@@ -1,5 +1,5 @@
 use Rattle.std.proofs.Common.{ℕ, ◌+◌, List, [], ◌∷◌, ◌++◌, false, ap, ◌∙◌}
-use Rattle.cip_lp_rules.specs.LpBytes.{part_read}
+use Rattle.cip_text_rules.specs.LpBytes.{part_read}
 use Rattle.cip_lp.specs.LpTexts.{stage_of, bytes_of}
 use Rattle.cip_lp.proofs.LpAnswers.{moved}
 use Rattle.cip_lp.proofs.lp_text.LpText.begin_part.Goals as goal

@@ -1,5 +1,5 @@
 use Rattle.std.proofs.Common.{ℕ, ◌+◌, [], true, ap, ◌∙◌}
-use Rattle.cip_lp_rules.specs.LpBytes.{part_read}
+use Rattle.cip_text_rules.specs.LpBytes.{part_read}
 use Rattle.cip_lp.specs.LpTexts.{stage_of, bytes_of}
 use Rattle.cip_lp.proofs.ByteSteps.{taken_feed}
 use Rattle.cip_lp.proofs.LpAnswers.{moved}

@@ -1,5 +1,5 @@
 use Rattle.std.proofs.Common.{sym, ap, ◌∙◌}
-use Rattle.cip_lp_rules.specs.LpParts.{ends_with}
+use Rattle.cip_text_rules.specs.LpParts.{ends_with}
 use Rattle.cip_lp.proofs.LastBytes.{last_ends, none_ends}
 use Rattle.cip_lp.proofs.lp_text.LpText.ends_with.Goals as goal
 

@@ -1,7 +1,7 @@
 use Rattle.std.proofs.Common.{ℕ, ◌+◌, ap, ◌∙◌}
-use Rattle.cip_line_texts.specs.LineStream.{Going}
-use Rattle.cip_lp_rules.specs.LpTokens.{tokens_from}
-use Rattle.cip_lp_rules.specs.LpBytes.{tokens_read, part_read, beyond}
+use Rattle.cip_text_rules.specs.LineStream.{Going}
+use Rattle.cip_text_rules.specs.LpTokens.{tokens_from}
+use Rattle.cip_text_rules.specs.LpBytes.{tokens_read, part_read, beyond}
 use Rattle.cip_lp.specs.LpTexts.{bytes_of}
 use Rattle.cip_lp.proofs.ByteSteps.{taken_last}
 use Rattle.cip_lp.proofs.lp_text.LpText.put_last.Goals as goal

@@ -1,8 +1,8 @@
 use Rattle.std.proofs.Common.{◌+◌, sym, ap, ◌∙◌}
-use Rattle.cip_line_texts.specs.LineStream.{Going}
+use Rattle.cip_text_rules.specs.LineStream.{Going}
 use Rattle.cip_text.specs.PieceStands.{progress_of}
-use Rattle.cip_lp_rules.specs.LpTokens.{tokens_from}
-use Rattle.cip_lp_rules.specs.LpBytes.{tokens_read}
+use Rattle.cip_text_rules.specs.LpTokens.{tokens_from}
+use Rattle.cip_text_rules.specs.LpBytes.{tokens_read}
 use Rattle.cip_lp.specs.LinesRead as lines
 use Rattle.cip_lp.specs.LpTexts.{stage_of}
 use Rattle.cip_lp.proofs.LpAnswers.{after_is}

@@ -1,6 +1,6 @@
 use Rattle.std.proofs.Common.{get_or, sym, ap, ◌∙◌}
 use Rattle.std.proofs.lemmas.List.Sums.{fold_more}
-use Rattle.cip_lp_rules.specs.LpBytes.{byte_taken}
+use Rattle.cip_text_rules.specs.LpBytes.{byte_taken}
 use Rattle.cip_lp.specs.LpTexts.{shown_of}
 use Rattle.cip_lp.proofs.lp_text.LpText.take_piece.Goals as goal
 

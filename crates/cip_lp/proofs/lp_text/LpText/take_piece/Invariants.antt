@@ -1,6 +1,6 @@
 use Rattle.std.proofs.Common.{◌≡◌, take}
 use Rattle.std.specs.Prelude.{fold}
-use Rattle.cip_lp_rules.specs.LpBytes.{byte_taken}
+use Rattle.cip_text_rules.specs.LpBytes.{byte_taken}
 use Rattle.cip_lp.specs.LpTexts.{shown_of}
 use Rattle.cip_lp.proofs.lp_text.LpText.take_piece.Given as goal
 

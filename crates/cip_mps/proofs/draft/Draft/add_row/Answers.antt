@@ -2,10 +2,10 @@ use Rattle.std.proofs.Common.{◌+◌, Bool, List, length, refl, ap, sym, ◌∙
 use Rattle.std.specs.Prelude.{not, if◌then◌else◌}
 use Rattle.std.specs.List.{filter, list_all}
 use Rattle.cip_mps_lines.specs.MpsKinds.{row_kind_in}
-use Rattle.cip_mps_rules.specs.MpsProgram.{is_free}
-use Rattle.cip_mps_rules.specs.MpsState.{RowRead, is_kept}
-use Rattle.cip_mps_rules.specs.MpsSteps.{new_row}
-use Rattle.cip_mps_rules.specs.MpsSoundState.{held_below}
+use Rattle.cip_text_rules.specs.MpsProgram.{is_free}
+use Rattle.cip_text_rules.specs.MpsState.{RowRead, is_kept}
+use Rattle.cip_text_rules.specs.MpsSteps.{new_row}
+use Rattle.cip_text_rules.specs.MpsSoundState.{held_below}
 use Rattle.cip_problem.specs.Limits.{most_rows}
 use Rattle.cip_mps.specs.DraftStates.{kept}
 use Rattle.cip_mps.proofs.RowLaws.{few_more, both_longer, counted_more, counted_same, below_more_rows}

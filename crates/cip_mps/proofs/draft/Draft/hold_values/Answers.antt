@@ -1,9 +1,9 @@
 use Rattle.std.proofs.Common.{◌≡◌, false, ap}
 use Rattle.std.specs.Str.{bytes_eq}
-use Rattle.cip_mps_rules.specs.MpsWords.{number_in}
-use Rattle.cip_mps_rules.proofs.Quiet.{left_false}
-use Rattle.cip_mps_rules.specs.MpsState.{no_row}
-use Rattle.cip_mps_rules.specs.MpsSteps.{changed, with_held}
+use Rattle.cip_text_rules.specs.MpsWords.{number_in}
+use Rattle.cip_text_rules.proofs.Quiet.{left_false}
+use Rattle.cip_text_rules.specs.MpsState.{no_row}
+use Rattle.cip_text_rules.specs.MpsSteps.{changed, with_held}
 use Rattle.cip_mps.proofs.ColumnLaws.{still_open}
 use Rattle.cip_mps.proofs.draft.Draft.hold_values.Goals as goal
 

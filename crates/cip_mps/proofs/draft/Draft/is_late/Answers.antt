@@ -1,6 +1,6 @@
 use Rattle.std.proofs.Common.{sym, ◌∙◌}
 use Rattle.cip_mps_lines.specs.MpsKinds.{part_of}
-use Rattle.cip_mps_rules.specs.MpsRules.{stands_behind}
+use Rattle.cip_text_rules.specs.MpsRules.{stands_behind}
 use Rattle.cip_mps.proofs.ListLaws.{list_any_map}
 use Rattle.cip_mps.proofs.draft.Draft.is_late.Goals as goal
 

@@ -1,5 +1,5 @@
 use Rattle.std.proofs.Common.{sym, ◌∙◌}
-use Rattle.cip_mps_rules.specs.MpsBounds.{settled, lacks_sides}
+use Rattle.cip_text_rules.specs.MpsBounds.{settled, lacks_sides}
 use Rattle.cip_mps.proofs.ListLaws.{list_any_map}
 use Rattle.cip_mps.proofs.draft.Draft.lacks_sides.Goals as goal
 

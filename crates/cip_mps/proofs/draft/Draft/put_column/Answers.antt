@@ -3,10 +3,10 @@ use Rattle.std.proofs.lemmas.Bool.{ltb-false}
 use Rattle.cip_problem.specs.Limits.{most_entries}
 use Rattle.std.specs.List.{list_any}
 use Rattle.cip_mps_lines.specs.MpsLines.{values_of, value_in, second_in}
-use Rattle.cip_mps_rules.specs.MpsWords.{number_in}
-use Rattle.cip_mps_rules.proofs.Quiet.{right_false}
-use Rattle.cip_mps_rules.specs.MpsState.{State, row_at}
-use Rattle.cip_mps_rules.specs.MpsSteps.{holds}
+use Rattle.cip_text_rules.specs.MpsWords.{number_in}
+use Rattle.cip_text_rules.proofs.Quiet.{right_false}
+use Rattle.cip_text_rules.specs.MpsState.{State, row_at}
+use Rattle.cip_text_rules.specs.MpsSteps.{holds}
 use Rattle.cip_mps.specs.DraftLines.{entries_in}
 use Rattle.cip_mps.specs.DraftStates.{kept}
 use Rattle.cip_mps.proofs.ColumnLaws.{passes_column, first_free, second_free, opened}

@@ -3,12 +3,12 @@ use Rattle.std.specs.Str.{bytes_eq}
 use Rattle.cip_rational.specs.Rational.{ℚ}
 use Rattle.cip_mps_lines.specs.MpsLines.{value_in, second_in}
 use Rattle.cip_mps_lines.specs.declared.line.Pair.{Pair}
-use Rattle.cip_mps_rules.specs.MpsRules.{least}
-use Rattle.cip_mps_rules.specs.MpsWords.{number_in}
-use Rattle.cip_mps_rules.proofs.Quiet.{kept as passes, left_false, right_false}
-use Rattle.cip_mps_rules.specs.MpsState.{RowRead, no_row}
-use Rattle.cip_mps_rules.specs.MpsSteps.{changed, overflows_with, with_right_side}
-use Rattle.cip_mps_rules.specs.MpsLineTests.{right_side_tests}
+use Rattle.cip_text_rules.specs.MpsRules.{least}
+use Rattle.cip_text_rules.specs.MpsWords.{number_in}
+use Rattle.cip_text_rules.proofs.Quiet.{kept as passes, left_false, right_false}
+use Rattle.cip_text_rules.specs.MpsState.{RowRead, no_row}
+use Rattle.cip_text_rules.specs.MpsSteps.{changed, overflows_with, with_right_side}
+use Rattle.cip_text_rules.specs.MpsLineTests.{right_side_tests}
 use Rattle.cip_mps.specs.DraftStates.{kept}
 use Rattle.cip_mps.proofs.ValueLaws.{second_passes}
 use Rattle.cip_mps.proofs.draft.Draft.put_right_sides.Goals as goal

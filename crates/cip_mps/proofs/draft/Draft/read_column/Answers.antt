@@ -1,6 +1,6 @@
 use Rattle.std.proofs.Common.{sym, ◌∙◌}
 use Rattle.cip_mps_lines.specs.MpsLines.{values_of}
-use Rattle.cip_mps_rules.specs.MpsSayings.{ColumnLine}
+use Rattle.cip_text_rules.specs.MpsSayings.{ColumnLine}
 use Rattle.cip_mps.specs.DraftStates.{kept}
 use Rattle.cip_mps.proofs.TakenLaws.{rules_are, taken_column, faulty_step, quiet_step}
 use Rattle.cip_mps.proofs.draft.Draft.read_column.Goals as goal

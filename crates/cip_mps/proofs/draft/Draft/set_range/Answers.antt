@@ -2,9 +2,9 @@ use Rattle.std.proofs.Common.{◌≡◌, ◌<◌, List, true, length, refl, sym,
 use Rattle.std.specs.Prelude.{slice_index_or}
 use Rattle.std.specs.List.{filter, list_all}
 use Rattle.std.proofs.Math.ListN.{length-set}
-use Rattle.cip_mps_rules.specs.MpsState.{RowRead, no_row, is_kept}
-use Rattle.cip_mps_rules.specs.MpsSteps.{with_range}
-use Rattle.cip_mps_rules.specs.MpsSoundState.{held_below}
+use Rattle.cip_text_rules.specs.MpsState.{RowRead, no_row, is_kept}
+use Rattle.cip_text_rules.specs.MpsSteps.{with_range}
+use Rattle.cip_text_rules.specs.MpsSoundState.{held_below}
 use Rattle.cip_mps.proofs.RowLaws.{changed_counted, changed_below}
 use Rattle.cip_mps.proofs.draft.Draft.set_range.Goals as goal
 

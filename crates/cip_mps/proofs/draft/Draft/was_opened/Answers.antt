@@ -1,7 +1,7 @@
 use Rattle.std.proofs.Common.{sym, ◌∙◌}
 use Rattle.std.specs.Prelude.{◌==◌}
 use Rattle.cip_mps_lines.specs.MpsKinds.{part_of}
-use Rattle.cip_mps_rules.specs.MpsWords.{Part, part_number}
+use Rattle.cip_text_rules.specs.MpsWords.{Part, part_number}
 use Rattle.cip_mps.proofs.ListLaws.{list_any_map}
 use Rattle.cip_mps.proofs.draft.Draft.was_opened.Goals as goal
 

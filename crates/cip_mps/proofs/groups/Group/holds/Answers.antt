@@ -1,6 +1,6 @@
 use Rattle.std.proofs.Common.{◌==◌, ◌&&◌, ap, ◌∙◌}
 use Rattle.std.specs.List.{list_any}
-use Rattle.cip_mps_rules.specs.MpsState.{Held}
+use Rattle.cip_text_rules.specs.MpsState.{Held}
 use Rattle.cip_mps.specs.Entries.{numbers_of}
 use Rattle.cip_mps.specs.declared.groups.Near.{Near}
 use Rattle.cip_mps.specs.declared.groups.Far.{Far}

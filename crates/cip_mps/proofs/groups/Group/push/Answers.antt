@@ -2,7 +2,7 @@ use Rattle.std.proofs.Common.{◌≡◌, ◌++◌, ◌∷◌, [], ap, sym, subst
 use Rattle.std.specs.Prelude.{vec_len}
 use Rattle.std.proofs.lemmas.Bool.{eqb-true}
 use Rattle.std.proofs.lemmas.List.{nil_from_length}
-use Rattle.cip_mps_rules.specs.MpsState.{Held}
+use Rattle.cip_text_rules.specs.MpsState.{Held}
 use Rattle.cip_mps.specs.Entries.{Entry, AreRising}
 use Rattle.cip_mps.specs.GroupEntries.{near_entry, entries_of}
 use Rattle.cip_mps.proofs.Numbers.{near_pushed, far_pushed, rising_pushed}

@@ -1,6 +1,6 @@
 use Rattle.cip_text.proofs.Streams.{ends_with}
-use Rattle.cip_mps_rules.specs.MpsOutcome.{mps_reading}
-use Rattle.cip_mps_rules.specs.MpsSteps.{mps_steps}
+use Rattle.cip_text_rules.specs.MpsOutcome.{mps_reading}
+use Rattle.cip_text_rules.specs.MpsSteps.{mps_steps}
 use Rattle.cip_mps.specs.MpsTexts.{kept_of, stage_of}
 use Rattle.cip_mps.proofs.mps_text.MpsText.close.Goals as goal
 

@@ -1,6 +1,6 @@
 use Rattle.std.proofs.Common.{◌+◌, ◌∙◌, sym}
 use Rattle.cip_text.proofs.Streams.{line_ended_with}
-use Rattle.cip_mps_rules.specs.MpsSteps.{mps_steps}
+use Rattle.cip_text_rules.specs.MpsSteps.{mps_steps}
 use Rattle.cip_mps.specs.MpsTexts.{kept_of, stage_of}
 use Rattle.cip_mps.proofs.mps_text.MpsText.end_line.Goals as goal
 

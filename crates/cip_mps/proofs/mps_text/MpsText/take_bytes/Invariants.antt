@@ -1,10 +1,10 @@
 use Rattle.std.proofs.Common.{◌≡◌, ◌+◌, ◌≤◌, length}
 use Rattle.std.specs.Prelude.{fold}
 use Rattle.cip_problem.specs.Limits.{longest_text}
-use Rattle.cip_line_texts.specs.LineEnds.{Stage}
-use Rattle.cip_line_texts.specs.LineStream.{Stream, byte_read}
-use Rattle.cip_mps_rules.specs.MpsState.{State}
-use Rattle.cip_mps_rules.specs.MpsSteps.{mps_steps}
+use Rattle.cip_text_rules.specs.LineEnds.{Stage}
+use Rattle.cip_text_rules.specs.LineStream.{Stream, byte_read}
+use Rattle.cip_text_rules.specs.MpsState.{State}
+use Rattle.cip_text_rules.specs.MpsSteps.{mps_steps}
 use Rattle.cip_mps.specs.MpsTexts.{kept_of, StandsFor}
 use Rattle.cip_mps.proofs.mps_text.MpsText.take_bytes.Given as goal
 

@@ -1,8 +1,8 @@
 use Rattle.std.proofs.Common.{subst}
 use Rattle.cip_text.specs.TextFaults.{IsSaid}
 use Rattle.cip_text.proofs.FaultsTold.{told_by}
-use Rattle.cip_mps_rules.specs.MpsOutcome.{mps_reading}
-use Rattle.cip_mps_rules.specs.MpsSteps.{mps_steps}
+use Rattle.cip_text_rules.specs.MpsOutcome.{mps_reading}
+use Rattle.cip_text_rules.specs.MpsSteps.{mps_steps}
 use Rattle.cip_mps.specs.MpsKindTexts.{kind_number}
 use Rattle.cip_mps.specs.MpsTexts.{kept_of, stage_of}
 use Rattle.cip_mps.proofs.mps_text.MpsTextPieceText.known.Goals as goal

@@ -1,7 +1,7 @@
 use Rattle.std.proofs.lemmas.Result.{on_ok_weaker}
-use Rattle.cip_line_texts.specs.LineStream.{stream_of}
+use Rattle.cip_text_rules.specs.LineStream.{stream_of}
 use Rattle.cip_text.proofs.Streams.{piece_stands}
-use Rattle.cip_mps_rules.specs.MpsSteps.{mps_steps}
+use Rattle.cip_text_rules.specs.MpsSteps.{mps_steps}
 use Rattle.cip_mps.specs.MpsTexts.{kept_of, stage_of}
 use Rattle.cip_mps.proofs.mps_text.MpsTextPieceText.take.Goals as goal
 

@@ -1,6 +1,6 @@
 use Rattle.std.proofs.Common.{ap, sym, ◌∙◌, arith}
 use Rattle.std.specs.Prelude.{is_some}
-use Rattle.cip_mps_rules.specs.MpsState.{RowRead}
+use Rattle.cip_text_rules.specs.MpsState.{RowRead}
 use Rattle.cip_mps.proofs.TableLaws.{within, row_is}
 use Rattle.cip_mps.proofs.row_table.RowTable.has_right_side.Goals as goal
 

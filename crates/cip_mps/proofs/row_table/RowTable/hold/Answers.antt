@@ -1,8 +1,8 @@
 use Rattle.std.proofs.Common.{◌+◌, ◌/◌, List, Some, ap, sym, subst, ◌∙◌, arith}
 use Rattle.std.specs.Prelude.{slice_set}
-use Rattle.cip_mps_rules.specs.MpsState.{RowRead, no_row}
-use Rattle.cip_mps_rules.specs.MpsSteps.{changed, with_held}
-use Rattle.cip_mps_rules.specs.MpsSoundState.{held_below}
+use Rattle.cip_text_rules.specs.MpsState.{RowRead, no_row}
+use Rattle.cip_text_rules.specs.MpsSteps.{changed, with_held}
+use Rattle.cip_text_rules.specs.MpsSoundState.{held_below}
 use Rattle.cip_mps.specs.Entries.{Entry}
 use Rattle.cip_mps.specs.Tables.{IsSoundTable, rows_of}
 use Rattle.cip_mps.proofs.TableLaws.{within, has_group, held_is, numbers_are, group_pushed, rows_held, sound_held}

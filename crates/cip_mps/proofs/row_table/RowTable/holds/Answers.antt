@@ -1,7 +1,7 @@
 use Rattle.std.proofs.Common.{◌==◌, ap, sym, ◌∙◌, arith}
 use Rattle.std.specs.List.{list_any}
-use Rattle.cip_mps_rules.specs.MpsState.{Held}
-use Rattle.cip_mps_rules.specs.MpsSoundState.{held_below}
+use Rattle.cip_text_rules.specs.MpsState.{Held}
+use Rattle.cip_text_rules.specs.MpsSoundState.{held_below}
 use Rattle.cip_mps.specs.Tables.{numbers_at}
 use Rattle.cip_mps.proofs.Numbers.{none_behind}
 use Rattle.cip_mps.proofs.TableLaws.{within, has_group, held_is, numbers_are, read_at}

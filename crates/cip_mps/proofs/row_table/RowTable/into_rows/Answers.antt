@@ -2,7 +2,7 @@ use Rattle.std.proofs.Common.{◌≡◌, ◌++◌, ◌∷◌, ◌∙◌, List, m
 use Rattle.std.specs.List.{filter}
 use Rattle.std.specs.Vec.Iter.{into_iter_items}
 use Rattle.std.proofs.lemmas.List.{take-append-drop}
-use Rattle.cip_mps_rules.specs.MpsState.{is_kept, finished_row}
+use Rattle.cip_text_rules.specs.MpsState.{is_kept, finished_row}
 use Rattle.cip_mps.specs.GroupedRows.{kept_rows}
 use Rattle.cip_mps.proofs.GroupedLaws.{finished, one_group, group_parts}
 use Rattle.cip_mps.proofs.row_table.RowTable.into_rows.Goals as goal

@@ -1,7 +1,7 @@
 use Rattle.std.proofs.Common.{◌≡◌, ◌++◌, ◌*◌, ◌≤◌, map, length}
 use Rattle.std.specs.List.{filter}
 use Rattle.std.specs.Vec.Iter.{into_iter_items, into_iter_len}
-use Rattle.cip_mps_rules.specs.MpsState.{is_kept, finished_row}
+use Rattle.cip_text_rules.specs.MpsState.{is_kept, finished_row}
 use Rattle.cip_mps.proofs.GroupedLaws.{finished}
 use Rattle.cip_mps.proofs.row_table.RowTable.into_rows.Given as goal
 

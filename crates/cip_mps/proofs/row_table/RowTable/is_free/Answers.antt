@@ -1,6 +1,6 @@
 use Rattle.std.proofs.Common.{ap, sym, ◌∙◌, arith}
-use Rattle.cip_mps_rules.specs.MpsProgram.{is_free}
-use Rattle.cip_mps_rules.specs.MpsState.{RowRead}
+use Rattle.cip_text_rules.specs.MpsProgram.{is_free}
+use Rattle.cip_text_rules.specs.MpsState.{RowRead}
 use Rattle.cip_mps.proofs.TableLaws.{within, row_is}
 use Rattle.cip_mps.proofs.row_table.RowTable.is_free.Goals as goal
 

@@ -1,7 +1,7 @@
 use Rattle.std.proofs.Common.{◌≡◌, List, ap, sym, subst, ◌∙◌, arith}
 use Rattle.std.specs.Prelude.{IfOk}
-use Rattle.cip_mps_rules.specs.MpsState.{Held}
-use Rattle.cip_mps_rules.specs.MpsSoundState.{rises}
+use Rattle.cip_text_rules.specs.MpsState.{Held}
+use Rattle.cip_text_rules.specs.MpsSoundState.{rises}
 use Rattle.cip_mps.proofs.TableLaws.{has_group, held_is}
 use Rattle.cip_mps.proofs.row_table.RowTable.numbers.Goals as goal
 

@@ -1,6 +1,6 @@
 use Rattle.std.proofs.Common.{◌≡◌, ℕ, ◌+◌, ◌-◌, List, length, take, ap, sym, subst, ◌∙◌, arith}
 use Rattle.std.specs.Prelude.{slice_index_or}
-use Rattle.cip_mps_rules.specs.MpsState.{RowRead, no_row}
+use Rattle.cip_text_rules.specs.MpsState.{RowRead, no_row}
 use Rattle.cip_mps.specs.Tables.{rows_of, IsSoundTable}
 use Rattle.cip_mps.proofs.TableLaws.{rows_length, last_is_empty, sound_popped, rows_popped}
 use Rattle.cip_mps.proofs.row_table.RowTable.pop.Goals.{After-truncate-2}

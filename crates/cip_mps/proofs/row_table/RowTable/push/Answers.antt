@@ -1,7 +1,7 @@
 use Rattle.std.proofs.Common.{◌*◌, ◌<◌, ◌≤◌, ℕ, List, [], ◌∷◌, ◌++◌, length, refl, ap, ◌∙◌, arith}
 use Rattle.cip_mps_lines.specs.MpsKinds.{row_kind_in}
-use Rattle.cip_mps_rules.specs.MpsState.{RowRead}
-use Rattle.cip_mps_rules.specs.MpsSteps.{new_row}
+use Rattle.cip_text_rules.specs.MpsState.{RowRead}
+use Rattle.cip_text_rules.specs.MpsSteps.{new_row}
 use Rattle.cip_mps.specs.Tables.{rows_of}
 use Rattle.cip_mps.proofs.TableLaws.{rows_pushed, sound_kept, sound_others, sound_pushed}
 use Rattle.cip_mps.proofs.row_table.RowTable.push.Goals as goal

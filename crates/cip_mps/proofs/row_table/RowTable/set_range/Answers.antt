@@ -1,6 +1,6 @@
 use Rattle.std.proofs.Common.{List, None, Some, ap, sym, ◌∙◌, arith}
-use Rattle.cip_mps_rules.specs.MpsState.{RowRead, no_row}
-use Rattle.cip_mps_rules.specs.MpsSteps.{changed, overflows_with, with_range}
+use Rattle.cip_text_rules.specs.MpsState.{RowRead, no_row}
+use Rattle.cip_text_rules.specs.MpsSteps.{changed, overflows_with, with_range}
 use Rattle.cip_mps.specs.Tables.{numbers_at, with_numbers}
 use Rattle.cip_mps.proofs.TableLaws.{within, row_is, read_at, rows_changed}
 use Rattle.cip_mps.proofs.row_table.RowTable.set_range.Goals as goal

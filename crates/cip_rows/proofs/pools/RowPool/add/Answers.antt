@@ -2,8 +2,8 @@ use Rattle.std.proofs.Common.{◌≡◌, ◌∙◌, List, MatchResult, sym, ap, 
 use Rattle.cip_rational.specs.Rational.{ℚ}
 use Rattle.cip_problem.specs.Program.{Row}
 use Rattle.cip_problem.specs.Activity.{StandsBelow}
-use Rattle.cip_linear.specs.Cuts.{row_of}
-use Rattle.cip_linear.proofs.Rows.{row_stands}
+use Rattle.cip_problem.specs.Cuts.{row_of}
+use Rattle.cip_problem.proofs.Rows.{row_stands}
 use Rattle.cip_rows.specs.Adding.{IsAdded}
 use Rattle.cip_rows.proofs.pools.RowPool.add.Goals as goal
 

@@ -1,5 +1,5 @@
 use Rattle.std.proofs.Common.{subst}
-use Rattle.cip_processing.specs.Wished.{Ran}
+use Rattle.cip_solve.specs.Wished.{Ran}
 use Rattle.cip_solve.specs.SplitsServed.{splits_by}
 use Rattle.cip_solve.proofs.Working.{done_worked}
 use Rattle.cip_solve.proofs.Serving.{used_served, served_then}

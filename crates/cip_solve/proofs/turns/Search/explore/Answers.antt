@@ -3,7 +3,7 @@ use Rattle.cip_solve.specs.SplitsServed.{splits_in, HasServed}
 use Rattle.cip_solve.proofs.SameSearches.{same_itself, same_further, still_of}
 use Rattle.cip_solve.proofs.Serving.{served_none}
 use Rattle.cip_solve.proofs.FirstLaws.{first_stop, short_more, none_short}
-use Rattle.cip_processing.specs.CoreStates.{reduced_of, way_of}
+use Rattle.cip_solve.specs.CoreStates.{reduced_of, way_of}
 use Rattle.cip_solve.proofs.turns.Search.explore.Goals as goal
 
 pub returns-in-Some-clause-same : goal.returns-in-Some-clause-same

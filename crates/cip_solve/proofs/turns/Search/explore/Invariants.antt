@@ -1,6 +1,6 @@
 use Rattle.std.proofs.Common.{◌≡◌, ℕ, ◌<◌, ◌≤◌, false, length}
 use Rattle.cip_problem.specs.WellFormed.{columns}
-use Rattle.cip_processing.specs.CoreStates.{reduced_of, way_of}
+use Rattle.cip_solve.specs.CoreStates.{reduced_of, way_of}
 use Rattle.cip_solve.specs.Searching.{IsSameSearch, IsStanding, IsWritten, WasShortAt}
 use Rattle.cip_solve.specs.SplitsServed.{splits_in, HasServed}
 use Rattle.cip_solve.proofs.turns.Search.explore.Given as goal

@@ -1,5 +1,5 @@
 use Rattle.std.proofs.Common.{length, sym, ap, ◌∙◌, subst}
-use Rattle.cip_reductions.specs.SeenLogs.{log_seen}
+use Rattle.cip_search.specs.SeenLogs.{log_seen}
 use Rattle.cip_endings.specs.AnswerOf.{answer_of}
 use Rattle.cip_solve.specs.Answered.{IsAnswered}
 use Rattle.cip_solve.proofs.turns.Search.finish.Goals as goal

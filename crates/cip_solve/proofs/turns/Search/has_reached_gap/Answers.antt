@@ -1,7 +1,7 @@
 use Rattle.std.proofs.Common.{◌≡◌, ◌∙◌, [], MatchOption, ap, sym, subst}
 use Rattle.cip_tree.specs.Moves.{IsLeastBound}
 use Rattle.cip_tree.specs.Nodes.{Nodes}
-use Rattle.cip_processing.specs.CoreStates.{reduced_of, way_of}
+use Rattle.cip_solve.specs.CoreStates.{reduced_of, way_of}
 use Rattle.cip_endings.specs.LeastBounds.{least_of, bound_held, flat}
 use Rattle.cip_endings.specs.Gaps.{reaches_gap}
 use Rattle.cip_endings.specs.Worst.{worst_bound}

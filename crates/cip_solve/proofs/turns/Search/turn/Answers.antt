@@ -4,8 +4,8 @@ use Rattle.cip_endings.specs.Worst.{worst_bound}
 use Rattle.cip_tree.specs.Moves.{IsLeastBound}
 use Rattle.cip_tree.specs.Nodes.{Nodes}
 use Rattle.cip_problem.specs.WellFormed.{columns}
-use Rattle.cip_processing.specs.CoreStates.{CoreState, reduced_of, way_of}
-use Rattle.cip_processing.specs.NodeWork.{NodeWork}
+use Rattle.cip_solve.specs.CoreStates.{CoreState, reduced_of, way_of}
+use Rattle.cip_solve.specs.NodeWork.{NodeWork}
 use Rattle.cip_solve.specs.Logs.{marks_by}
 use Rattle.cip_solve.specs.FirstStops.{IsLongerLog}
 use Rattle.cip_solve.specs.Searching.{IsSameSearch, IsWritten}

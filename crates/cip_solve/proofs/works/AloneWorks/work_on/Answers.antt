@@ -1,5 +1,5 @@
 use Rattle.std.proofs.Common.{refl}
-use Rattle.cip_processing.specs.Steps.{IsBack}
+use Rattle.cip_solve.specs.Steps.{IsBack}
 use Rattle.cip_solve.proofs.Serving.{nobody_each}
 use Rattle.cip_solve.proofs.Working.{all_worked}
 use Rattle.cip_solve.proofs.works.AloneWorks.work_on.Goals as goal

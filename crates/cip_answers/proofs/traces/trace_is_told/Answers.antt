@@ -1,5 +1,0 @@
-use Rattle.cip_answers.proofs.TraceTexts.{trace_told}
-use Rattle.cip_answers.proofs.traces.trace_is_told.Goals as goal
-
-pub returns : goal.returns
-returns c = trace_told

@@ -1,5 +1,0 @@
-use Rattle.std.proofs.Common.{refl}
-use Rattle.cip_answers.proofs.traces.untraced_is_plain.Goals as goal
-
-pub returns : goal.returns
-returns c = λ names figures. refl

@@ -1,5 +1,0 @@
-pub mod BlockLaws
-pub mod BlockNumbers
-mod BlockSame
-mod Owned
-mod Sound

@@ -1,5 +1,0 @@
-use Rattle.cip_block_rules.proofs.Owned.{owners_are_right}
-use Rattle.cip_block_rules.proofs.block_steps.owners_are_right.Goals as goal
-
-pub returns : goal.returns
-returns c = owners_are_right

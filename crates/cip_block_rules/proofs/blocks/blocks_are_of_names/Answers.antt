@@ -1,5 +1,0 @@
-use Rattle.cip_block_rules.proofs.BlockLaws.{blocks_are_of_names}
-use Rattle.cip_block_rules.proofs.blocks.blocks_are_of_names.Goals as goal
-
-pub returns : goal.returns
-returns c = blocks_are_of_names

@@ -1,6 +1,0 @@
-use Rattle.cip_line_texts.proofs.LineOutcomes.{one_outcome}
-use Rattle.cip_block_rules.specs.BlockRules.{block_reading}
-use Rattle.cip_block_rules.proofs.blocks.blocks_have_one_outcome.Goals as goal
-
-pub returns : goal.returns
-returns c = λ program. one_outcome (block_reading program)

@@ -1,0 +1,139 @@
+-- What the command takes of words, and the job of words that it takes.
+use Rattle.std.specs.Prelude.{◌≡◌, Bool, true, false, ℕ, List, [], ◌∷◌, Option, None, Some, Result, Ok, Err, MatchResult, IfOk, refl, if◌then◌else◌, option_map, option_and_then}
+use Rattle.std.proofs.Common.{sym, ap, ap₂, ◌∙◌, subst, inl, inr}
+use lib.Chars.{codes}
+use Rattle.std.specs.Str.{bytes_eq}
+use Rattle.std.proofs.lemmas.Slice.Eq.{bytes_eq-Decides}
+use Rattle.clap.specs.Words.{App, HasKind, HasMatchesOf, IsAmong, Kinds, Row, Text, fault_of, kind_of, is_simple, is_simple_and_free, subcommand_of, subcommand_rows_of, subcommand_name_of}
+use Rattle.clap.specs.declared.error.Error.{Error}
+use Rattle.clap.specs.declared.error.kind.ErrorKind.{ErrorKind}
+use Rattle.clap.specs.declared.error.kind.ErrorKind.TheVariants.{OutOfMemory}
+use Rattle.clap.specs.declared.parser.matches.ArgMatches.{ArgMatches}
+use Rattle.clap.proofs.OnLiterals.{clap_on_literals}
+use Rattle.cip_input.proofs.Numbers.{asks_for_some}
+use Rattle.cip_input.specs.Jobs.{Job, AsksForSome, cip_command, job_at, job_behind, check_behind, self_behind, job_of, unless_faulty}
+use Rattle.cip_input.specs.WordsRead.{WordsCause, meant}
+use Rattle.cip_input.specs.declared.words.Job.{Job as Wanted}
+use Rattle.cip_input.specs.declared.words.WordsFault.{WordsFault}
+use Rattle.cip_input.specs.declared.words.WordsFault.TheVariants.{Refused, NoMemory}
+
+-- the command is simple, and no argument of it has a rule on another
+pub is_free : is_simple_and_free cip_command ≡ true
+unfolding clap_on_literals cip_command
+is_free = refl
+
+pub is_plain : is_simple cip_command ≡ true
+unfolding clap_on_literals cip_command
+is_plain = refl
+
+-- words without a fault have the job of their subcommand
+job_taken : (words : List (List ℕ)) (job : Option Job) → fault_of cip_command words ≡ [] → option_and_then job_at (subcommand_of cip_command words) ≡ job → job_of words ≡ job
+unfolding job_of
+job_taken words job f e = ap (λ kinds. unless_faulty kinds (option_and_then job_at (subcommand_of cip_command words))) f ∙ e
+
+none_of : (kinds : Kinds) (job : Option Job) (kind : ErrorKind) → IsAmong kind kinds → unless_faulty kinds job ≡ None
+none_of [] job kind h = absurd h
+none_of (first ∷ others) job kind h = refl
+
+-- words with a fault have none
+no_job : (words : List (List ℕ)) (kind : ErrorKind) → IsAmong kind (fault_of cip_command words) → job_of words ≡ None
+unfolding job_of
+no_job words kind h = none_of (fault_of cip_command words) (option_and_then job_at (subcommand_of cip_command words)) kind h
+
+-- what is read of matches is the job of the words
+pub read_job : (app : App) (words told : List (List ℕ)) (m : ArgMatches) (result : Result Wanted WordsFault) → app ≡ cip_command → words ≡ told
+    → fault_of app words ≡ [] → HasMatchesOf app words m
+    → MatchResult result (λ job. option_and_then job_at (subcommand_rows_of m) ≡ Some (meant job)) (WordsCause (option_and_then job_at (subcommand_rows_of m)))
+    → MatchResult result (λ job. job_of told ≡ Some (meant job)) (WordsCause (job_of told))
+read_job app words told m result a w f h = by_case result
+  where
+    rows : subcommand_rows_of m ≡ subcommand_of cip_command told
+    rows = (h (ap is_simple a ∙ is_plain)).1 ∙ ap₂ subcommand_of a w
+
+    faultless : fault_of cip_command told ≡ []
+    faultless = sym (ap₂ fault_of a w) ∙ f
+
+    job_is : (job : Option Job) → option_and_then job_at (subcommand_rows_of m) ≡ job → job_of told ≡ job
+    job_is job e = job_taken told job faultless (ap (option_and_then job_at) (sym rows) ∙ e)
+
+    by_case : (result : Result Wanted WordsFault) → MatchResult result (λ job. option_and_then job_at (subcommand_rows_of m) ≡ Some (meant job)) (WordsCause (option_and_then job_at (subcommand_rows_of m)))
+        → MatchResult result (λ job. job_of told ≡ Some (meant job)) (WordsCause (job_of told))
+    by_case (Ok job) e = job_is _ e
+    by_case (Err Refused) e = job_is None e
+    by_case (Err NoMemory) e = tt
+
+-- and asks for a number of nodes in the range
+pub ranged : (told : List (List ℕ)) (result : Result Wanted WordsFault) → MatchResult result (λ job. job_of told ≡ Some (meant job)) (WordsCause (job_of told)) → IfOk result (λ job. AsksForSome (meant job))
+ranged told (Ok job) h = asks_for_some told (meant job) h
+ranged told (Err fault) h = tt
+
+-- an error that is not want of memory comes of words that are not accepted
+pub refused_words : (app : App) (words told : List (List ℕ)) (error : Error) (fault : WordsFault) → app ≡ cip_command → words ≡ told
+    → HasKind (fault_of app words) error → (fault ≡ Refused → kind_of error ≡ OutOfMemory → ⊥) → WordsCause (job_of told) fault
+refused_words app words told error Refused a w h n = elim h [
+  | inl e ↦ absurd (n refl e)
+  | inr among ↦ no_job told (kind_of error) (subst (λ kinds. IsAmong (kind_of error) kinds) (ap₂ fault_of a w) among)
+]
+refused_words app words told error NoMemory a w h n = tt
+
+-- ---- the subcommand
+
+two_maps : {A B C : Type 0} (f : A → B) (g : B → C) (o : Option A) → option_map g (option_map f o) ≡ option_map (λ x. g (f x)) o
+two_maps f g None = refl
+two_maps f g (Some x) = refl
+
+at_solve : (entered : Option (Text × List Row)) (rows : List Row) → option_map (λ p. p.0) entered ≡ Some (codes "solve") → option_map (λ p. p.1) entered ≡ Some rows → option_and_then job_at entered ≡ job_behind rows
+at_solve None rows n r = absurd (cc)
+at_solve (Some (name, behind)) rows n r = rw (some_of n, some_of r) refl
+  where
+    some_of : {X : Type 0} {x y : X} → Some x ≡ Some y → x ≡ y
+    some_of e = cc
+
+-- the rows of the subcommand `solve`
+pub entered_job : (m : ArgMatches) (rows : List Row) → subcommand_name_of m ≡ Some (codes "solve") → option_map (λ p. p.1) (subcommand_rows_of m) ≡ Some rows → option_and_then job_at (subcommand_rows_of m) ≡ job_behind rows
+entered_job m rows n r = at_solve (subcommand_rows_of m) rows (two_maps _ _ _ ∙ n) r
+
+at_check : (entered : Option (Text × List Row)) (rows : List Row) → option_map (λ p. p.0) entered ≡ Some (codes "check") → option_map (λ p. p.1) entered ≡ Some rows → option_and_then job_at entered ≡ check_behind rows
+at_check None rows n r = absurd (cc)
+at_check (Some (name, behind)) rows n r = rw (some_of n, some_of r) refl
+  where
+    some_of : {X : Type 0} {x y : X} → Some x ≡ Some y → x ≡ y
+    some_of e = cc
+
+-- the rows of the subcommand `check`
+pub entered_check : (m : ArgMatches) (rows : List Row) → subcommand_name_of m ≡ Some (codes "check") → option_map (λ p. p.1) (subcommand_rows_of m) ≡ Some rows → option_and_then job_at (subcommand_rows_of m) ≡ check_behind rows
+entered_check m rows n r = at_check (subcommand_rows_of m) rows (two_maps _ _ _ ∙ n) r
+
+at_self : (entered : Option (Text × List Row)) (rows : List Row) → option_map (λ p. p.0) entered ≡ Some (codes "self") → option_map (λ p. p.1) entered ≡ Some rows → option_and_then job_at entered ≡ self_behind rows
+at_self None rows n r = absurd (cc)
+at_self (Some (name, behind)) rows n r = rw (some_of n, some_of r) refl
+  where
+    some_of : {X : Type 0} {x y : X} → Some x ≡ Some y → x ≡ y
+    some_of e = cc
+
+-- the rows of the subcommand `self`
+pub entered_self : (m : ArgMatches) (rows : List Row) → subcommand_name_of m ≡ Some (codes "self") → option_map (λ p. p.1) (subcommand_rows_of m) ≡ Some rows → option_and_then job_at (subcommand_rows_of m) ≡ self_behind rows
+entered_self m rows n r = at_self (subcommand_rows_of m) rows (two_maps _ _ _ ∙ n) r
+
+not_self : (name : List ℕ) (behind : List Row) → ¬ (Some name ≡ Some (codes "self")) → (same : Bool) → bytes_eq name (codes "self") ≡ same → (if same then self_behind behind else None) ≡ None
+not_self name behind n true e = absurd (n (ap Some ((bytes_eq-Decides name (codes "self")).0 e)))
+not_self name behind n false e = refl
+
+not_check : (name : List ℕ) (behind : List Row) → ¬ (Some name ≡ Some (codes "check")) → ¬ (Some name ≡ Some (codes "self")) → (same : Bool) → bytes_eq name (codes "check") ≡ same → (if same then check_behind behind else (if bytes_eq name (codes "self") then self_behind behind else None)) ≡ None
+not_check name behind n k true e = absurd (n (ap Some ((bytes_eq-Decides name (codes "check")).0 e)))
+not_check name behind n k false e = not_self name behind k (bytes_eq name (codes "self")) refl
+
+not_solve : (name : List ℕ) (behind : List Row) → ¬ (Some name ≡ Some (codes "solve")) → ¬ (Some name ≡ Some (codes "check")) → ¬ (Some name ≡ Some (codes "self")) → (same : Bool) → bytes_eq name (codes "solve") ≡ same → (if same then job_behind behind else (if bytes_eq name (codes "check") then check_behind behind else (if bytes_eq name (codes "self") then self_behind behind else None))) ≡ None
+not_solve name behind n m k true e = absurd (n (ap Some ((bytes_eq-Decides name (codes "solve")).0 e)))
+not_solve name behind n m k false e = not_check name behind m k (bytes_eq name (codes "check")) refl
+
+none_of_them : (entered : Option (Text × List Row)) → ¬ (option_map (λ p. p.0) entered ≡ Some (codes "solve")) → ¬ (option_map (λ p. p.0) entered ≡ Some (codes "check")) → ¬ (option_map (λ p. p.0) entered ≡ Some (codes "self")) → option_and_then job_at entered ≡ None
+none_of_them None n m k = refl
+none_of_them (Some (name, behind)) n m k = not_solve name behind n m k (bytes_eq name (codes "solve")) refl
+
+-- another subcommand, or none, has no job
+pub no_command : (m : ArgMatches) → (subcommand_name_of m ≡ Some (codes "solve") → false ≡ true) → (subcommand_name_of m ≡ Some (codes "check") → false ≡ true) → (subcommand_name_of m ≡ Some (codes "self") → false ≡ true) → option_and_then job_at (subcommand_rows_of m) ≡ None
+no_command m n c k = none_of_them (subcommand_rows_of m) (λ e. no_truth (n (sym (two_maps _ _ _) ∙ e))) (λ e. no_truth (c (sym (two_maps _ _ _) ∙ e))) (λ e. no_truth (k (sym (two_maps _ _ _) ∙ e)))
+  where
+    no_truth : false ≡ true → ⊥
+    no_truth e = cc

@@ -1,0 +1,21 @@
+use Rattle.std.proofs.Common.{◌≡◌, ℕ, ◌+◌, ◌%◌, List, [], ◌∷◌, ◌++◌, map, sym, ap, ◌∙◌, zero-add}
+use Rattle.std.specs.List.{range_with_len}
+use Rattle.std.proofs.lemmas.List.FromFn.{map-range_with_len_more}
+use Rattle.cip_rational.specs.Rational.{ℚ, negate}
+use Rattle.cip_input.specs.Generated.{next_state, drawn_at, draw, natural, cost_from}
+use Rattle.cip_input.proofs.DrawLaws.{state_after_next}
+use Rattle.cip_input.proofs.columns.drawn_costs.Goals as goal
+
+pub loop-column-preserved : goal.loop-column-preserved
+loop-column-preserved c =
+    let k : ℕ = c.loop-column._column in
+    let start : ℕ = c.args.draws.now.state in
+    let drawn : c.draw.result ≡ draw start k = c.draw.ensures.drawn ∙ ap (λ s. drawn_at (next_state s)) c.loop-column.invariant.state in
+    let cost : c.cost_of.result ≡ cost_from start k = c.cost_of.ensures ∙ ap (λ d. negate (natural (1 + d % 20))) drawn in
+    record {
+      costs =
+          c.in_ok-push.ensures.items ∙ ap (λ (xs : List ℚ). xs ++ c.cost_of.result ∷ []) c.loop-column.invariant.costs
+          ∙ ap (λ (q : ℚ). map (cost_from start) (range_with_len 0 k) ++ q ∷ []) cost
+          ∙ sym (map-range_with_len_more (cost_from start) 0 k k (zero-add k));
+      state = c.draw.ensures.state ∙ ap next_state c.loop-column.invariant.state ∙ sym (state_after_next k start);
+    }

@@ -1,0 +1,11 @@
+use Rattle.std.proofs.Common.{◌≡◌, ℕ, ◌<◌, ◌^◌, List, [], ◌∷◌, ◌++◌, sym, ap, ◌∙◌, arith, rules}
+use Rattle.cip_rational.specs.NumberText.{natural_text}
+use Rattle.cip_rational.proofs.NumberText.{natural_text_decimal}
+use Rattle.cip_input.proofs.columns.name_with.Goals as goal
+
+pub returns : goal.returns
+returns c =
+    let small : c.args.number < 2 ^ 64 = search rules in
+    let letter : c.push.new.self.items ≡ c.args.letter ∷ [] = c.in_ok-push.ensures.items ∙ ap (λ (xs : List ℕ). xs ++ c.args.letter ∷ []) c.new-name.ensures.items in
+    let digits : c.as_bytes.result.now ≡ natural_text c.args.number = c.as_bytes.ensures.value ∙ c.format.ensures.text ∙ sym (natural_text_decimal c.args.number (omega (arith, small))) in
+    c.in_ok-extend_from_slice.ensures.items ∙ ap (λ (xs : List ℕ). xs ++ c.as_bytes.result.now) letter ∙ ap (λ (xs : List ℕ). c.args.letter ∷ xs) digits

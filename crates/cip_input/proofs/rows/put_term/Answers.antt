@@ -1,0 +1,12 @@
+use Rattle.std.proofs.Common.{◌≡◌, ◌<◌, pos, to_z, w64, sym, ap, ◌∙◌, arith}
+use Rattle.std.proofs.lemmas.Int.{ints}
+use Rattle.cip_rational.specs.Rational.{integer}
+use Rattle.cip_rational.proofs.Integers.{integer_not_zero}
+use Rattle.cip_input.proofs.rows.put_term.Goals as goal
+
+pub unreachable-requires-in-Err-ZeroTerm : goal.unreachable-requires-in-Err-ZeroTerm
+unreachable-requires-in-Err-ZeroTerm c =
+    let fault = rw c.in-Err-ZeroTerm.field-0-is at c.in-Err-ZeroTerm.ensures in
+    let same : to_z w64 c.args.coefficient ≡ pos c.args.coefficient = omega (arith, ints) in
+    let some : 0 < c.args.coefficient = omega arith in
+    integer_not_zero c.args.coefficient some (ap integer (sym same) ∙ sym c.from.ensures ∙ fault.1.2)

@@ -1,0 +1,17 @@
+use Rattle.std.proofs.Common.{sym, ap, ◌∙◌}
+use Rattle.cip_input.specs.Jobs.{begins_above_zero}
+use Rattle.cip_input.proofs.Numbers.{some_nodes, no_nodes, not_above}
+use Rattle.cip_input.proofs.words.number_in.Goals as goal
+
+pub returns-then-not-begins_above_zero : goal.returns-then-not-begins_above_zero
+returns-then-not-begins_above_zero c =
+    sym (not_above c.args.text.now (sym (ap begins_above_zero c.as_bytes.ensures.value) ∙ (sym c.begins_above_zero.ensures ∙ c.if-not-begins_above_zero.true)))
+
+pub returns-in-Ok : goal.returns-in-Ok
+returns-in-Ok c =
+    let read = c.in-Ok.ensures.value.0 in
+    let above = sym (ap begins_above_zero c.as_bytes.ensures.value) ∙ (sym c.begins_above_zero.ensures ∙ c.if-not-begins_above_zero.false) in
+    sym (some_nodes c.args.text.now c.in-Ok.nodes above read.0.0 read.0.1 read.1 c.if-nodes-ge1.true c.if-nodes-le-MOST_NODES.true)
+
+pub returns-in_default-3 : goal.returns-in_default-3
+returns-in_default-3 c = sym (no_nodes c.args.text.now (λ u. c.in_default.ensures.value.0 (u.0, u.1)))

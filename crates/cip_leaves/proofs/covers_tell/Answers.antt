@@ -1,5 +1,0 @@
-use Rattle.cip_leaves.proofs.Covers.{bound_holds, nothing_cheaper, no_point, wide_leaf}
-use Rattle.cip_leaves.proofs.covers_tell.Goals as goal
-
-pub returns : goal.returns
-returns c = record { bound = bound_holds; nothing_cheaper = nothing_cheaper; no_point = no_point; wide = wide_leaf }

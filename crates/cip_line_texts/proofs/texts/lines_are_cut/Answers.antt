@@ -1,6 +1,0 @@
-use Rattle.std.proofs.Common.{refl}
-use Rattle.cip_line_texts.proofs.Cuts.{lines_ended, lines_last}
-use Rattle.cip_line_texts.proofs.texts.lines_are_cut.Goals as goal
-
-pub returns : goal.returns
-returns c = record { none = refl; last = lines_last; ended = lines_ended }

@@ -1,5 +1,0 @@
-use Rattle.cip_linear.proofs.Bounds.{bound_holds, empty_holds, implied_hold}
-use Rattle.cip_linear.proofs.bounds_hold.Goals as goal
-
-pub returns : goal.returns
-returns c = record { bound = bound_holds; empty = empty_holds; single = implied_hold }

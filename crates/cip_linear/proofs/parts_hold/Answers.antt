@@ -1,5 +1,0 @@
-use Rattle.cip_linear.proofs.Parts.{part_holds, bound_part_holds, program_parts_hold}
-use Rattle.cip_linear.proofs.parts_hold.Goals as goal
-
-pub returns : goal.returns
-returns c = record { row = part_holds; column = bound_part_holds; program = program_parts_hold }

@@ -1,5 +1,0 @@
-use Rattle.cip_linear.proofs.Rays.{ray_points, ray_cost, ray_unbounded}
-use Rattle.cip_linear.proofs.rays_fall.Goals as goal
-
-pub returns : goal.returns
-returns c = record { points = ray_points; cost = ray_cost; unbounded = ray_unbounded }

@@ -1,6 +1,0 @@
-use Rattle.cip_line_texts.proofs.LineOutcomes.{one_outcome}
-use Rattle.cip_lp_rules.specs.LpOutcome.{lp_reading}
-use Rattle.cip_lp_rules.proofs.lp_texts.lp_one_outcome.Goals as goal
-
-pub returns : goal.returns
-returns c = one_outcome lp_reading

@@ -1,6 +1,0 @@
-use Rattle.cip_line_texts.proofs.LineEnded.{results_at_ends}
-use Rattle.cip_lp_rules.specs.LpOutcome.{is_end, lp_tokens}
-use Rattle.cip_lp_rules.proofs.lp_texts.lp_programs_are_described.Goals as goal
-
-pub returns : goal.returns
-returns c = results_at_ends is_end lp_tokens

@@ -1,5 +1,0 @@
-use Rattle.cip_lp_rules.proofs.LpTexts.{texts_fit}
-use Rattle.cip_lp_rules.proofs.lp_texts.lp_programs_are_well_formed.Goals as goal
-
-pub returns : goal.returns
-returns c = texts_fit

@@ -1,5 +1,0 @@
-use Rattle.cip_mps_rules.proofs.ByLine.{number_is}
-use Rattle.cip_mps_rules.proofs.step_laws.numbers_are_of_names.Goals as goal
-
-pub returns : goal.returns
-returns c = number_is

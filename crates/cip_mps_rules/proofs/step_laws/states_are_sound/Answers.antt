@@ -1,5 +1,0 @@
-use Rattle.cip_mps_rules.proofs.SoundState.{sound_first, sound_taken}
-use Rattle.cip_mps_rules.proofs.step_laws.states_are_sound.Goals as goal
-
-pub returns : goal.returns
-returns c = record { first = sound_first; later = sound_taken }

@@ -1,9 +1,0 @@
-use Rattle.cip_line_texts.proofs.LineSame.{texts_are_read}
-use Rattle.cip_line_texts.proofs.LineEnded.{GoodStage}
-use Rattle.cip_mps_rules.specs.MpsOutcome.{mps_records, mps_reading}
-use Rattle.cip_mps_rules.specs.MpsSteps.{record_steps, mps_steps}
-use Rattle.cip_mps_rules.proofs.ReadLines.{GoodState, steps_stand}
-use Rattle.cip_mps_rules.proofs.step_laws.texts_are_read.Goals as goal
-
-pub returns : goal.returns
-returns c = texts_are_read mps_reading mps_steps (GoodStage mps_records record_steps GoodState) steps_stand

@@ -1,5 +1,0 @@
-use Rattle.cip_mps_rules.proofs.Coefficients.{coefficients_are}
-use Rattle.cip_mps_rules.proofs.texts.coefficients_are_numbers.Goals as goal
-
-pub returns : goal.returns
-returns c = coefficients_are

@@ -1,6 +1,0 @@
-use Rattle.cip_line_texts.proofs.LineEnded.{results_at_ends}
-use Rattle.cip_mps_rules.specs.MpsOutcome.{is_last, mps_records}
-use Rattle.cip_mps_rules.proofs.texts.programs_are_described.Goals as goal
-
-pub returns : goal.returns
-returns c = results_at_ends is_last mps_records

@@ -1,2 +1,0 @@
-mod PointLaws
-mod PointSame

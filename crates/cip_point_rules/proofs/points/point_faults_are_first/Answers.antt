@@ -1,6 +1,0 @@
-use Rattle.cip_line_texts.proofs.LineOutcomes.{faults_are_first}
-use Rattle.cip_point_rules.specs.PointRules.{point_reading}
-use Rattle.cip_point_rules.proofs.points.point_faults_are_first.Goals as goal
-
-pub returns : goal.returns
-returns c = λ program. faults_are_first (point_reading program)

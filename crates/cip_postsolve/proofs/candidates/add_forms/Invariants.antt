@@ -1,5 +1,0 @@
-use Rattle.cip_postsolve.specs.ColumnsOut.{MayAllGo}
-use Rattle.cip_postsolve.proofs.candidates.add_forms.Given as goal
-
-abbrev pub invariant-loop-number : goal.invariant-loop-number
-invariant-loop-number l = MayAllGo l.draft l.forms.items

@@ -1,5 +1,0 @@
-use Rattle.cip_postsolve.proofs.MayLeave.{FirstMayGo}
-use Rattle.cip_postsolve.proofs.candidates.values_out.Given as goal
-
-abbrev pub invariant-loop-column : goal.invariant-loop-column
-invariant-loop-column l = FirstMayGo l.draft l.forms.items l.column

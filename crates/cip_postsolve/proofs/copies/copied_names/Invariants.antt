@@ -1,5 +1,0 @@
-use Rattle.cip_postsolve.proofs.CopiedParts.{CopiedTo}
-use Rattle.cip_postsolve.proofs.copies.copied_names.Given as goal
-
-abbrev pub invariant-loop-number : goal.invariant-loop-number
-invariant-loop-number l = CopiedTo l.names l.copy l.number

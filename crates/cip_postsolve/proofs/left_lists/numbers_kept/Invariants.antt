@@ -1,6 +1,0 @@
-use Rattle.std.proofs.Common.{◌≡◌, ◌++◌, drop}
-use Rattle.cip_postsolve.specs.EntriesLeft.{old_numbers}
-use Rattle.cip_postsolve.proofs.left_lists.numbers_kept.Given as goal
-
-abbrev pub invariant-loop-at : goal.invariant-loop-at
-invariant-loop-at l = l.kept.items ++ old_numbers l.at (drop l.at l.gone) ≡ old_numbers 0 l.gone

@@ -1,0 +1,10 @@
+use Rattle.cip_presolve.proofs.MayLeave.{fits_by}
+use Rattle.cip_presolve.proofs.candidates.can_be.Goals as goal
+
+pub returns-then-whole-clause-in_range : goal.returns-then-whole-clause-in_range
+returns-then-whole-clause-in_range c =
+    fits_by c.args.value c.numerator-numerator.result c.denominator-denominator.result c.numerator-numerator.ensures.value c.numerator-numerator.ensures.bounded c.denominator-denominator.ensures.value c.denominator-denominator.ensures.bounded
+
+pub returns-clause-in_range : goal.returns-clause-in_range
+returns-clause-in_range c =
+    fits_by c.args.value c.numerator-numerator.result c.denominator-denominator.result c.numerator-numerator.ensures.value c.numerator-numerator.ensures.bounded c.denominator-denominator.ensures.value c.denominator-denominator.ensures.bounded

@@ -1,0 +1,46 @@
+use Rattle.std.proofs.Common.{length, refl, sym, ap, ◌∙◌, arith}
+use Rattle.cip_problem.specs.Program.{Program, no_row}
+use Rattle.cip_presolve.specs.NarrowedPrograms.{with_row}
+use Rattle.cip_presolve.proofs.Ruled.{stays}
+use Rattle.cip_presolve.proofs.Singled.{taken_by, count_same}
+use Rattle.cip_presolve.proofs.drafts.Draft.try_single.Goals as goal
+
+pub returns-in_default-clause-step : goal.returns-in_default-clause-step
+returns-in_default-clause-step c = stays c.args.self.now
+
+pub returns-in_default-clause-rows : goal.returns-in_default-clause-rows
+returns-in_default-clause-rows c = refl
+
+pub returns-then-cross-clause-step : goal.returns-then-cross-clause-step
+returns-then-cross-clause-step c = stays c.args.self.now
+
+pub returns-then-cross-clause-rows : goal.returns-then-cross-clause-rows
+returns-then-cross-clause-rows c = refl
+
+pub returns-then-cross-clause-end : goal.returns-then-cross-clause-end
+returns-then-cross-clause-end c = c.in-Some.ensures.none (sym c.cross.ensures ∙ c.if-cross.true)
+
+pub returns-then-is_far-clause-step : goal.returns-then-is_far-clause-step
+returns-then-is_far-clause-step c = stays c.args.self.now
+
+pub returns-then-is_far-clause-rows : goal.returns-then-is_far-clause-rows
+returns-then-is_far-clause-rows c = refl
+
+pub set_sides-requires-clause-inside : goal.set_sides-requires-clause-inside
+set_sides-requires-clause-inside c = c.in-Some.ensures.inside
+
+pub set_sides-requires-clause-plain : goal.set_sides-requires-clause-plain
+set_sides-requires-clause-plain c = c.in-Some.ensures.plain
+
+pub clear_row-requires : goal.clear_row-requires
+clear_row-requires c = omega (arith, ap (λ (p : Program). length p.rows) c.set_sides.ensures, c.requires)
+
+pub returns-clause-step : goal.returns-clause-step
+returns-clause-step c =
+    taken_by c.args.self.now c.clear_row.new.self c.args.number c.in-Some.found.column c.in-Some.found.sides
+    c.in-Some.ensures
+    (c.clear_row.ensures ∙ ap (λ (p : Program). with_row p c.args.number no_row) c.set_sides.ensures)
+
+pub returns-clause-rows : goal.returns-clause-rows
+returns-clause-rows c = ap (λ (p : Program). length p.rows) c.clear_row.ensures ∙ count_same _ _ _
+    ∙ ap (λ (p : Program). length p.rows) c.set_sides.ensures

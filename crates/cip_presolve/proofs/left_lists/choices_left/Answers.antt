@@ -1,0 +1,12 @@
+use Rattle.std.proofs.Common.{◌≤◌, length, min, rules}
+use Rattle.cip_presolve.proofs.Leftovers.{skipped, left_end}
+use Rattle.cip_presolve.proofs.left_lists.choices_left.Goals as goal
+
+pub loop-at-preserved-then-gone-at : goal.loop-at-preserved-then-gone-at
+loop-at-preserved-then-gone-at c =
+    skipped c.loop-at.at c.args.gone.now c.args.choices.now c.loop-at.left _ c.if-gone-at.true c.loop-at.invariant
+
+pub returns : goal.returns
+returns c =
+    let l : min (length c.args.gone.now) (length c.args.choices.now) ≤ c.loop-at.at = search rules in
+    left_end c.loop-at.at c.args.gone.now c.args.choices.now c.loop-at.left _ l c.loop-at.invariant

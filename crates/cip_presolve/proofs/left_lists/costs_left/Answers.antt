@@ -1,0 +1,18 @@
+use Rattle.std.proofs.Common.{◌<◌, ◌≤◌, min, length, arith}
+use Rattle.cip_presolve.proofs.Leftovers.{skipped, taken_item, left_end}
+use Rattle.cip_presolve.proofs.left_lists.costs_left.Goals as goal
+
+pub loop-at-preserved-then-gone-at : goal.loop-at-preserved-then-gone-at
+loop-at-preserved-then-gone-at c =
+    skipped c.loop-at.at c.args.gone.now c.args.costs.now c.loop-at.left.items _ c.if-gone-at.true c.loop-at.invariant
+
+pub loop-at-preserved : goal.loop-at-preserved
+loop-at-preserved c =
+    let within : c.loop-at.at < length c.args.gone.now = omega arith in
+    let below : c.loop-at.at < length c.args.costs.now = omega (arith, c.requires) in
+    taken_item c.loop-at.at c.args.gone.now c.args.costs.now c.index-costs-at.result c.loop-at.left.items c.push.new.self.items _ within below c.if-gone-at.false c.index-costs-at.is c.in_ok-push.ensures.items c.loop-at.invariant
+
+pub returns : goal.returns
+returns c =
+    let past : min (length c.args.gone.now) (length c.args.costs.now) ≤ c.loop-at.at = omega arith in
+    left_end c.loop-at.at c.args.gone.now c.args.costs.now c.loop-at.left.items _ past c.loop-at.invariant

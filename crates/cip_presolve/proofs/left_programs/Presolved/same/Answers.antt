@@ -1,0 +1,34 @@
+use Rattle.std.proofs.Common.{◌≡◌, None, sym, ap, ◌∙◌, subst, rules}
+use Rattle.cip_presolve.specs.Forms.{spread}
+use Rattle.cip_presolve.specs.StepsBack.{StepsTaken}
+use Rattle.std.specs.Prelude.{replicate}
+use Rattle.cip_problem.specs.WellFormed.{columns}
+use Rattle.cip_presolve.specs.PresolvedPrograms.{counted, IsExactlyPresolved}
+use Rattle.cip_presolve.proofs.Unchanged.{same_exact, none_kept, none_changes, same_whole, none_overflows}
+use Rattle.cip_presolve.proofs.left_programs.Presolved.same.Goals as goal
+
+pub returns-clause-exact : goal.returns-clause-exact
+returns-clause-exact c =
+    let forms : c.in_ok-forms.forms.items ≡ replicate (columns c.args.program.now) None = c.in_ok-forms.ensures ∙ ap (λ n. replicate n None) c.columns.ensures.count in
+    let whole : c.in_ok-whole.whole.items ≡ c.args.program.now.integral = search rules in
+    subst (λ (s : StepsTaken). IsExactlyPresolved c.args.program.now (record { reduced = c.in_ok-reduced.reduced; steps = s; kept = c.in_ok-kept.kept })) (sym c.new.ensures) (record {
+      pair = same_exact c.args.program.now c.in_ok-reduced.reduced c.in_ok-forms.forms.items c.columns.ensures.formed c.in_ok-reduced.ensures forms;
+      numbers = record {
+        kept = none_kept (columns c.args.program.now) c.in_ok-forms.forms.items c.in_ok-kept.kept.items forms (c.in_ok-kept.ensures ∙ ap (λ n. counted 0 n) c.columns-2.ensures.count);
+        whole = whole;
+        left = same_whole c.args.program.now c.in_ok-reduced.reduced c.in_ok-forms.forms.items c.in_ok-whole.whole.items c.columns.ensures.formed c.in_ok-reduced.ensures forms whole;
+      };
+      leaves = λ wholes a. none_overflows (columns c.args.program.now) c.in_ok-forms.forms.items c.in_ok-whole.whole.items _ forms;
+    })
+
+pub returns-clause-pair : goal.returns-clause-pair
+returns-clause-pair c = let e = returns-clause-exact c in record { pair = e.pair.pair; numbers = e.numbers; leaves = e.leaves }
+
+pub returns-clause-unchanged : goal.returns-clause-unchanged
+returns-clause-unchanged c =
+    let forms : c.in_ok-forms.forms.items ≡ replicate (columns c.args.program.now) None = c.in_ok-forms.ensures ∙ ap (λ n. replicate n None) c.columns.ensures.count in
+    record {
+      reduced = c.in_ok-reduced.ensures;
+      kept = c.in_ok-kept.ensures ∙ ap (λ n. counted 0 n) c.columns-2.ensures.count;
+      point = λ point long. ap (λ (s : StepsTaken). spread s.forms point) c.new.ensures ∙ none_changes c.args.program.now c.in_ok-forms.forms.items point c.columns.ensures.formed forms long;
+    }

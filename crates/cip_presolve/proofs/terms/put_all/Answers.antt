@@ -1,0 +1,19 @@
+use Rattle.std.proofs.Common.{◌<◌, ◌≤◌, length, rules}
+use Rattle.cip_presolve.specs.PutTerms.{HasBoth}
+use Rattle.cip_presolve.proofs.TermsPut.{none_put, next_put, all_there, under_ok}
+use Rattle.cip_presolve.proofs.terms.put_all.Goals as goal
+
+pub loop-term-init : goal.loop-term-init
+loop-term-init c = none_put c.args.row.now c.args.first c.args.second c.args.terms.now
+
+pub loop-term-preserved : goal.loop-term-preserved
+loop-term-preserved c =
+    let below : c.loop-term.term-index < length c.args.terms.now = search rules in
+    let both : HasBoth c.loop-term.row c.loop-term.one c.loop-term.other c.term-item.result c.put_next.new.row c.put_next.new.first c.put_next.new.second = rw c.if-not-branch.false at c.in_ok-put_next.ensures in
+    next_put c.args.row.now c.loop-term.row c.put_next.new.row c.args.first c.args.second c.loop-term.one c.loop-term.other c.put_next.new.first c.put_next.new.second c.args.terms.now c.loop-term.term-index c.term-item.result
+    c.loop-term.invariant below c.term-item.is both
+
+pub returns : goal.returns
+returns c =
+    let past : length c.args.terms.now ≤ c.loop-term.term-index = search rules in
+    under_ok _ (λ a. all_there c.args.row.now c.loop-term.row _ c.args.first c.args.second c.loop-term.one c.loop-term.other c.args.terms.now c.loop-term.term-index c.loop-term.invariant past a) c.put_two.ensures

@@ -1,0 +1,37 @@
+use Rattle.std.proofs.Common.{◌<◌, ◌≤◌, ◌++◌, sym, ap, subst}
+use Rattle.cip_presolve.specs.Leaf.{at_wholes}
+use Rattle.cip_presolve.specs.Forms.{filled}
+use Rattle.cip_presolve.proofs.FilledPoints.{below_both, whole_skipped, whole_taken, all_taken, fits_at}
+use Rattle.cip_presolve.proofs.values.wholes_filled.Goals as goal
+
+pub loop-column-init : goal.loop-column-init
+loop-column-init c = ap (λ t. t ++ at_wholes c.args.whole.now (filled c.args.forms.now c.args.point.now c.args.point.now)) c.new-all.ensures.items
+
+pub bounds-whole-column : goal.bounds-whole-column
+bounds-whole-column c = (below_both _ _ _ _ c.min-column-end.ensures c.loop-column-test.true).1
+
+pub bounds-forms-column : goal.bounds-forms-column
+bounds-forms-column c = (below_both _ _ _ _ c.min-column-end.ensures c.loop-column-test.true).0
+
+pub fitting_value-requires-clause-inside : goal.fitting_value-requires-clause-inside
+fitting_value-requires-clause-inside c = subst (λ n. c.loop-column.column < n) c.requires.long (below_both _ _ _ _ c.min-column-end.ensures c.loop-column-test.true).0
+
+pub fitting_value-requires-clause-fits : goal.fitting_value-requires-clause-fits
+fitting_value-requires-clause-fits c =
+    let both = below_both _ _ _ _ c.min-column-end.ensures c.loop-column-test.true in
+    fits_at c.args.forms.now c.args.whole.now c.args.point.now c.loop-column.column c.index-forms-column.result c.index-forms-column.result c.requires.fit both.0 both.1 c.if-not-whole-column.false (sym c.index-forms-column.is)
+
+pub loop-column-preserved-then-not-whole-column : goal.loop-column-preserved-then-not-whole-column
+loop-column-preserved-then-not-whole-column c =
+    let both = below_both _ _ _ _ c.min-column-end.ensures c.loop-column-test.true in
+    whole_skipped c.args.forms.now c.args.whole.now c.args.point.now c.loop-column.all.items _ c.loop-column.column c.requires.long both.0 both.1 c.if-not-whole-column.true c.loop-column.invariant
+
+pub loop-column-preserved : goal.loop-column-preserved
+loop-column-preserved c =
+    let both = below_both _ _ _ _ c.min-column-end.ensures c.loop-column-test.true in
+    whole_taken c.args.forms.now c.args.whole.now c.args.point.now c.loop-column.all.items _ _ c.loop-column.column c.index-forms-column.result c.index-forms-column.result c.fitting_value.result
+    c.requires.long both.0 both.1 c.if-not-whole-column.false (sym c.index-forms-column.is) c.fitting_value.ensures c.loop-column.invariant c.in_ok-push.ensures.items
+
+pub returns : goal.returns
+returns c =
+    all_taken c.args.forms.now c.args.whole.now c.args.point.now c.loop-column.all.items _ c.loop-column.column (subst (λ n. n ≤ c.loop-column.column) c.min-column-end.ensures c.loop-column-test.false) c.loop-column.invariant

@@ -1,0 +1,141 @@
+//! The least and the greatest activity of a row without one of its terms, by those of the whole row.
+ghost use Rattle.std.specs.Prelude.{◌≡◌, ◌<◌, length, slice_get, Some, IfSome, IfOk};
+ghost use Rattle.std.specs.List.{remove};
+ghost use Rattle.cip_rational.specs.Rational.{zeroℚ};
+ghost use Rattle.cip_problem.specs.Activity.{StandsBelow};
+ghost use Rattle.cip_presolve.specs.RowReading.{Encloses};
+ghost use Rattle.cip_presolve.specs.Rests.{IsLeastProduct, IsGreatestProduct, IsDifference, IsRestBelow, IsRestAbove, AreRests};
+
+use crate::extents::extent;
+use cip_frac::Frac;
+use cip_lin::{Bounds, Least, Row, RowFault, Sides, Term, add_least};
+use std::alloc::{AllocError, Global};
+
+/// The least product of a coefficient and a value between two sides, where it is there and in range.
+#[tactic(auto, using(crate::proofs::RestSums::least_product_is))]
+fn least_product(coef: Frac, sides: Sides) -> Option<Frac>
+    ensures { IfSome result (IsLeastProduct coef sides) }
+{
+    match add_least(Frac::zero(), coef, sides) {
+        Least::Value(product) => Some(product),
+        _ => None,
+    }
+}
+
+/// The greatest product of a coefficient and a value between two sides, where it is there and in range.
+#[tactic(auto, using(crate::proofs::RestSums::greatest_product_is))]
+fn greatest_product(coef: Frac, sides: Sides) -> Option<Frac>
+    ensures { IfSome result (IsGreatestProduct coef sides) }
+{
+    match add_least(Frac::zero(), coef.neg(), sides) {
+        Least::Value(product) => Some(product.neg()),
+        _ => None,
+    }
+}
+
+/// A side less a number, where both are there and the difference is in range.
+#[tactic(auto, using(crate::proofs::RestSums::difference_is))]
+pub(crate) fn difference(side: Option<Frac>, rest: Option<Frac>) -> Option<Frac>
+    ensures { IfSome result (IsDifference side rest) }
+{
+    match (side, rest) {
+        (Some(side), Some(rest)) => match side.sub(rest) {
+            Ok(difference) => Some(difference),
+            Err(_) => None,
+        },
+        _ => None,
+    }
+}
+
+/// The term at a place.
+pub(crate) fn term_at(row: &Row, at: usize) -> Term
+    requires { at < length row.now.terms }
+    ensures term { slice_get row.now.terms at ≡ Some result }
+    ensures nonzero { ¬ (result.coefficient ≡ zeroℚ) }
+{
+    row.terms()[at]
+}
+
+/// The least activity of a row without the term at a place, where it is in range, by the least one of the row.
+fn rest_below(row: &Row, at: usize, bounds: &Bounds, whole: Sides) -> Option<Frac>
+    requires stands { StandsBelow (length bounds.now) row.now.terms }
+    requires inside { at < length row.now.terms }
+    requires encloses { Encloses bounds.now row.now.terms whole }
+    ensures { IfSome result (IsRestBelow bounds.now row.now.terms at) }
+{
+    let _terms = row.terms();
+    let term = term_at(row, at);
+    let own = least_product(term.coef, bounds.sides(term.col));
+    difference(whole.low, own)
+}
+
+/// The greatest activity of a row without the term at a place, where it is in range, by the greatest one of the row.
+fn rest_above(row: &Row, at: usize, bounds: &Bounds, whole: Sides) -> Option<Frac>
+    requires stands { StandsBelow (length bounds.now) row.now.terms }
+    requires inside { at < length row.now.terms }
+    requires encloses { Encloses bounds.now row.now.terms whole }
+    ensures { IfSome result (IsRestAbove bounds.now row.now.terms at) }
+{
+    let _terms = row.terms();
+    let term = term_at(row, at);
+    let own = greatest_product(term.coef, bounds.sides(term.col));
+    difference(whole.high, own)
+}
+
+/// A row without the term at a place, and without sides; `None` where that is no row, and `Err` where the memory for it
+/// was refused.
+#[tactic(auto, using(crate::proofs::RestSums::without))]
+fn without(alloc: Global, row: &Row, at: usize) -> Result<Option<Row>, AllocError>
+    requires { at < length row.now.terms }
+    ensures { IfOk result (λ found. IfSome found (λ rest. rest.terms ≡ remove row.now.terms at)) }
+{
+    let mut terms = row.terms().to_vec(alloc)?;
+    let _own = terms.remove(at);
+    match Row::build(alloc, terms.as_slice(), None, None) {
+        Ok(rest) => Ok(Some(rest)),
+        Err(RowFault::NoMemory) => Err(AllocError),
+        Err(_) => Ok(None),
+    }
+}
+
+/// Two sides between which the activity of a row without the term at a place lies, summed up anew. `Err` comes where a
+/// growth was refused.
+#[tactic(auto, using(crate::proofs::RestSums::summed))]
+fn rests_summed(alloc: Global, row: &Row, at: usize, bounds: &Bounds) -> Result<Sides, AllocError>
+    requires stands { StandsBelow (length bounds.now) row.now.terms }
+    requires inside { at < length row.now.terms }
+    ensures { IfOk result (AreRests bounds.now row.now.terms at) }
+{
+    match without(alloc, row, at)? {
+        Some(rest) => Ok(extent(&rest, bounds)),
+        None => Ok(Sides {
+            low: None,
+            high: None,
+        }),
+    }
+}
+
+/// Two sides between which the activity of a row without the term at a place lies, by the sides `whole` of the row's
+/// activity, or summed up `anew`. `Err` comes where a growth was refused.
+#[tactic(auto, using(crate::proofs::RestSums::resting))]
+pub(crate) fn rests(
+    alloc: Global,
+    row: &Row,
+    at: usize,
+    bounds: &Bounds,
+    whole: Sides,
+    anew: bool,
+) -> Result<Sides, AllocError>
+    requires stands { StandsBelow (length bounds.now) row.now.terms }
+    requires inside { at < length row.now.terms }
+    requires encloses { Encloses bounds.now row.now.terms whole }
+    ensures { IfOk result (AreRests bounds.now row.now.terms at) }
+{
+    if anew {
+        return rests_summed(alloc, row, at, bounds);
+    }
+    Ok(Sides {
+        low: rest_below(row, at, bounds, whole),
+        high: rest_above(row, at, bounds, whole),
+    })
+}

@@ -1,0 +1,111 @@
+//! The step of presolve that takes the sides which a row implies for a whole column.
+ghost use Rattle.std.specs.Prelude.{◌≡◌, ◌<◌, length, IfSome, IfOk};
+ghost use Rattle.std.specs.Bool.{OnTrue};
+ghost use Rattle.cip_presolve.specs.NarrowedPrograms.{IsExactStep};
+ghost use Rattle.cip_presolve.specs.RuleEnds.{EndsRightly};
+ghost use Rattle.cip_presolve.specs.Taken.{IsEnclosed, IsPlainWhole, IsImplied};
+
+use crate::drafts::Draft;
+use crate::extents::extent;
+use crate::implied::implied_sides;
+use crate::rests::{rests, term_at};
+use crate::rules::{Outcome, is_far};
+use cip_lin::Sides;
+use std::alloc::{AllocError, Global};
+
+/// A column, and sides for it.
+#[derive(Clone, Copy)]
+struct ColumnSides {
+    column: u32,
+    sides: Sides,
+}
+
+/// Two sides between which the activity of a row of a program in work lies: the least and the greatest activity, where
+/// they are in range.
+#[tactic(auto, using(crate::proofs::ImpliedSides::enclosing))]
+pub fn row_extent(draft: &Draft, number: usize) -> Sides
+    requires { number < length draft.now.rows }
+    ensures { IsEnclosed draft.now number result }
+{
+    extent(draft.row(number), draft.bounds())
+}
+
+/// Whether a column is whole, and not semi-continuous.
+fn is_plain_whole(draft: &Draft, column: u32) -> bool
+    requires { column < length draft.now.bounds }
+    ensures { OnTrue result (IsPlainWhole draft.now column) }
+{
+    if draft.is_semi(column) {
+        return false;
+    }
+    draft.is_whole(column)
+}
+
+/// The whole column of the term of a row at a place, and its sides met with those that the row implies; `None` where it
+/// isn't whole, or a number isn't in range, and `Err` where a growth was refused.
+#[tactic(auto, using(crate::proofs::ImpliedSides::finding))]
+fn implied(
+    alloc: Global,
+    draft: &Draft,
+    number: usize,
+    at: usize,
+    extent: Sides,
+    anew: bool,
+) -> Result<Option<ColumnSides>, AllocError>
+    requires inside { number < length draft.now.rows }
+    requires encloses { IsEnclosed draft.now number extent }
+    ensures { IfOk result (λ implied. IfSome implied (λ found. IsImplied draft.now found.column found.sides)) }
+{
+    let row = draft.row(number);
+    if at >= row.terms().len() {
+        return Ok(None);
+    }
+    let term = term_at(row, at);
+    if !is_plain_whole(draft, term.col) {
+        return Ok(None);
+    }
+    let others = rests(alloc, row, at, draft.bounds(), extent, anew)?;
+    let Some(implied) = implied_sides(alloc, row, at, others, true) else {
+        return Ok(None);
+    };
+    Ok(Some(ColumnSides {
+        column: term.col,
+        sides: draft.bounds().sides(term.col).met(implied),
+    }))
+}
+
+/// Takes the sides that a row implies for the column of its term at a place, where it is whole and they are stronger
+/// than its own and not of a size above 2^100; `NoPoint` where the low side passes the high one. The activity of the
+/// row lies between the sides `extent` in the bounds; where that term alone leaves one of them open, the rest of the
+/// row is to be summed up `anew`. `Err` comes where a growth was refused.
+#[tactic(auto, using(crate::proofs::ImpliedSides::taking))]
+pub fn try_implied(
+    alloc: Global,
+    draft: &mut Draft,
+    number: usize,
+    at: usize,
+    extent: Sides,
+    anew: bool,
+) -> Result<Outcome, AllocError>
+    requires inside { number < length draft.old.rows }
+    requires encloses { IsEnclosed draft.old number extent }
+    ensures step { IsExactStep draft.old draft.new }
+    ensures end { IfOk result (EndsRightly draft.new) }
+    ensures rows { draft.new.rows ≡ draft.old.rows }
+    ensures columns { length draft.new.bounds ≡ length draft.old.bounds }
+{
+    let Some(found) = implied(alloc, draft, number, at, extent, anew)? else {
+        return Ok(Outcome::Kept);
+    };
+    if found.sides.cross() {
+        return Ok(Outcome::NoPoint);
+    }
+    if is_far(found.sides) {
+        return Ok(Outcome::Kept);
+    }
+    if draft.bounds().sides(found.column).is_inside(found.sides) {
+        return Ok(Outcome::Kept);
+    }
+    draft.set_sides(found.column, found.sides);
+    Ok(Outcome::Tightened(found.column))
+}

@@ -1,0 +1,100 @@
+//! The values of all columns at a point that has those of the columns that stay at their places.
+ghost use Rattle.std.specs.Prelude.{◌≡◌, ◌<◌, length, IfOk, Ok, IsOk, MatchOption};
+ghost use Rattle.cip_problem.specs.Activity.{value_at};
+ghost use Rattle.cip_presolve.specs.Leaf.{at_wholes};
+ghost use Rattle.cip_presolve.specs.Forms.{filled};
+ghost use Rattle.cip_presolve.specs.StepsBack.{form_outcome, value_outcome, HasOverflow, WholesFit};
+ghost use Rattle.cip_presolve.specs.FilledPoints.{IsFilled};
+
+use crate::forms::ColumnForm;
+use cip_frac::{Frac, Wide};
+use std::alloc::{AllocError, Global};
+
+/// The value of a column at a point, 0 past the end.
+fn value_at(point: &[Frac], column: u32) -> Frac
+    ensures { result ≡ value_at point.now column }
+{
+    match point.get(column as usize) {
+        Some(value) => *value,
+        None => Frac::zero(),
+    }
+}
+
+/// The value of a form at a point, or the operation that overflows.
+fn form_outcome(form: &ColumnForm, point: &[Frac]) -> Result<Frac, Wide>
+    ensures { result ≡ form_outcome form.now point.now }
+{
+    let value = value_at(point, form.source);
+    form.constant.plus_product(form.factor, value)
+}
+
+/// The value of a column: its own at a point where it stays, and that of its form where it is gone, or the operation
+/// that overflows.
+fn value_outcome(form: &Option<ColumnForm>, point: &[Frac], column: usize) -> Result<Frac, Wide>
+    requires { column < length point.now }
+    ensures { result ≡ value_outcome form.now point.now column }
+{
+    match form {
+        Some(form) => form_outcome(form, point),
+        None => Ok(point[column]),
+    }
+}
+
+/// A point with the values of the columns that are gone, or that one of them overflows. `Err` comes where a growth was
+/// refused.
+#[tactic(auto, using(crate::proofs::FilledPoints::filling))]
+pub(crate) fn filled(
+    alloc: Global,
+    forms: &[Option<ColumnForm>],
+    point: &[Frac],
+) -> Result<Option<Vec<Frac>>, AllocError>
+    requires { length forms.now ≡ length point.now }
+    ensures { IfOk result (λ found. MatchOption found (HasOverflow forms.now point.now)
+        (λ whole. IsFilled forms.now point.now whole.items)) }
+{
+    let mut whole = Vec::new(alloc);
+    for column in 0..forms.len() {
+        let form = &forms[column];
+        match value_outcome(form, point, column) {
+            Ok(value) => whole.push(value)?,
+            Err(_) => return Ok(None),
+        }
+    }
+    Ok(Some(whole))
+}
+
+/// The value of a column that doesn't overflow.
+fn fitting_value(form: &Option<ColumnForm>, point: &[Frac], column: usize) -> Frac
+    requires inside { column < length point.now }
+    requires fits { IsOk (value_outcome form.now point.now column) }
+    ensures { value_outcome form.now point.now column ≡ Ok result }
+{
+    match value_outcome(form, point, column) {
+        Ok(value) => value,
+        Err(_) => unreachable!(),
+    }
+}
+
+/// The values of the whole columns of a point with the values of the columns that are gone. `Err` comes where a growth
+/// was refused.
+#[tactic(auto, using(crate::proofs::FilledPoints::filling_wholes))]
+pub(crate) fn wholes_filled(
+    alloc: Global,
+    forms: &[Option<ColumnForm>],
+    whole: &[bool],
+    point: &[Frac],
+) -> Result<Vec<Frac>, AllocError>
+    requires long { length forms.now ≡ length point.now }
+    requires fit { WholesFit forms.now whole.now point.now }
+    ensures { IfOk result (λ all. all.items ≡ at_wholes whole.now (filled forms.now point.now point.now)) }
+{
+    let mut all = Vec::new(alloc);
+    for column in 0..forms.len().min(whole.len()) {
+        if !whole[column] {
+            continue;
+        }
+        let form = &forms[column];
+        all.push(fitting_value(form, point, column))?;
+    }
+    Ok(all)
+}

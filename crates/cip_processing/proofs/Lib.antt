@@ -1,5 +1,0 @@
-pub mod Coming
-pub mod Closing
-pub mod Standing
-pub mod Using
-pub mod PassedOn

@@ -1,7 +1,0 @@
-use Rattle.std.proofs.Common.{sym, ap}
-use Rattle.cip_calls.specs.declared.judging.Came.{Came}
-use Rattle.cip_processing.specs.NodesReached.{left_by}
-use Rattle.cip_processing.proofs.separating.left_by.Goals as goal
-
-pub returns-in-Emptied : goal.returns-in-Emptied
-returns-in-Emptied c = sym (ap (λ (came : Came). left_by came c.args.found) c.in-Emptied.is)

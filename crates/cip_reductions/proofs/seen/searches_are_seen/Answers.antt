@@ -1,5 +1,0 @@
-use Rattle.cip_reductions.proofs.SeenEnds as law
-use Rattle.cip_reductions.proofs.seen.searches_are_seen.Goals as goal
-
-pub returns : goal.returns
-returns c = law.searches_are_seen

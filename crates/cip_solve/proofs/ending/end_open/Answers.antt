@@ -1,0 +1,54 @@
+use Rattle.std.proofs.Common.{Option, IfSome, sym, ap, ◌∙◌, subst, refl}
+use Rattle.cip_problem.specs.Log.{matters}
+use Rattle.cip_calls.specs.CoreStates.{CoreState, held_of}
+use Rattle.cip_plugin.specs.declared.proposals.Split.{Split}
+use Rattle.cip_calls.specs.SplitsJudged.{IsPlace}
+use Rattle.cip_calls.specs.Served.{Used}
+use Rattle.cip_calls.proofs.PassedOn.{if_ok}
+use Rattle.cip_calls.specs.Enforcing.{asked_of_rules}
+use Rattle.cip_solve.proofs.Coming.{ran_none}
+use Rattle.cip_solve.proofs.Using.{by_rule, by_plugin, by_bound}
+use Rattle.cip_solve.proofs.ending.end_open.Goals as goal
+
+pub end_pruned-requires-clause-passed : goal.end_pruned-requires-clause-passed
+end_pruned-requires-clause-passed g c =
+    let core = c.args.work.now.core in
+    sym (c.matters.ensures ∙ ap (λ h. matters h c.bound.result) c.held_cost.ensures ∙ ap (matters (held_of core)) c.bound.ensures) ∙ c.if-not-matters.true
+
+pub returns-then-not-matters-clause-used : goal.returns-then-not-matters-clause-used
+returns-then-not-matters-clause-used g c =
+    by_bound c.end_pruned.result.proposed c.end_pruned.result.end (g.R.Seated.state c.args.plugins.now.roster) c.args.plugins.now.judged.items c.end_pruned.ensures.kind.0 c.end_pruned.ensures.kind.1
+
+pub returns-then-not-matters-clause-kept : goal.returns-then-not-matters-clause-kept
+returns-then-not-matters-clause-kept g c =
+    (c.end_pruned.ensures.pool, c.requires.sound, ran_none (g.R.Seated.state c.args.plugins.now.roster), refl)
+
+pub ask_rules-requires-clause-at_work : goal.ask_rules-requires-clause-at_work
+ask_rules-requires-clause-at_work g c = record { up = c.requires.up.0; region = c.requires.open_.0.full.region }
+
+pub returns-in-Err-clause-kept : goal.returns-in-Err-clause-kept
+returns-in-Err-clause-kept g c =
+    (ap (λ (k : CoreState). k.pool) c.go_back.ensures.frame, c.ask_rules.ensures.sound, c.ask_rules.ensures.run, c.ask_rules.ensures.scratches)
+
+pub returns-in-Ok-None-clause-used : goal.returns-in-Ok-None-clause-used
+returns-in-Ok-None-clause-used g c =
+    if_ok c.end_by_rule.result _ _
+    (λ done none. by_rule done.proposed done.end _ _ _ _ none (subst (λ f. Used (asked_of_rules f) (g.R.Seated.state c.args.plugins.now.roster) c.args.plugins.now.judged.items (g.R.Seated.state c.ask_rules.new.plugins.roster) c.ask_rules.new.plugins.judged.items) c.in-Ok-None.field-0-is c.in-Ok-None.ensures.used))
+    c.end_by_rule.ensures.proposed
+
+pub returns-in-Ok-None-clause-kept : goal.returns-in-Ok-None-clause-kept
+returns-in-Ok-None-clause-kept g c =
+    (c.end_by_rule.ensures.pool, c.ask_rules.ensures.sound, c.ask_rules.ensures.run, c.ask_rules.ensures.scratches)
+
+pub end_parted-requires-clause-place : goal.end_parted-requires-clause-place
+end_parted-requires-clause-place g c = subst (λ (f : Option Split). IfSome f (λ split. IsPlace c.args.work.now.core split.col split.at)) c.in-Ok-Some.field-0-is c.in-Ok-Some.ensures.place
+
+pub returns-in-Ok-Some-clause-used : goal.returns-in-Ok-Some-clause-used
+returns-in-Ok-Some-clause-used g c =
+    if_ok c.end_parted.result _ _
+    (λ done some. by_plugin done.proposed done.end _ _ _ _ some (subst (λ f. Used (asked_of_rules f) (g.R.Seated.state c.args.plugins.now.roster) c.args.plugins.now.judged.items (g.R.Seated.state c.ask_rules.new.plugins.roster) c.ask_rules.new.plugins.judged.items) c.in-Ok-Some.field-0-is c.in-Ok-Some.ensures.used))
+    c.end_parted.ensures.proposed
+
+pub returns-in-Ok-Some-clause-kept : goal.returns-in-Ok-Some-clause-kept
+returns-in-Ok-Some-clause-kept g c =
+    (c.end_parted.ensures.pool, c.ask_rules.ensures.sound, c.ask_rules.ensures.run, c.ask_rules.ensures.scratches)

@@ -1,0 +1,21 @@
+use Rattle.std.proofs.Common.{◌∷◌, [], refl}
+use Rattle.cip_plugin.specs.Calls.{Propagate}
+use Rattle.cip_calls.proofs.PassedOn.{come_further}
+use Rattle.cip_solve.proofs.Using.{in_then}
+use Rattle.cip_solve.proofs.looking.narrow.Goals as goal
+
+pub returns-in-Emptied-clause-used : goal.returns-in-Emptied-clause-used
+returns-in-Emptied-clause-used g c = λ other. absurd (other refl)
+
+pub returns-in-Emptied-clause-seen : goal.returns-in-Emptied-clause-seen
+returns-in-Emptied-clause-seen g c = c.in_ok-propagate.ensures.emptied c.in-Emptied.is
+
+pub returns-in_err-tell_now-in_default-clause-come : goal.returns-in_err-tell_now-in_default-clause-come
+returns-in_err-tell_now-in_default-clause-come g c = come_further _ _ _ _ _ _ _ _ _ _ _ _ _ c.propagate.ensures.come c.tell_now.ensures.come
+
+pub returns-in_ok-tell_now-in_default-clause-come : goal.returns-in_ok-tell_now-in_default-clause-come
+returns-in_ok-tell_now-in_default-clause-come g c = come_further _ _ _ _ _ _ _ _ _ _ _ _ _ c.propagate.ensures.come c.tell_now.ensures.come
+
+pub returns-in_ok-tell_now-in_default-clause-used : goal.returns-in_ok-tell_now-in_default-clause-used
+returns-in_ok-tell_now-in_default-clause-used g c = λ still.
+    in_then (Propagate ∷ []) _ _ _ _ _ _ c.propagate.ensures.come.sound.settled (c.in_ok-propagate.ensures.used c.in_default.not-Emptied) c.in_ok-tell_now-in_default.ensures.used

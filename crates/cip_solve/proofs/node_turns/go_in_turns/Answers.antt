@@ -1,0 +1,41 @@
+use Rattle.std.proofs.Common.{[], subst}
+use Rattle.cip_calls.proofs.PassedOn.{come_further}
+use Rattle.cip_calls.proofs.PassedOn.{used_further, if_ok}
+use Rattle.cip_solve.specs.NodesReached.{IsReachedIf, IsUsedIf, asks_in_pass}
+use Rattle.cip_solve.proofs.Coming.{come_none}
+use Rattle.cip_solve.proofs.Using.{used_none, in_further}
+use Rattle.cip_solve.proofs.node_turns.go_in_turns.Goals as goal
+
+pub loop-init : goal.loop-init
+loop-init g c = record {
+  come = come_none c.args.work.now.core c.args.node.now (g.R.Seated.state c.args.plugins.now.roster) (g.R.Seated.room c.args.plugins.now.roster) c.args.plugins.now.scratches c.requires.ready.0 c.requires.ready.1;
+  used = used_none (g.R.Seated.state c.args.plugins.now.roster) c.args.plugins.now.judged.items;
+}
+
+pub loop-preserved : goal.loop-preserved
+loop-preserved g c = record {
+  come = come_further _ _ _ _ _ _ _ _ _ _ _ _ _ c.loop.invariant.come c.turn.ensures.come;
+  used = used_further [] [] _ _ _ _ _ _ c.loop.invariant.come.sound.settled c.loop.invariant.used (subst (λ t. IsUsedIf t (g.R.Seated.state c.loop.plugins.roster) c.loop.plugins.judged.items (g.R.Seated.state c.turn.new.plugins.roster) c.turn.new.plugins.judged.items) c.in-None.is c.in_ok-turn.ensures.used);
+}
+
+pub returns-in_err-turn-clause-come : goal.returns-in_err-turn-clause-come
+returns-in_err-turn-clause-come g c = come_further _ _ _ _ _ _ _ _ _ _ _ _ _ c.loop.invariant.come c.turn.ensures.come
+
+pub returns-in-Some-clause-come : goal.returns-in-Some-clause-come
+returns-in-Some-clause-come g c = come_further _ _ _ _ _ _ _ _ _ _ _ _ _ c.loop.invariant.come c.turn.ensures.come
+
+pub returns-in-Some-clause-used : goal.returns-in-Some-clause-used
+returns-in-Some-clause-used g c =
+    in_further [] asks_in_pass c.in-Some.reached _ _ _ _ _ _ c.loop.invariant.come.sound.settled c.loop.invariant.used (subst (λ t. IsUsedIf t (g.R.Seated.state c.loop.plugins.roster) c.loop.plugins.judged.items (g.R.Seated.state c.turn.new.plugins.roster) c.turn.new.plugins.judged.items) c.in-Some.is c.in_ok-turn.ensures.used)
+
+pub returns-in-Some-clause-reached : goal.returns-in-Some-clause-reached
+returns-in-Some-clause-reached g c = subst (IsReachedIf c.turn.new.work.core c.turn.new.node) c.in-Some.is c.in_ok-turn.ensures.reached
+
+pub returns-clause-come : goal.returns-clause-come
+returns-clause-come g c = come_further _ _ _ _ _ _ _ _ _ _ _ _ _ c.loop.invariant.come c.pass.ensures.come
+
+pub returns-clause-used : goal.returns-clause-used
+returns-clause-used g c =
+    if_ok c.pass.result _ _
+    (λ reached used. in_further [] asks_in_pass reached _ _ _ _ _ _ c.loop.invariant.come.sound.settled c.loop.invariant.used used)
+    c.pass.ensures.used

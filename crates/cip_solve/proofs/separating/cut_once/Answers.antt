@@ -1,0 +1,33 @@
+use Rattle.std.proofs.Common.{◌∷◌, [], ◌∙◌, sym}
+use Rattle.cip_plugin.specs.Calls.{Separate}
+use Rattle.cip_calls.proofs.PassedOn.{come_further}
+use Rattle.cip_calls.proofs.PassedOn.{cuts_not_sides, quiet_left}
+use Rattle.cip_calls.proofs.PassedOn.{accepted_open}
+use Rattle.cip_solve.proofs.Standing.{found_by, found_stays}
+use Rattle.cip_solve.proofs.Using.{all_ok, used_before}
+use Rattle.cip_solve.proofs.separating.cut_once.Goals as goal
+
+pub returns-in_err-came-clause-region : goal.returns-in_err-came-clause-region
+returns-in_err-came-clause-region g c = (c.ask_round.ensures.node cuts_not_sides).region
+
+pub returns-in-Accepted-clause-come : goal.returns-in-Accepted-clause-come
+returns-in-Accepted-clause-come g c = come_further _ _ _ _ _ _ _ _ _ _ _ _ _ c.ask_round.ensures.come c.solve_again.ensures.come
+
+pub returns-in-Accepted-clause-used : goal.returns-in-Accepted-clause-used
+returns-in-Accepted-clause-used g c =
+    let first = c.in_ok-came.ensures.used (λ e. accepted_open (sym c.in-Accepted.is ∙ e)) in
+    all_ok c.solve_again.result _
+    (λ _ _. used_before (λ r. g.R.Seated.state r) (λ v. v.items) _ _ _ _ (Separate ∷ []) _ _ c.solve_again.ensures.silent.0 c.solve_again.ensures.silent.1 first)
+
+pub returns-in-Accepted-clause-region : goal.returns-in-Accepted-clause-region
+returns-in-Accepted-clause-region g c = c.solve_again.ensures.region ∙ (c.ask_round.ensures.node cuts_not_sides).region
+
+pub returns-in_default-clause-region : goal.returns-in_default-clause-region
+returns-in_default-clause-region g c = (c.ask_round.ensures.node cuts_not_sides).region
+
+pub returns-in_default-clause-found : goal.returns-in_default-clause-found
+returns-in_default-clause-found g c =
+    let quiet = quiet_left _ (λ e. cuts_not_sides (c.in_ok-came.ensures.sides e)) c.in_default.not-Accepted in
+    found_by _ _ _ c.args.found.now (λ e. cuts_not_sides (c.in_ok-came.ensures.sides e))
+    (found_stays c.args.work.now.core c.ask_round.new.core c.args.node.now c.ask_round.new.node c.args.found.now c.ask_round.ensures.come.later (c.in_ok-came.ensures.rows quiet)
+    (c.ask_round.ensures.node cuts_not_sides) c.requires.found)

@@ -1,0 +1,14 @@
+use Rattle.std.proofs.Common.{◌≡◌, subst}
+use Rattle.cip_node.specs.Bounding.{IsBounded}
+use Rattle.cip_solve.specs.NodesReached.{IsFoundAt}
+use Rattle.cip_solve.proofs.separating.solve_again.Goals as goal
+
+pub returns-in-Empty-clause-found : goal.returns-in-Empty-clause-found
+returns-in-Empty-clause-found g c = subst (IsBounded c.solve_lp.new.work.core c.solve_lp.new.node) c.in-Empty.is c.in_ok-solve_lp.ensures.bounded
+
+pub returns-in-Open-clause-found : goal.returns-in-Open-clause-found
+returns-in-Open-clause-found g c =
+    let core = c.solve_lp.new.work.core in
+    let node = c.solve_lp.new.node in
+    let kept : c.in-Open.newer ≡ c.replace.new.dest = cc in
+    subst (IsFoundAt core node) kept (subst (IsBounded core node) c.in-Open.is c.in_ok-solve_lp.ensures.bounded)

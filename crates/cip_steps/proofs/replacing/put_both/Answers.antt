@@ -1,7 +1,0 @@
-use Rattle.cip_steps.proofs.TermsPut.{under_ok}
-use Rattle.cip_steps.proofs.RowsReplaced.{other_way}
-use Rattle.cip_steps.proofs.replacing.put_both.Goals as goal
-
-pub returns-else-own-other : goal.returns-else-own-other
-returns-else-own-other c =
-    under_ok _ (λ a. other_way c.args.new.now _ c.args.own c.args.other c.args.terms.now a) c.put_all-else-own-other.ensures

@@ -1,9 +1,0 @@
-use Rattle.cip_steps.specs.ColumnForms.{IsReplacedIn}
-use Rattle.cip_steps.proofs.Substituting.{replaced_by}
-use Rattle.cip_steps.proofs.steps.try_replace.Goals as goal
-
-pub returns-clause-step : goal.returns-clause-step
-returns-clause-step c =
-    let replaced : IsReplacedIn c.row.result.now c.args.column c.args.form.now c.in-Some.row = rw c.in-Some.is at c.in_ok-row.ensures in
-    replaced_by c.args.draft.now c.set_row.new.self c.args.number c.args.place c.args.column c.args.form.now c.row.result.now c.in-Some.row
-    c.if-number-place.false c.requires.there c.row.ensures.row c.requires.gives replaced c.set_row.ensures

@@ -1,5 +1,0 @@
-use Rattle.cip_tasks.proofs.FormedPrograms as formed
-use Rattle.cip_tasks.proofs.generator_laws.generated_are_formed.Goals as goal
-
-pub returns : goal.returns
-returns c = formed.generated_are_formed

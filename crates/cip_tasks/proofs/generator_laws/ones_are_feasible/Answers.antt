@@ -1,5 +1,0 @@
-use Rattle.cip_tasks.proofs.FeasibleOnes as ones
-use Rattle.cip_tasks.proofs.generator_laws.ones_are_feasible.Goals as goal
-
-pub returns : goal.returns
-returns c = ones.ones_are_feasible

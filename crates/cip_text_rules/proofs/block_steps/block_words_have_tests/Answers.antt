@@ -1,0 +1,24 @@
+use Rattle.std.proofs.Common.{◌≡◌, ℕ, not, cond, Option, None, Some, refl, ap}
+use Rattle.std.specs.Prelude.{is_none, is_some}
+use Rattle.cip_text_rules.specs.MpsWords.{number_in}
+use Rattle.cip_text_rules.specs.BlockSteps.{is_placed, row_place}
+use Rattle.cip_text_rules.proofs.block_steps.block_words_have_tests.Goals as goal
+
+not_some : (o : Option ℕ) → not (is_some o) ≡ is_none o
+not_some None = refl
+not_some (Some k) = refl
+
+pub returns : goal.returns
+returns c = record {
+  presolved = λ program state. refl;
+  count_opens = λ program state. refl;
+  block_opens = λ program state. refl;
+  master = λ program state. refl;
+  out_of_place = λ program state. refl;
+  zero = λ program state. refl;
+  count = λ program state number. refl;
+  number = λ program state number. refl;
+  name = λ program state block name.
+      ap (λ t. cond {A = Option ℕ} t (Some 4) (cond (is_placed (row_place state.rows (number_in program.row_names name))) (Some 5) None))
+      (not_some (number_in program.row_names name));
+}

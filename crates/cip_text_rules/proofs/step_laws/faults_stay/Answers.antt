@@ -1,0 +1,9 @@
+use Rattle.cip_text_rules.proofs.LineFaults.{faults_stay}
+use Rattle.cip_text_rules.proofs.LineEnded.{GoodStage}
+use Rattle.cip_text_rules.specs.MpsOutcome.{mps_records, mps_reading}
+use Rattle.cip_text_rules.specs.MpsSteps.{record_steps, mps_steps}
+use Rattle.cip_text_rules.proofs.ReadLines.{GoodState, steps_stand}
+use Rattle.cip_text_rules.proofs.step_laws.faults_stay.Goals as goal
+
+pub returns : goal.returns
+returns c = faults_stay mps_reading mps_steps (GoodStage mps_records record_steps GoodState) steps_stand

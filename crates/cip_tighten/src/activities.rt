@@ -1,0 +1,295 @@
+//! The propagator of what rows come to in a box.
+ghost use Rattle.std.specs.Prelude.{None, codes};
+
+use crate::budgets::Budget;
+use crate::implied::{Implied, Narrowing, Region, Source, list_implied};
+use crate::patience::Patience;
+use crate::reductions::{MOST_REDUCTIONS, multiple_of, reduction_of};
+use crate::watched::Watched;
+use cip_frac::Frac;
+use cip_lin::{Row, RowId, Side, Sides};
+use cip_plugin::{Plugin, Propagator, Reduction, View};
+use std::alloc::{AllocError, Global};
+
+// The most terms of rows that a call looks at, but for those of its last row.
+const MOST_TERMS: usize = 1 << 20;
+
+/// A propagator: sides of columns that rows of the program imply by the least and the greatest that they come to in the
+/// node's box, and in what its own sides leave of that. A row is looked at again once a side of one of its columns has
+/// changed, but not for its own sides; the cutoff row along with others, or once another cost is held. Behind each call
+/// that brought nothing twice as many calls go by until the next that looks, and it does a bounded share of the nodes'
+/// work.
+#[derive(Drop)]
+pub struct ActivityPropagator {
+    watched: Watched,
+    sides: Vec<Sides>,
+    implied: Vec<Implied>,
+    held: Option<Frac>,
+    patience: Patience,
+    budget: Budget,
+}
+
+/// Whether a value lies between these sides.
+fn has_values(sides: Sides) -> bool {
+    match (sides.low, sides.high) {
+        (Some(low), Some(high)) => low <= high,
+        _ => true,
+    }
+}
+
+/// Sides with one of them taken over.
+fn with_side(own: Sides, implied: Implied) -> Sides {
+    let value = Some(implied.value);
+    match implied.side {
+        Side::Low => Sides {
+            low: value,
+            high: own.high,
+        },
+        Side::High => Sides {
+            low: own.low,
+            high: value,
+        },
+    }
+}
+
+/// Takes a side of a column, and answers whether the column has a value left.
+fn narrowed(sides: &mut [Sides], implied: Implied) -> bool {
+    let place = implied.col as usize;
+    if place >= sides.len() {
+        return true;
+    }
+    let own = with_side(sides[place], implied);
+    sides[place] = own;
+    has_values(own)
+}
+
+/// Adds sides that a row by one of its sides implies.
+fn add_sides(
+    alloc: Global,
+    id: RowId,
+    source: Source,
+    implied: &[Implied],
+    reductions: &mut Vec<Reduction>,
+) -> Result<(), AllocError> {
+    let multiple = multiple_of(id, source);
+    for item in implied {
+        reductions.push(reduction_of(alloc, *item, &[multiple])?)?;
+    }
+    Ok(())
+}
+
+impl ActivityPropagator {
+    /// One that was never called. It takes no memory.
+    pub fn new(alloc: Global) -> ActivityPropagator {
+        ActivityPropagator {
+            watched: Watched::new(alloc),
+            sides: Vec::new(alloc),
+            implied: Vec::new(alloc),
+            held: None,
+            patience: Patience::new(),
+            budget: Budget::new(),
+        }
+    }
+
+    /// Takes the node's box, and has the rows wait of the columns whose sides have changed.
+    fn look(&mut self, sides: &[Sides]) -> Result<(), AllocError> {
+        self.watched.look(sides)?;
+        self.sides.clear();
+        self.sides.extend_from_slice(sides)
+    }
+
+    /// Takes the sides that were listed, and has the rows of their columns wait. Answers whether each column has a
+    /// value left.
+    fn take_sides(&mut self) -> Result<bool, AllocError> {
+        for item in &self.implied {
+            if !narrowed(self.sides.as_mut_slice(), *item) {
+                return Ok(false);
+            }
+            self.watched.wait_for_column(item.col)?;
+        }
+        Ok(true)
+    }
+
+    /// Adds what a row by one of its sides implies, and answers whether the box may have a point.
+    fn narrow_by(
+        &mut self,
+        alloc: Global,
+        view: &View<'_>,
+        id: RowId,
+        row: &Row,
+        source: Source,
+        reductions: &mut Vec<Reduction>,
+    ) -> Result<bool, AllocError> {
+        let region = Region {
+            sides: self.sides.as_slice(),
+            whole: view.whole,
+            is_exact: false,
+        };
+        let most = MOST_REDUCTIONS.saturating_sub(reductions.len());
+        self.implied.clear();
+        let narrowing = list_implied(row, source, &region, most, &mut self.implied)?;
+        let times = self.implied.len().saturating_add(1);
+        self.budget.spend(row.terms().len().saturating_mul(times));
+        add_sides(alloc, id, source, self.implied.as_slice(), reductions)?;
+        if narrowing == Narrowing::Contradiction {
+            return Ok(false);
+        }
+        self.take_sides()
+    }
+
+    /// Adds what a row implies, and answers whether the call ends behind it: no point of the box keeps the row, or the
+    /// list is full.
+    fn narrow(
+        &mut self,
+        alloc: Global,
+        view: &View<'_>,
+        id: RowId,
+        row: &Row,
+        reductions: &mut Vec<Reduction>,
+    ) -> Result<bool, AllocError> {
+        for source in [Source::AtLeast, Source::AtMost] {
+            if !self.narrow_by(alloc, view, id, row, source, reductions)? {
+                return Ok(true);
+            }
+        }
+        Ok(reductions.len() >= MOST_REDUCTIONS)
+    }
+
+    /// The same of the cutoff row, where there is one.
+    fn narrow_by_cost(
+        &mut self,
+        alloc: Global,
+        view: &View<'_>,
+        reductions: &mut Vec<Reduction>,
+    ) -> Result<bool, AllocError> {
+        match view.cutoff {
+            Some(row) => self.narrow(alloc, view, RowId::Cutoff, row, reductions),
+            None => Ok(false),
+        }
+    }
+
+    /// The same of a row of the program, which waits again where the call ends behind it.
+    fn narrow_by_row(
+        &mut self,
+        alloc: Global,
+        view: &View<'_>,
+        number: u32,
+        row: &Row,
+        reductions: &mut Vec<Reduction>,
+    ) -> Result<bool, AllocError> {
+        let ends = self.narrow(alloc, view, RowId::Own(number), row, reductions)?;
+        self.watched.end(number);
+        if ends {
+            self.watched.wait_for(number)?;
+        }
+        Ok(ends)
+    }
+
+    /// Adds what the rows that wait imply.
+    fn narrow_by_rows(
+        &mut self,
+        alloc: Global,
+        view: &View<'_>,
+        reductions: &mut Vec<Reduction>,
+    ) -> Result<(), AllocError> {
+        let mut terms = 0usize;
+        for _ in 0..MOST_TERMS {
+            let Some(number) = self.watched.next() else {
+                return Ok(());
+            };
+            let Some(row) = view.own.get(number as usize) else {
+                return Ok(());
+            };
+            terms = terms.saturating_add(row.terms().len());
+            if self.narrow_by_row(alloc, view, number, row, reductions)? || terms > MOST_TERMS {
+                return Ok(());
+            }
+        }
+        Ok(())
+    }
+
+    /// Adds what the cutoff row and the rows that wait imply.
+    fn narrow_all(
+        &mut self,
+        alloc: Global,
+        view: &View<'_>,
+        reductions: &mut Vec<Reduction>,
+    ) -> Result<(), AllocError> {
+        if !self.narrow_by_cost(alloc, view, reductions)? {
+            self.narrow_by_rows(alloc, view, reductions)?;
+        }
+        self.watched.see(self.sides.as_slice())
+    }
+
+    /// Whether a row waits, or another cost is held than when rows were looked at last.
+    fn has_work(&mut self, view: &View<'_>) -> bool {
+        let is_new = self.held != view.held;
+        self.held = view.held;
+        is_new || self.watched.count() > 0
+    }
+
+    /// Adds what is implied, and notes whether there was anything.
+    fn look_and_narrow(
+        &mut self,
+        alloc: Global,
+        view: &View<'_>,
+        reductions: &mut Vec<Reduction>,
+    ) -> Result<(), AllocError> {
+        self.look(view.bounds.as_slice())?;
+        if !self.has_work(view) {
+            return Ok(());
+        }
+        self.narrow_all(alloc, view, reductions)?;
+        if reductions.is_empty() {
+            self.patience.lose();
+        } else {
+            self.patience.gain(0);
+        }
+        Ok(())
+    }
+}
+
+impl Plugin for ActivityPropagator {
+    ghost told = { λ _. None };
+
+    ghost label = { λ _. codes "activity" };
+
+    fn name(&self) -> &str {
+        "activity"
+    }
+
+    fn priority(&self) -> i32 {
+        20
+    }
+
+    fn init(&mut self, _alloc: Global) -> Result<(), AllocError> {
+        Ok(())
+    }
+
+    fn init_solve(&mut self, _alloc: Global, view: &View<'_>) -> Result<(), AllocError> {
+        self.held = None;
+        self.patience = Patience::new();
+        self.budget.begin(view.own);
+        self.watched
+            .take(view.own, view.whole, view.bounds.as_slice())
+    }
+
+    fn exit_solve(&mut self) {
+        self.watched.calm();
+    }
+
+    fn exit(&mut self) {}
+}
+
+impl Propagator for ActivityPropagator {
+    fn propagate(&mut self, alloc: Global, view: &View<'_>) -> Result<Vec<Reduction>, AllocError> {
+        let mut reductions = Vec::new(alloc);
+        if !self.budget.may_begin() || !self.patience.is_turn() {
+            return Ok(reductions);
+        }
+        match self.look_and_narrow(alloc, view, &mut reductions) {
+            Ok(()) => Ok(reductions),
+            Err(fault) => Err(fault),
+        }
+    }
+}
