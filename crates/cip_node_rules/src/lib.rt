@@ -1,6 +1,6 @@
 //! What is done with a node by the look of its box and of a point: whether it is empty or a leaf, whether it is
-//! pruned, where it is split, and whether its bound may be rounded; and two decisions of the checks of combinations: how
-//! many entries one may have, and which coefficients let a row be rounded.
+//! pruned, where it is split, and whether its bound may be rounded; and two decisions of the checks of combinations:
+//! how many entries one may have, and which coefficients let a row be rounded.
 #![tactic(auto)]
 
 mod choices;
