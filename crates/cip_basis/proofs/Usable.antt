@@ -14,6 +14,7 @@ use Rattle.cip_cert.specs.declared.faults.CutFault.{CutFault}
 use Rattle.cip_cert.specs.Pool.{pool_row}
 use Rattle.cip_cert.specs.Lent.{Lent, KeptFits, Fits, Multiples, count_of}
 use Rattle.cip_cert.specs.Checks.{chain, named_row, in_scope, row_part, add_part, add_row, add_rows, add_lows, add_highs, nothing, aggregate_of, bound_from, rests_from, lower_bound_of, rests_of, positive, emptied}
+use Rattle.cip_cert.proofs.Released.{pool_row_of}
 use Rattle.cip_node_rules.specs.RowRules.{most_multiples}
 use Rattle.cip_rows.specs.RowPools.{usable_in}
 
@@ -47,10 +48,6 @@ cond_keeps true r a b h = λ v e. e
 cond_keeps false r a b h = h
 
 -- ---- rows by their names
-
-pool_row_of : (t : Bool) (xs ys : List PoolRow) (id : ℕ) → pool_row (cond t xs ys) id ≡ cond t (pool_row xs id) (pool_row ys id)
-pool_row_of true xs ys id = refl
-pool_row_of false xs ys id = refl
 
 found_usable : (box : List Sides) (entry : ℕ) (pool : List PoolRow) (id : ℕ) → Keeps (in_scope entry box (pool_row pool id)) (in_scope entry box (pool_row (usable_in box pool) id))
 found_usable box entry [] id = λ row e. e

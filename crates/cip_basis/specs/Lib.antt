@@ -1,4 +1,2 @@
 pub mod PointTests
 pub mod Shown
-pub use Rattle.cip_rows.specs.Improving
-pub use Rattle.cip_rows.specs.RowPools

@@ -37,8 +37,6 @@ mod variables;
 
 pub use basis::Basis;
 pub use cip_cert::Scratch;
-pub use cip_frac::Frac;
-pub use cip_rows::RowPool;
 pub use given::Given;
 pub use guesses::{Guess, Outcome};
 pub use multipliers::{RowMultiplier, rounded_outward};

@@ -1,7 +1,7 @@
 -- Fewer states than 4 to the number of variables: each stands for a number below that.
-use Rattle.std.proofs.Common.{◌≡◌, ◌⊎◌, ℕ, zero, suc, ◌+◌, ◌*◌, ◌^◌, ◌<◌, ◌≤◌, Bool, true, false, ◌||◌, List, [], ◌∷◌, length, Option, None, Some, refl, sym, ap, ◌∙◌, subst, inl, inr, arith, eqb}
+use Rattle.std.proofs.Common.{◌≡◌, ℕ, zero, suc, ◌+◌, ◌*◌, ◌^◌, ◌<◌, ◌≤◌, true, false, List, [], ◌∷◌, length, Option, None, Some, refl, sym, ap, ◌∙◌, subst, inl, inr, arith, eqb}
 use Rattle.std.specs.List.{AllByRecursion, IsDistinct, list_any}
-use Rattle.std.proofs.lemmas.Bool.{true≢false, cases_eq, ne_eqb, eqb-true}
+use Rattle.std.proofs.lemmas.Bool.{true≢false, cases_eq, ne_eqb, eqb-true, or_cases}
 use Rattle.std.proofs.lemmas.Map.Keys.{IsDistinct-cons}
 use Rattle.std.proofs.lemmas.Map.Steps.{length-le_from_distinct_below}
 use Rattle.cip_bland.specs.declared.moves.Stand.{Stand}
@@ -79,16 +79,12 @@ distinct g zero h = IsDistinct-cons eqb (g 0) [] tt tt
 distinct g (suc n) h =
     IsDistinct-cons eqb (g (suc n)) (numbers g n) (apart g (g (suc n)) n (λ i l e. h i (suc n) (omega (arith, l)) (omega arith) (sym e))) (distinct g n (λ i j l m. h i j l (omega (arith, m))))
 
-either_true : (a b : Bool) → (a || b) ≡ true → (a ≡ true) ⊎ (b ≡ true)
-either_true true b e = inl refl
-either_true false b e = inr e
-
 all_below : (g : ℕ → ℕ) (m n q : ℕ) → ((i : ℕ) → i ≤ n → g i < m) → list_any (eqb q) (numbers g n) ≡ true → q < m
-all_below g m zero q h e = elim (either_true (eqb q (g 0)) false e) [
+all_below g m zero q h e = elim (or_cases (eqb q (g 0)) false e) [
   | inl t ↦ omega (arith, eqb-true q (g 0) t, h 0 (omega arith))
   | inr f ↦ absurd (true≢false (sym f))
 ]
-all_below g m (suc n) q h e = elim (either_true (eqb q (g (suc n))) (list_any (eqb q) (numbers g n)) e) [
+all_below g m (suc n) q h e = elim (or_cases (eqb q (g (suc n))) (list_any (eqb q) (numbers g n)) e) [
   | inl t ↦ omega (arith, eqb-true q (g (suc n)) t, h (suc n) (omega arith))
   | inr f ↦ all_below g m n q (λ i l. h i (omega (arith, l))) f
 ]

@@ -1,6 +1,6 @@
 -- A move by which the cost falls: its way isn't negative, all values are between their sides after it, the cost falls by
 -- the length of the way, and a flip has a length above 0.
-use Rattle.std.proofs.Common.{◌≡◌, ℕ, ◌<◌, true, false, cond, is_some, [], ◌∷◌, Option, None, Some, IfSome, unwrap_or, refl, sym, ap, ap₂, ◌∙◌, subst, inl, inr, arith}
+use Rattle.std.proofs.Common.{◌≡◌, ℕ, ◌<◌, true, false, cond, is_some, [], ◌∷◌, Option, None, Some, IfSome, refl, sym, ap, ap₂, ◌∙◌, subst, inl, inr, arith}
 use Rattle.std.proofs.lemmas.Bool.{true≢false, and_from}
 use Rattle.std.proofs.lemmas.Option.{none-some}
 use Rattle.cip_rational.specs.Rational.{ℚ, ◌+ℚ◌, ◌-ℚ◌, ◌*ℚ◌, negate, zeroℚ, ◌≤ℚ◌, ◌<ℚ◌}
@@ -20,7 +20,7 @@ use Rattle.cip_bland.specs.EndAnswers.{change_of}
 use Rattle.cip_bland.specs.declared.steps.Heading.{Heading}
 use Rattle.cip_bland.specs.declared.steps.Heading.TheVariants.{Up, Down}
 use Rattle.cip_bland.proofs.Searches.{IsShortest}
-use Rattle.cip_bland.proofs.SideCases.{goal_some}
+use Rattle.cip_bland.proofs.SideCases.{goal_some, there_is}
 use Rattle.cip_bland.proofs.StateFacts.{at_stand}
 use Rattle.cip_bland.proofs.Emptiness.{along-mul}
 use Rattle.cip_bland.proofs.RayEnds.{falls_along, change_here}
@@ -61,10 +61,6 @@ stays_inside Down low high x y b p f = record { above = ahead low f; below = beh
 -- a variable that stands not at the side ahead, and yet has its value, has equal sides
 equal_at : (low high : Option ℚ) (x : ℚ) → is_some low ≡ true → low ≡ Some x → high ≡ Some x → sides_equal low high ≡ true
 equal_at low high x there l h = ap₂ sides_equal l h ∙ and_from _ _ (test_of_le (≤ℚ_refl x)) (test_of_le (≤ℚ_refl x))
-
-there_is : (o : Option ℚ) (x : ℚ) → is_some o ≡ true → x ≡ unwrap_or o zeroℚ → o ≡ Some x
-there_is None x c e = absurd (true≢false (sym c))
-there_is (Some q) x c e = ap Some (sym e)
 
 pub equal_sides : (heading : Heading) (s : Sides) (at : Stand) (x : ℚ) → is_ahead heading at ≡ false → CanStand s at → x ≡ standing_value s at → side_ahead heading s ≡ Some x → sides_equal s.low s.high ≡ true
 equal_sides Up s Low x n c e a = equal_at s.low s.high x c (there_is s.low x c e) a

@@ -38,7 +38,7 @@ dot-replicate zero xs = refl
 dot-replicate (suc n) [] = refl
 dot-replicate (suc n) (x ∷ xs) = rw (zero-*ℚ x, dot-replicate n xs) (zero-+ℚ zeroℚ)
 
-length-zeros : (n : ℕ) → length (replicate n zeroℚ) ≡ n
+pub length-zeros : (n : ℕ) → length (replicate n zeroℚ) ≡ n
 length-zeros zero = refl
 length-zeros (suc n) = ap suc (length-zeros n)
 

@@ -1,5 +1,5 @@
 -- An exchange and a flip keep a state consistent, and its solutions and cost.
-use Rattle.std.proofs.Common.{◌≡◌, ℕ, ◌<◌, true, false, not, is_some, [], ◌∷◌, Option, None, Some, refl, sym, ap, ◌∙◌, inl, inr, arith}
+use Rattle.std.proofs.Common.{◌≡◌, ℕ, ◌<◌, true, false, not, is_some, [], ◌∷◌, None, Some, refl, sym, ap, ◌∙◌, inl, inr, arith}
 use Rattle.std.proofs.lemmas.Bool.{cases_eq, true≢false}
 use Rattle.cip_rational.specs.Rational.{ℚ, ◌+ℚ◌, ◌-ℚ◌, ◌*ℚ◌, zeroℚ, oneℚ}
 use Rattle.cip_rational.proofs.Rational.Ring.{+ℚ-zero, *ℚ_assoc, *ℚ_comm, one-*ℚ, *ℚ-zero, sub_self}
@@ -17,6 +17,7 @@ use Rattle.cip_bland.proofs.Tables.{form_same, form_at_same}
 use Rattle.cip_bland.proofs.Forms.{IsFree, solved_leaving, solved_absent, substituted_absent, absent_basic, absent_entering, form-solved, form-substituted}
 use Rattle.cip_bland.proofs.States.{exchanged-cost_entry, exchanged-value, entered-entry, stayed-entry, left_stand, entered_stand, stayed_stand, flipped-value, turned_stand, unturned_stand}
 use Rattle.cip_bland.proofs.Values.{Solves-same, moved_here, moved_basic, moved_other, moved_solves, moved_cost_is}
+use Rattle.cip_bland.proofs.StateFacts.{nonbasic_at, stand_of_nonbasic, basic_at}
 
 -- ---- the arithmetic of one line
 
@@ -39,12 +40,6 @@ arrives : (p q v side : ℚ) → p *ℚ q ≡ oneℚ → v +ℚ p *ℚ ((side -�
 arrives p q v side one =
     let e : p *ℚ ((side -ℚ v) *ℚ q) ≡ side -ℚ v = ap (λ t. p *ℚ t) (*ℚ_comm (side -ℚ v) q) ∙ sym (*ℚ_assoc p q _) ∙ ap (λ t. t *ℚ (side -ℚ v)) one ∙ one-*ℚ _ in
     ap (λ t. v +ℚ t) e ∙ linear_same (v ∷ side ∷ []) (λ s w. omega arith)
-
-nonbasic_of : (d : Dictionary) (v : ℕ) (at : Stand) → stand d v ≡ Some at → is_basic d v ≡ false
-nonbasic_of d v at e = ap (λ s. not (is_some s)) e
-
-basic_of : (d : Dictionary) (v : ℕ) → stand d v ≡ None → is_basic d v ≡ true
-basic_of d v e = ap (λ s. not (is_some s)) e
 
 different : (d : Dictionary) (v w : ℕ) → is_basic d v ≡ true → is_basic d w ≡ false → ¬ (v ≡ w)
 different d v w b n e = true≢false (sym b ∙ ap (is_basic d) e ∙ n)
@@ -98,7 +93,7 @@ module _ (d : Dictionary) (i j : ℕ) (to : Stand) (c : IsConsistent d) (h : Can
   basic_after : (v : ℕ) → v < size d → is_basic (exchanged d i j to) v ≡ true → After v
   basic_after v l b =
       elim (cases_eq v i) [
-        | inl e ↦ absurd (true≢false (sym b ∙ ap (is_basic (exchanged d i j to)) e ∙ nonbasic_of (exchanged d i j to) i to (left_stand d i j to h.leaving)))
+        | inl e ↦ absurd (true≢false (sym b ∙ ap (is_basic (exchanged d i j to)) e ∙ nonbasic_at (exchanged d i j to) i to (left_stand d i j to h.leaving)))
         | inr ni ↦ elim (cases_eq v j) [
           | inl e ↦ entered e
           | inr nj ↦ stayed ni nj (sym (ap (λ s. not (is_some s)) (stayed_stand d i j to v ni nj l)) ∙ b)
@@ -139,7 +134,7 @@ module _ (d : Dictionary) (i j : ℕ) (to : Stand) (c : IsConsistent d) (h : Can
   new_solves : (x : ℕ → ℚ) → Solves (exchanged d i j to) x → form (size d) (entering d i j) x ≡ x j
   unfolding exchanged
   new_solves x s =
-      sym (entered_line x) ∙ sym (s j h.entering (basic_of (exchanged d i j to) j (entered_stand d i j to apart' h.entering)))
+      sym (entered_line x) ∙ sym (s j h.entering (basic_at (exchanged d i j to) j (entered_stand d i j to apart' h.entering)))
 
   solution_back : (x : ℕ → ℚ) → Solves (exchanged d i j to) x → (v : ℕ) → v < size d → is_basic d v ≡ true → x v ≡ form (size d) (entry d v) x
   unfolding exchanged
@@ -175,7 +170,7 @@ module _ (d : Dictionary) (i j : ℕ) (to : Stand) (c : IsConsistent d) (h : Can
               absurd (cc))
           | inr nj ↦ (let before : stand d v ≡ Some at = sym (stayed_stand d i j to v ni nj l) ∙ e in
               let old : Stands d v at = c.stands v at l before in
-              record { can_stand = old.can_stand; has_value = exchanged-value d i j to v l ∙ moved_other d j (step d i j to) v nj (nonbasic_of d v at before) ∙ old.has_value })
+              record { can_stand = old.can_stand; has_value = exchanged-value d i j to v l ∙ moved_other d j (step d i j to) v nj (nonbasic_at d v at before) ∙ old.has_value })
         ]
       ]
 
@@ -225,14 +220,6 @@ can_turn sides Low c low high = high
 can_turn sides High c low high = low
 can_turn sides Zero c low high = absurd (true≢false (sym low ∙ ap is_some c.0))
 
--- a nonbasic variable stands somewhere
-somewhere : (d : Dictionary) (v : ℕ) → is_basic d v ≡ false → (at : Stand) × (stand d v ≡ Some at)
-somewhere d v n = go (stand d v) refl n
-  where
-    go : (s : Option Stand) → stand d v ≡ s → not (is_some s) ≡ false → (at : Stand) × (stand d v ≡ Some at)
-    go None e n = absurd (true≢false n)
-    go (Some at) e n = (at, e)
-
 module _ (d : Dictionary) (j : ℕ) (c : IsConsistent d) (h : CanFlip d j) where
   flip_stand : (at : Stand) → stand d j ≡ Some at → CanStand (sides_at d.sides j) (other_stand (stand d j))
   flip_stand at e =
@@ -247,7 +234,7 @@ module _ (d : Dictionary) (j : ℕ) (c : IsConsistent d) (h : CanFlip d j) where
   flipped_basic : (v : ℕ) → v < size d → is_basic (flipped d j) v ≡ is_basic d v
   flipped_basic v l =
       elim (cases_eq v j) [
-        | inl e ↦ rw e (nonbasic_of (flipped d j) j (other_stand (stand d j)) (turned_stand d j h.within) ∙ sym h.nonbasic)
+        | inl e ↦ rw e (nonbasic_at (flipped d j) j (other_stand (stand d j)) (turned_stand d j h.within) ∙ sym h.nonbasic)
         | inr nj ↦ ap (λ s. not (is_some s)) (unturned_stand d j v nj l)
       ]
 
@@ -265,11 +252,11 @@ module _ (d : Dictionary) (j : ℕ) (c : IsConsistent d) (h : CanFlip d j) where
       elim (cases_eq v j) [
         | inl same ↦ (let is : Some (other_stand (stand d j)) ≡ Some at = sym (turned_stand d j h.within) ∙ sym (ap (stand (flipped d j)) same) ∙ e in
             let is' : other_stand (stand d j) ≡ at = cc in
-            let before = somewhere d j h.nonbasic in
+            let before = stand_of_nonbasic d j h.nonbasic in
             rw (same, ← is') (record { can_stand = flip_stand before.0 before.1; has_value = reached }))
         | inr nj ↦ (let before : stand d v ≡ Some at = sym (unturned_stand d j v nj l) ∙ e in
             let old : Stands d v at = c.stands v at l before in
-            record { can_stand = old.can_stand; has_value = flipped-value d j v l ∙ moved_other d j (way d j) v nj (nonbasic_of d v at before) ∙ old.has_value })
+            record { can_stand = old.can_stand; has_value = flipped-value d j v l ∙ moved_other d j (way d j) v nj (nonbasic_at d v at before) ∙ old.has_value })
       ]
 
   flip_values : Solves (flipped d j) (value (flipped d j))

@@ -16,7 +16,7 @@ use Rattle.cip_bland.specs.declared.steps.Heading.TheVariants.{Down}
 use Rattle.cip_bland.proofs.SideCases.{outside_past, can_stand_ahead, IsGoal, goal_some, goal_can_stand, MayGo, goes, two_sides}
 use Rattle.cip_bland.proofs.StateFacts.{nonbasic_at, at_stand}
 
-from_not : (b : Bool) → not b ≡ true → b ≡ false
+pub from_not : (b : Bool) → not b ≡ true → b ≡ false
 from_not true e = absurd (true≢false (sym e))
 from_not false e = refl
 

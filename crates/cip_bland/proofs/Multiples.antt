@@ -18,8 +18,8 @@ use Rattle.cip_bland.specs.FirstState.{extended as first_extended}
 use Rattle.cip_bland.specs.ProgramState.{system_of, first_of_program}
 use Rattle.cip_bland.proofs.Tables.{length-table, at_table, form_same, form_at_same}
 use Rattle.cip_bland.proofs.First.{first_states_tell}
-use Rattle.cip_bland.proofs.Programs.{programs_are_told}
-use Rattle.cip_bland.proofs.PointsOf.{form-dot, size_is, sides_of_column, sides_of_row}
+use Rattle.cip_bland.proofs.Programs.{programs_are_told, form-dot}
+use Rattle.cip_bland.proofs.PointsOf.{size_is, sides_of_column, sides_of_row}
 
 -- ---- sums
 

@@ -13,9 +13,10 @@ use Rattle.cip_bland.specs.LinearProgram.{LinearProgram}
 use Rattle.cip_bland.specs.Aggregate.{Part, used_side}
 use Rattle.cip_bland.specs.Multipliers.{IsUsed, row_sides, row_parts, column_part, low_parts, high_parts, combination}
 use Rattle.cip_problem.proofs.Parts.{used_low, used_high}
+use Rattle.cip_problem.proofs.Rows.{zero_of_test}
 use Rattle.cip_bland.specs.Tables.{table, each}
 use Rattle.cip_bland.proofs.Tables.{length-table, at_table}
-use Rattle.cip_bland.proofs.Zeros.{zero_of, nonzero_of}
+use Rattle.cip_bland.proofs.Zeros.{nonzero_of}
 use Rattle.cip_bland.specs.EndAnswers.{Multiple, row_part, low_part, high_part, parts_of, any_multiple, low_multiple, high_multiple, certificate_of}
 use Rattle.cip_bland.proofs.Multiples.{on_variables, UsedAll, row_used, column_used}
 
@@ -70,8 +71,8 @@ highs_same column (y ∷ ys) (u ∷ us) f l h =
 -- ---- one multiple
 
 any_case : (program : LinearProgram) (r : ℕ) (y u : ℚ) (row : Row) → get_or program.rows r no_row ≡ row → IsUsed y (row_sides row) u → (z p n : Bool) → is_zero y ≡ z → lt_test zeroℚ y ≡ p → lt_test y zeroℚ ≡ n → map (row_part program) (cond z [] (record { number = r; factor = y } ∷ [])) ≡ cond (p || n) (row_of row y u ∷ []) []
-any_case program r y u row same used true true n ez ep en = absurd (not_le_of_lt (lt_of_test ep) (≤ℚ_of_eq (zero_of y ez)))
-any_case program r y u row same used true false true ez ep en = absurd (not_le_of_lt (lt_of_test en) (≤ℚ_of_eq (sym (zero_of y ez))))
+any_case program r y u row same used true true n ez ep en = absurd (not_le_of_lt (lt_of_test ep) (≤ℚ_of_eq (zero_of_test y ez)))
+any_case program r y u row same used true false true ez ep en = absurd (not_le_of_lt (lt_of_test en) (≤ℚ_of_eq (sym (zero_of_test y ez))))
 any_case program r y u row same used true false false ez ep en = refl
 any_case program r y u row same used false true n ez ep en =
     ap (λ (t : Row). record { factor = y; terms = t.terms; side = unwrap_or (used_side y t.low t.high) zeroℚ } ∷ []) same

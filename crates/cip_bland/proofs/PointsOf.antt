@@ -1,53 +1,31 @@
 -- Numbers that solve a state of a program are its points with their activities, and its forms their sums.
-use Rattle.std.proofs.Common.{◌≡◌, ℕ, zero, suc, ◌+◌, ◌<◌, List, [], ◌∷◌, length, map, get_or, slice_get, cond, false, Some, refl, sym, ap, ◌∙◌, subst, arith}
-use Rattle.std.specs.List.{AllZip, AllByRecursion}
+use Rattle.std.proofs.Common.{◌≡◌, ℕ, suc, ◌+◌, ◌<◌, List, [], ◌∷◌, length, map, slice_get, cond, false, Some, refl, sym, ap, ◌∙◌, subst, arith}
+use Rattle.std.specs.List.{AllByRecursion}
 use Rattle.std.proofs.lemmas.List.{get_or_append_left, get_or-append-add, length-map, get_or-map}
 use Rattle.std.proofs.lemmas.Option.{slice_get_within, get_or_from_slice_get}
 use Rattle.std.proofs.lemmas.Bool.{le-ltb}
-use Rattle.cip_rational.specs.Rational.{ℚ, ◌+ℚ◌, ◌*ℚ◌, zeroℚ, ◌<ℚ◌}
+use Rattle.cip_rational.specs.Rational.{ℚ, zeroℚ, ◌<ℚ◌}
 use Rattle.cip_rational.specs.Sums.{dot}
-use Rattle.cip_rational.proofs.Rational.Ring.{+ℚ-zero, zero-+ℚ, +ℚ_assoc}
 use Rattle.cip_bland.specs.Program.{Sides, Row, no_row}
 use Rattle.cip_bland.specs.Activity.{activity, value_at}
 use Rattle.cip_bland.specs.Box.{Between, sides_at, no_sides}
 use Rattle.cip_bland.specs.Points.{IsSatisfied}
 use Rattle.cip_bland.specs.LinearProgram.{LinearProgram, IsProper, IsPoint, IsRay, StaysBetween}
 use Rattle.cip_bland.specs.Multipliers.{row_sides}
-use Rattle.cip_bland.specs.Tables.{table, total, form}
+use Rattle.cip_bland.specs.Tables.{table, form}
 use Rattle.cip_bland.specs.Dictionary.{size, cost_entry, Solves}
 use Rattle.cip_bland.specs.FirstState.{first, is_column, row_number, extended}
 use Rattle.cip_bland.specs.ProgramState.{system_of, first_of_program, TellsProgram}
 use Rattle.cip_bland.proofs.Tables.{length-table, at_table, form_at_same}
 use Rattle.cip_bland.proofs.First.{first_states_tell, first-size}
 use Rattle.cip_bland.proofs.Programs.{programs_are_told}
+use Rattle.cip_problem.proofs.Zips.{zip_from}
 
 -- ---- lists by their places
-
-pub all_zip : {X Y : Type 0} (R : X → Y → Type 0) (xs : List X) (ys : List Y) (d : X) (e : Y) → length xs ≡ length ys → ((k : ℕ) → k < length xs → R (get_or xs k d) (get_or ys k e)) → AllZip R xs ys
-all_zip R [] [] d e l h = tt
-all_zip R [] (y ∷ ys) d e l h = absurd (omega (arith, l))
-all_zip R (x ∷ xs) [] d e l h = absurd (omega (arith, l))
-all_zip R (x ∷ xs) (y ∷ ys) d e l h = (h 0 (omega arith), all_zip R xs ys d e (omega (arith, l)) (λ k lt. h (suc k) (omega (arith, lt))))
 
 pub all_rows : {X : Type 0} (P : X → Type 0) (xs : List X) → ((k : ℕ) (x : X) → slice_get xs k ≡ Some x → P x) → AllByRecursion P xs
 all_rows P [] h = tt
 all_rows P (x ∷ xs) h = (h 0 x refl, all_rows P xs (λ k y e. h (suc k) y e))
-
--- ---- sums
-
-pub total-front : (n : ℕ) (f : ℕ → ℚ) → total (suc n) f ≡ f 0 +ℚ total n (λ k. f (suc k))
-total-front zero f = zero-+ℚ (f 0) ∙ sym (+ℚ-zero (f 0))
-total-front (suc n) f =
-    ap (λ q. q +ℚ f (suc n)) (total-front n f) ∙ +ℚ_assoc (f 0) (total n (λ k. f (suc k))) (f (suc n))
-
-pub form-dot : (n : ℕ) (costs point : List ℚ) → length costs ≡ n → length point ≡ n → form n (value_at costs) (value_at point) ≡ dot costs point
-form-dot zero [] point e e' = refl
-form-dot zero (c ∷ cs) point e e' = absurd (omega (arith, e))
-form-dot (suc n) [] point e e' = absurd (omega (arith, e))
-form-dot (suc n) (c ∷ cs) [] e e' = absurd (omega (arith, e'))
-form-dot (suc n) (c ∷ cs) (x ∷ xs) e e' =
-    total-front n (λ k. value_at (c ∷ cs) k *ℚ value_at (x ∷ xs) k)
-    ∙ ap (λ q. c *ℚ x +ℚ q) (form-dot n cs xs (omega (arith, e)) (omega (arith, e')))
 
 -- ---- a program
 
@@ -97,7 +75,7 @@ module _ (program : LinearProgram) where
     pub point_by : ((v : ℕ) → v < size (first_of_program program) → Between (sides_at (first_of_program program).sides v).low (sides_at (first_of_program program).sides v).high (x v)) → IsPoint program (table (length program.bounds) x)
     point_by between = record {
       within =
-          all_zip (λ (s : Sides) value. Between s.low s.high value) program.bounds (table (length program.bounds) x) no_sides zeroℚ (sym (length-table (length program.bounds) x))
+          zip_from (λ (s : Sides) value. Between s.low s.high value) program.bounds (table (length program.bounds) x) no_sides zeroℚ (sym (length-table (length program.bounds) x))
           (λ k l. subst (λ q. Between (sides_at program.bounds k).low (sides_at program.bounds k).high q) (sym (at_table (length program.bounds) x k zeroℚ l))
           (subst (λ (s : Sides). Between s.low s.high (x k)) (sides_of_column k l) (between k (omega (arith, l, size_is)))));
       rows =
@@ -110,7 +88,7 @@ module _ (program : LinearProgram) where
     pub ray_by : ((v : ℕ) → v < size (first_of_program program) → StaysBetween (sides_at (first_of_program program).sides v).low (sides_at (first_of_program program).sides v).high (x v)) → form (size (first_of_program program)) (cost_entry (first_of_program program)) x <ℚ zeroℚ → IsRay program (table (length program.bounds) x)
     ray_by stays falls = record {
       within =
-          all_zip (λ (s : Sides) change. StaysBetween s.low s.high change) program.bounds (table (length program.bounds) x) no_sides zeroℚ (sym (length-table (length program.bounds) x))
+          zip_from (λ (s : Sides) change. StaysBetween s.low s.high change) program.bounds (table (length program.bounds) x) no_sides zeroℚ (sym (length-table (length program.bounds) x))
           (λ k l. subst (λ q. StaysBetween (sides_at program.bounds k).low (sides_at program.bounds k).high q) (sym (at_table (length program.bounds) x k zeroℚ l))
           (subst (λ (s : Sides). StaysBetween s.low s.high (x k)) (sides_of_column k l) (stays k (omega (arith, l, size_is)))));
       rows =

@@ -1,5 +1,5 @@
 -- The forms of a linear program's system are its activities and its cost.
-use Rattle.std.proofs.Common.{◌≡◌, ℕ, zero, suc, ◌+◌, ◌<◌, ◌==◌, Bool, true, false, cond, List, [], ◌∷◌, length, Option, None, Some, slice_get, refl, sym, ap, ap₂, ◌∙◌, inl, inr, arith}
+use Rattle.std.proofs.Common.{◌≡◌, ℕ, zero, suc, ◌+◌, ◌<◌, ◌==◌, cond, List, [], ◌∷◌, length, Some, slice_get, refl, sym, ap, ap₂, ◌∙◌, inl, inr, arith}
 use Rattle.std.specs.List.{AllByRecursion}
 use Rattle.std.proofs.lemmas.Bool.{eq-eqb, ne_eqb, cases_eq}
 use Rattle.std.proofs.lemmas.List.Elements.{recursion_from_All}
@@ -38,12 +38,12 @@ form-activity n (t ∷ ts) point h =
 
 -- ---- costs
 
-total-front : (n : ℕ) (f : ℕ → ℚ) → total (suc n) f ≡ f 0 +ℚ total n (λ k. f (suc k))
+pub total-front : (n : ℕ) (f : ℕ → ℚ) → total (suc n) f ≡ f 0 +ℚ total n (λ k. f (suc k))
 total-front zero f = zero-+ℚ (f 0) ∙ sym (+ℚ-zero (f 0))
 total-front (suc n) f =
     ap (λ q. q +ℚ f (suc n)) (total-front n f) ∙ +ℚ_assoc (f 0) (total n (λ k. f (suc k))) (f (suc n))
 
-form-dot : (n : ℕ) (costs point : List ℚ) → length costs ≡ n → length point ≡ n → form n (value_at costs) (value_at point) ≡ dot costs point
+pub form-dot : (n : ℕ) (costs point : List ℚ) → length costs ≡ n → length point ≡ n → form n (value_at costs) (value_at point) ≡ dot costs point
 form-dot zero [] point e e' = refl
 form-dot zero (c ∷ cs) point e e' = absurd (omega (arith, e))
 form-dot (suc n) [] point e e' = absurd (omega (arith, e))

@@ -3,11 +3,11 @@
 use Rattle.std.proofs.Common.{◌≡◌, ◌≢◌, ℕ, ◌<◌, Bool, true, false, cond, [], ◌∷◌, None, Some, unwrap_or, refl, sym, ap, ap₂, ◌∙◌, subst, inl, inr, arith}
 use Rattle.std.proofs.lemmas.Bool.{true≢false, eq-eqb, ne_eqb, cases_eq}
 use Rattle.std.proofs.lemmas.Option.{none-some}
-use Rattle.cip_rational.specs.Rational.{ℚ, ◌+ℚ◌, ◌-ℚ◌, ◌*ℚ◌, negate, inverse, zeroℚ, oneℚ, ◌≤ℚ◌, ◌<ℚ◌, is_zero}
+use Rattle.cip_rational.specs.Rational.{ℚ, ◌+ℚ◌, ◌-ℚ◌, ◌*ℚ◌, negate, inverse, zeroℚ, oneℚ, ◌<ℚ◌, is_zero}
 use Rattle.cip_rational.proofs.Rational.Ring.{+ℚ-zero, zero-*ℚ, *ℚ_assoc, *ℚ_comm, one-*ℚ, negate-*ℚ, *ℚ-negate}
 use Rattle.cip_rational.proofs.Rational.Inverse.{*ℚ-inverse}
 use Rattle.cip_rational.proofs.Rational.Order.{eq-or-lt}
-use Rattle.cip_rational.proofs.Linear.{linear_le, linear_lt, linear_same}
+use Rattle.cip_rational.proofs.Linear.{linear_lt, linear_same}
 use Rattle.cip_bland.specs.Program.{Sides}
 use Rattle.cip_bland.specs.Box.{sides_at}
 use Rattle.cip_bland.specs.Dictionary.{Dictionary, size, stand, is_basic, entry, cost_entry, value, standing_value, CanStand, IsConsistent}
@@ -15,7 +15,7 @@ use Rattle.cip_bland.specs.Exchange.{moved, moved_cost, step, other_stand, way, 
 use Rattle.cip_bland.specs.declared.moves.Stand.{Stand}
 use Rattle.cip_bland.specs.declared.moves.Stand.TheVariants.{Low, High, Zero}
 use Rattle.cip_bland.specs.declared.moves.Move.TheVariants.{Exchange, Flip}
-use Rattle.cip_bland.proofs.Zeros.{zero_of, nonzero_of}
+use Rattle.cip_bland.proofs.Zeros.{nonzero_of}
 use Rattle.cip_bland.proofs.Values.{moved_here, moved_basic, moved_other}
 use Rattle.cip_bland.proofs.States.{exchanged-value, exchanged-cost, flipped-value, flipped-cost}
 use Rattle.cip_bland.specs.Headings.{along, heading_for, stand_ahead, side_ahead, is_ahead, goal_ahead}
@@ -28,6 +28,7 @@ use Rattle.cip_bland.proofs.StateFacts.{at_stand}
 use Rattle.cip_bland.proofs.Emptiness.{along-zero, along-one}
 use Rattle.cip_bland.proofs.RayEnds.{along_sign, change_here, change_basic, change_other}
 use Rattle.cip_bland.proofs.MovesMade.{Drives, driver, IsWayOf, is_way}
+use Rattle.cip_problem.proofs.Rows.{zero_of_test}
 
 -- ---- ways up and down
 
@@ -42,14 +43,6 @@ along_both Down a b = negate-*ℚ a (negate b) ∙ ap negate (*ℚ-negate a b) �
 along_right : (heading : Heading) (a b : ℚ) → a *ℚ along heading b ≡ along heading a *ℚ b
 along_right Up a b = refl
 along_right Down a b = *ℚ-negate a b ∙ sym (negate-*ℚ a b)
-
-along_add : (heading : Heading) (a b : ℚ) → along heading (a +ℚ b) ≡ along heading a +ℚ along heading b
-along_add Up a b = refl
-along_add Down a b = linear_same (a ∷ b ∷ []) (λ s w. omega arith)
-
-pub along_mono : (heading : Heading) (a b : ℚ) → along heading a ≤ℚ along heading b → (zeroℚ ≤ℚ along heading (b -ℚ a))
-along_mono Up a b h = linear_le (a ∷ b ∷ []) (λ s w. omega (arith, s.le_out))
-along_mono Down a b h = linear_le (a ∷ b ∷ []) (λ s w. omega (arith, s.le_out))
 
 pub one_ahead : (heading : Heading) → zeroℚ <ℚ along heading (along heading oneℚ)
 one_ahead heading = subst (λ q. zeroℚ <ℚ q) (sym (along_twice heading oneℚ)) (linear_lt [] (λ s w. omega arith))
@@ -105,7 +98,7 @@ module _ (d : Dictionary) (c : IsConsistent d) (j : ℕ) (lj : j < size d) (good
 
   rate_basic : (v : ℕ) → ¬ (v ≡ j) → is_basic d v ≡ true → (z : Bool) → is_zero (entry d v j) ≡ z → Rate v
   rate_basic v ne b true z =
-      still (change_basic d c j lj driven.nonbasic v b ∙ ap (along (falling_heading d j)) (zero_of (entry d v j) z) ∙ along-zero (falling_heading d j))
+      still (change_basic d c j lj driven.nonbasic v b ∙ ap (along (falling_heading d j)) (zero_of_test (entry d v j) z) ∙ along-zero (falling_heading d j))
       (ap (λ t. goal_with t (is_basic d v) (falling_heading d j) (entry d v j) (sides_at d.sides v)) (ne_eqb v j ne) ∙ ap (λ t. goal_with false t (falling_heading d j) (entry d v j) (sides_at d.sides v)) b ∙ ap (λ t. cond t None (goal_ahead (heading_for (falling_heading d j) (entry d v j)) (sides_at d.sides v))) z)
   rate_basic v ne b false z =
       let h = falling_heading d j in

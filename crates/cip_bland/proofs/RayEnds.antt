@@ -14,7 +14,7 @@ use Rattle.cip_bland.specs.Dictionary.{Dictionary, size, is_basic, entry, cost_e
 use Rattle.cip_bland.specs.ProgramState.{first_of_program}
 use Rattle.cip_bland.specs.declared.moves.Stand.{Stand}
 use Rattle.cip_bland.proofs.Tables.{total_same, total-only, only, only_here, only_there}
-use Rattle.cip_bland.proofs.Zeros.{zero_of, nonzero_of}
+use Rattle.cip_bland.proofs.Zeros.{nonzero_of}
 use Rattle.cip_bland.specs.Headings.{back_of, along, heading_for, side_ahead, goal_ahead}
 use Rattle.cip_bland.specs.Rule.{improves, falling_heading, goal_with, goal_of, way_with, way_of}
 use Rattle.cip_bland.specs.EndAnswers.{change_of, ray_of}
@@ -25,6 +25,7 @@ use Rattle.cip_bland.proofs.SideCases.{goes, goal_none, free_stays}
 use Rattle.cip_bland.proofs.StateFacts.{IsFreeRow, nonbasic_at, sizes}
 use Rattle.cip_bland.proofs.PointsOf.{ray_by}
 use Rattle.cip_bland.proofs.Emptiness.{along-zero, along-one}
+use Rattle.cip_problem.proofs.Rows.{zero_of_test}
 
 -- ---- signs
 
@@ -54,7 +55,7 @@ falls_along a ne = go (lt_test zeroℚ a) refl
           | inr lt ↦ lt
         ]
 
-zero_stays : (s : Sides) (change : ℚ) → change ≡ zeroℚ → StaysBetween s.low s.high change
+pub zero_stays : (s : Sides) (change : ℚ) → change ≡ zeroℚ → StaysBetween s.low s.high change
 zero_stays s change e = record { not_down = below s.low; not_up = above s.high }
   where
     below : (o : Option ℚ) → IfSome o (λ _. zeroℚ ≤ℚ change)
@@ -123,7 +124,7 @@ module _ (d : Dictionary) (c : IsConsistent d) (j : ℕ) (lj : j < size d) (nonb
     where
       moves : is_basic d v ≡ true → (is_zero (entry d v j) ≡ true) ⊎ (side_ahead (heading_for (falling_heading d j) (entry d v j)) (sides_at d.sides v) ≡ None) → StaysBetween (sides_at d.sides v).low (sides_at d.sides v).high (change_of d j v)
       moves b (inl z) =
-          zero_stays (sides_at d.sides v) (change_of d j v) (change_basic v b ∙ ap (along (falling_heading d j)) (zero_of (entry d v j) z) ∙ along-zero (falling_heading d j))
+          zero_stays (sides_at d.sides v) (change_of d j v) (change_basic v b ∙ ap (along (falling_heading d j)) (zero_of_test (entry d v j) z) ∙ along-zero (falling_heading d j))
       moves b (inr free) =
           let h = heading_for (falling_heading d j) (entry d v j) in
           free_stays h (sides_at d.sides v) (change_of d j v) free (subst (λ q. zeroℚ ≤ℚ along h q) (sym (change_basic v b)) (along_sign (falling_heading d j) (entry d v j)))

@@ -12,11 +12,11 @@ use Rattle.cip_bland.specs.Multipliers.{IsUsed}
 use Rattle.cip_bland.specs.Dictionary.{standing_value, CanStand}
 use Rattle.cip_bland.specs.declared.moves.Stand.{Stand}
 use Rattle.cip_bland.specs.declared.moves.Stand.TheVariants.{Low, High, Zero}
-use Rattle.cip_bland.proofs.Zeros.{zero_of}
 use Rattle.cip_bland.specs.Headings.{back_of, along, heading_for, stand_ahead, side_ahead, is_ahead, goal_ahead}
 use Rattle.cip_bland.specs.Rule.{sides_cross, outside_with, may_go_from}
 use Rattle.cip_bland.specs.declared.steps.Heading.{Heading}
 use Rattle.cip_bland.specs.declared.steps.Heading.TheVariants.{Up, Down}
+use Rattle.cip_problem.proofs.Rows.{zero_of_test}
 
 abbrev pub sides : Option ℚ → Option ℚ → Sides
 sides low high = record { low = low; high = high }
@@ -66,10 +66,6 @@ outside_past low high value e = go (at_least low value) refl e
         (b.0, record { there = b.1; past = linear_lt (value ∷ b.0 ∷ []) (λ s w. omega (arith, s.lt_out)) })
 
 -- ---- the side ahead
-
-some_is : (o : Option ℚ) → is_some o ≡ true → (q : ℚ) × (o ≡ Some q)
-some_is None e = absurd (true≢false (sym e))
-some_is (Some q) e = (q, refl)
 
 pub can_stand_ahead : (heading : Heading) (s : Sides) (side : ℚ) → side_ahead heading s ≡ Some side → CanStand s (stand_ahead heading)
 can_stand_ahead Up s side e = ap is_some e
@@ -146,7 +142,7 @@ equal_ahead heading (Some l) (Some h) at value q c e =
     go Down Low c e same = ap Some (sym e)
     go Down High c e same = ap Some (same ∙ sym e)
 
-there_is : (o : Option ℚ) (value : ℚ) → is_some o ≡ true → value ≡ unwrap_or o zeroℚ → o ≡ Some value
+pub there_is : (o : Option ℚ) (value : ℚ) → is_some o ≡ true → value ≡ unwrap_or o zeroℚ → o ≡ Some value
 there_is None value c e = absurd (true≢false (sym c))
 there_is (Some q) value c e = ap Some (sym e)
 
@@ -158,7 +154,7 @@ at_ahead Down s Low value a c e = there_is s.low value c e
 at_ahead Down s High value a c e = absurd (true≢false (sym a))
 at_ahead Down s Zero value a c e = absurd (true≢false (sym a))
 
-true_of_not : (b : Bool) → not b ≡ false → b ≡ true
+pub true_of_not : (b : Bool) → not b ≡ false → b ≡ true
 true_of_not true e = refl
 true_of_not false e = absurd (true≢false e)
 
@@ -196,7 +192,7 @@ stuck_used heading a s None value stuck free stands = ahead_used heading a s val
 stuck_used heading a s (Some at) value stuck free stands =
     ahead_used heading a s value (lt_test zeroℚ a) refl
     (λ n. elim (and_cases (not (is_zero a)) (may_go_from s (Some at) (heading_for heading a)) stuck) [
-      | inl z ↦ absurd (n (zero_of a (true_of_not (is_zero a) z)))
+      | inl z ↦ absurd (n (zero_of_test a (true_of_not (is_zero a) z)))
       | inr m ↦ stuck_side (heading_for heading a) s at value m (stands at refl).0 (stands at refl).1
     ])
 

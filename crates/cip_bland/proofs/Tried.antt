@@ -19,7 +19,7 @@ use Rattle.cip_bland.specs.Examples.{plus, minus, three_columns, contradiction, 
 use Rattle.cip_bland.specs.declared.steps.Step.TheVariants.{Optimum, Makes}
 
 -- numbers of which each is at most the other are the same
-same : (a b : ℚ) → le_test a b ≡ true → le_test b a ≡ true → a ≡ b
+pub same : (a b : ℚ) → le_test a b ≡ true → le_test b a ≡ true → a ≡ b
 same a b e f = ≤ℚ_antisymm (le_of_test e) (le_of_test f)
 
 small_move : next (first small) ≡ Makes (Exchange 2 0 Low)

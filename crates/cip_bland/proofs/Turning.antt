@@ -165,10 +165,6 @@ swap_is d i j to can =
       others = λ k lk ni nj. stayed_stand d i j to k ni nj lk;
     }
 
-pub repair_swaps : (d : Dictionary) (r : Repairing d) → IsSwap (size d) (stand d) (stand (exchanged d r.leaves r.enters (stand_ahead (outside_heading d r.leaves)))) r.leaves r.enters (stand_ahead (outside_heading d r.leaves))
-repair_swaps d r =
-    swap_is d r.leaves r.enters (stand_ahead (outside_heading d r.leaves)) (can_repair d r.leaves r.enters r.is.outside.below r.is.enters.below r.is.outside.passes r.is.enters.passes)
-
 -- ---- what a state without a variable outside is
 
 abbrev AllBetween : Dictionary → Type 0

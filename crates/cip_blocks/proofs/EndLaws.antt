@@ -21,6 +21,7 @@ use Rattle.cip_blocks.specs.declared.block_words.BlockWords.{BlockWords}
 use Rattle.cip_blocks.specs.declared.ending.Ending.{Ending}
 use Rattle.cip_blocks.specs.BlockWordsRead.{program_of, state_of}
 use Rattle.cip_blocks.specs.Endings.{IsEnding, place_fault}
+use Rattle.cip_rational.proofs.InRange.{both_left, both_right}
 
 -- ---- rows
 
@@ -36,14 +37,6 @@ blocks_are (row ∷ rows) = ap (λ b. b ∷ map block_of rows) (one row) ∙ ap 
     one : (row : RowPlace) → block_of row ≡ steps.block_at (row_shown row)
     one Unnamed = refl
     one (Named block) = named block
-
-both_left : (a b : Bool) → (a && b) ≡ true → a ≡ true
-both_left true b e = refl
-both_left false b e = absurd (cc)
-
-both_right : (a b : Bool) → (a && b) ≡ true → b ≡ true
-both_right true b e = e
-both_right false b e = absurd (cc)
 
 -- they are among so many
 pub rows_below : (n : ℕ) (rows : List RowPlace) → list_all (λ row. is_below n (block_of row)) rows ≡ true → All (λ block. IfSome block (λ b. b < n)) (map block_of rows)
@@ -101,14 +94,6 @@ columns_below program n bs tell below none size = λ k d l. at k d l (slice_inde
         subst (λ (o : Option ℕ). IfSome o (λ c. c < n)) (sym (e ∙ p)) (entry_below n b k bs program.rows below entry)
 
 -- ---- tests behind the last line
-
--- a number that is due
-pub due : (place : text.WordPlace) (kind : ℕ) (rest : List Rule) → Some kind ≡ place_fault place → Some kind ≡ least (rule 1 (lacks_zero place) ∷ rule 2 (lacks_count place) ∷ rule 3 (lacks_number place) ∷ rest)
-due text.KeywordDue kind rest e = absurd (cc)
-due text.ZeroDue kind rest e = e
-due text.CountDue kind rest e = e
-due text.BlockDue kind rest e = e
-due (text.NamesOf block) kind rest e = absurd (cc)
 
 -- and none
 pub none_due : (place : text.WordPlace) (rest : List Rule) → None ≡ place_fault place → least (rule 1 (lacks_zero place) ∷ rule 2 (lacks_count place) ∷ rule 3 (lacks_number place) ∷ rest) ≡ least rest

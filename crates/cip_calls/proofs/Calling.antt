@@ -24,7 +24,7 @@ use Rattle.cip_roster.proofs.Calm.{run_calm, turns_calm, settled_alike}
 use Rattle.cip_calls.specs.Served.{handed_out}
 use Rattle.cip_calls.specs.Asked.{told, told_next, proposers, count_of, HasAskedSome, HasAsked, HasTold, IsSeatedNext}
 use Rattle.cip_calls.proofs.Asking.{count_more, handed-append, proposers-append, turns_hand}
-use Rattle.cip_calls.proofs.Serving.{between, nothing_there}
+use Rattle.cip_calls.proofs.Serving.{between}
 
 -- ---- all plugins of a kind
 
@@ -185,9 +185,6 @@ both_run kind ask a b has c = record {
   run = Runs-append (all_turns ask c.first.called.heard) (all_turns ask c.second.called.heard) a c.between b c.first.called.run c.second.called.run;
 }
 
-pub same_run : (a b : State) → b ≡ a → Ran a b
-same_run a b e = record { steps = []; run = e }
-
 pub delivered_run : (node : ℕ) (events : List Event) (a b : State) → Delivered node events a b → Ran a b
 delivered_run node events a b d = record { steps = d.steps; run = d.run }
 
@@ -213,22 +210,3 @@ either (Err e) P Q T h k so other = other k
 pub either_on : {A E : Type 0} (r : Result A E) (P Q T : Type 0) → (P → T) → (Q → T) → OnOk r P → OnErr r Q → T
 either_on (Ok x) P Q T so other h k = so h
 either_on (Err e) P Q T so other h k = other k
-
--- ---- nobody
-
-pub nobody_asked : (ask : Ask) (a : State) (gave : List (ℕ × Given)) → a.seats ≡ [] → gave ≡ [] → HasAsked ask a a (told gave)
-nobody_asked ask a gave none e = record {
-  some = record {
-    steps = [];
-    run = refl;
-    handed = λ id. ap (λ (l : List (ℕ × Given)). count_of id (proposers ask (told l))) (sym e);
-  };
-  each = λ id s u at now on. absurd (nothing_there id s (subst (λ (l : List Seat). slice_get l id ≡ Some s) none at));
-}
-
-pub nobody_told : (events : List Event) (a : State) → a.seats ≡ [] → HasTold events a a
-nobody_told events a none = record {
-  steps = [];
-  run = refl;
-  each = λ id s u at now on. absurd (nothing_there id s (subst (λ (l : List Seat). slice_get l id ≡ Some s) none at));
-}

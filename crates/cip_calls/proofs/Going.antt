@@ -3,8 +3,6 @@ use Rattle.std.proofs.Common.{◌≡◌, ◌≢◌, List, Option, None, Some, Re
 use Rattle.std.specs.Prelude.{MatchResult, OnErr}
 use Rattle.std.proofs.lemmas.Option.{same_Some}
 use Rattle.cip_rational.specs.Rational.{ℚ}
-use Rattle.cip_problem.specs.Log.{Node, node_of}
-use Rattle.cip_core.specs.Searched.{nodes_given}
 use Rattle.cip_cert.specs.Lent.{multiples_of}
 use Rattle.cip_cert.specs.declared.splits.SplitCut.{SplitCut}
 use Rattle.cip_plugin.specs.declared.proposals.Cut.{Cut}
@@ -15,38 +13,15 @@ use Rattle.cip_plugin.specs.declared.proposals.Enforced.TheVariants as said
 use Rattle.cip_plugin.specs.declared.proposals.Proposal.{Proposal}
 use Rattle.cip_plugin.specs.declared.proposals.Proposal.TheVariants as by
 use Rattle.cip_tree.specs.Nodes.{TakenNode, region_of}
-use Rattle.cip_core.specs.CoreStates.{CoreState, reduced_of, IsAtWork, IsGivenBound}
+use Rattle.cip_core.specs.CoreStates.{CoreState, IsAtWork}
 use Rattle.cip_core.specs.Later.{IsLaterAt}
-use Rattle.cip_core.specs.Steps.{IsBack}
-use Rattle.cip_core.proofs.Relations.{later_further, later_at_itself}
+use Rattle.cip_core.proofs.Relations.{later_at_itself}
 use Rattle.cip_calls.specs.GuessesJudged.{IsGuessJudged, IsAfterGuess}
 use Rattle.cip_calls.specs.ReductionsJudged.{reduction_answer, IsAfterReduction}
 use Rattle.cip_calls.specs.ProposalsJudged.{IsCutBy, IsJudgedCut, IsJudgedSide, IsKeptWhole, IsSaid, IsJudged, IsShownEmpty, GoesOn, split_said, split_in}
 use Rattle.cip_calls.specs.declared.judged.Judged.{Judged}
 use Rattle.cip_calls.specs.declared.judged.Judged.TheVariants as judged
 use Rattle.cip_calls.specs.declared.judged.JudgeFault.{JudgeFault}
-
--- ---- the node goes back
-
--- the bound that the log gave a node, after steps of its work
-pub given_after : (old mid : CoreState) (node has : TakenNode) (bound : Option ℚ) → IsLaterAt old node mid has → IsGivenBound old node.number bound → IsGivenBound mid has.number bound
-given_after old mid node has bound l h = λ given e.
-    let same : nodes_given (reduced_of mid) mid.tree.root.bound mid.tree.log ≡ nodes_given (reduced_of old) old.tree.root.bound old.tree.log =
-    ap (λ p. nodes_given p mid.tree.root.bound mid.tree.log) l.later.reduced
-    ∙ ap (λ (r : Node). nodes_given (reduced_of old) r.bound mid.tree.log) l.later.root
-    ∙ ap (nodes_given (reduced_of old) old.tree.root.bound) l.log in
-    h given (sym (ap (λ ns. node_of ns has.number) same ∙ ap (node_of (nodes_given (reduced_of old) old.tree.root.bound old.tree.log)) l.narrower.number) ∙ e)
-
--- a node that goes back after steps of its work
-pub back_from : (old mid new : CoreState) (node has : TakenNode) (bound : Option ℚ) → IsLaterAt old node mid has → IsBack mid new has.number bound → IsBack old new node.number bound
-back_from old mid new node has bound l h = subst (λ n. IsBack old new n bound) l.narrower.number (record {
-  kept = h.kept;
-  log = h.log ∙ l.log;
-  parked = h.parked ∙ l.parked;
-  ids = h.ids ∙ l.ids;
-  later = later_further old mid new l.later h.later;
-  open_ = h.open_;
-})
 
 -- ---- cuts and points never show that a node is empty
 

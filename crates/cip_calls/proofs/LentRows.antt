@@ -1,53 +1,22 @@
 -- The rows that are lent to checks hold at improving points, and so does a side that a check accepts.
-use Rattle.std.proofs.Common.{◌≡◌, ℕ, zero, suc, Bool, true, false, List, [], ◌∷◌, Option, None, Some, IfSome, Result, Ok, Err, sym, ap, subst, true≢false}
+use Rattle.std.proofs.Common.{◌≡◌, ℕ, zero, suc, Bool, true, false, List, [], ◌∷◌, Some, Result, Ok, Err, sym, ap, true≢false}
 use Rattle.std.specs.Prelude.{slice_get, slice_index_or, IsOk, OnOk}
-use Rattle.std.specs.List.{AllByRecursion}
-use Rattle.std.proofs.lemmas.List.Elements.{recursion_from_All}
 use Rattle.cip_rational.specs.Rational.{ℚ, IsWhole}
-use Rattle.cip_rational.proofs.Rational.Order.{≤ℚ_refl}
-use Rattle.cip_problem.specs.Program.{Sides, Row, Program}
 use Rattle.cip_problem.specs.Activity.{value_at}
-use Rattle.cip_problem.specs.Box.{IsInBox}
-use Rattle.cip_problem.specs.Points.{IsSatisfied, AreWhole}
+use Rattle.cip_problem.specs.Points.{AreWhole}
 use Rattle.cip_problem.proofs.Points.AtPlaces.{whole_at}
-use Rattle.cip_problem.specs.Improving.{HoldsInBox, HasNoImproving, IsImproving, IsValidRow, IsNoDearer}
-use Rattle.cip_problem.proofs.Improving.{fewer}
+use Rattle.cip_problem.specs.Improving.{HoldsInBox, HasNoImproving}
 use Rattle.cip_lin.specs.declared.sides.Side.{Side}
 use Rattle.cip_lin.specs.declared.sides.Side.TheVariants.{Low, High}
-use Rattle.cip_cert.specs.declared.rows.PoolRow.{PoolRow}
 use Rattle.cip_cert.specs.declared.faults.CutFault.{CutFault}
-use Rattle.cip_cert.specs.Lent.{Lent}
-use Rattle.cip_cert.specs.Follows.{RowsHold, EmptinessFollows}
+use Rattle.cip_cert.specs.Follows.{EmptinessFollows}
 use Rattle.cip_cert.specs.Reductions.{SideFollows}
-use Rattle.cip_cert.specs.Resting.{valid_below, IsLentOf}
+use Rattle.cip_cert.proofs.Released.{lent_holds}
 use Rattle.cip_domain.specs.Changes.{side_change}
 use Rattle.cip_domain.specs.Narrowing.{Meets}
 use Rattle.cip_core.specs.OpenColumns.{is_whole_at}
 use Rattle.cip_core.specs.CoreStates.{CoreState, reduced_of, held_of, all_lent, IsSound}
 use Rattle.cip_core.proofs.RowsAdded.{lent_there}
-
--- ---- rows
-
-dearer_than_each : (held : Option ℚ) (rests : Bool) → IsNoDearer held (valid_below held rests)
-dearer_than_each None true = tt
-dearer_than_each (Some cost) true = ≤ℚ_refl cost
-dearer_than_each held false = tt
-
-pool_holds : (program : Program) (held : Option ℚ) (pool : List PoolRow) (point : List ℚ) → IsImproving program held point → AllByRecursion (λ kept. IsValidRow program (valid_below held kept.rests) kept.scope kept.row) pool → AllByRecursion (λ kept. IsInBox kept.scope point → IsSatisfied kept.row point) pool
-pool_holds program held [] point i h = tt
-pool_holds program held (k ∷ ks) point i h =
-    (h.0 point (fewer program held (valid_below held k.rests) point (dearer_than_each held k.rests) i), pool_holds program held ks point i h.1)
-
-cutoff_at : (program : Program) (held : Option ℚ) (box : List Sides) (cutoff : Option Row) (point : List ℚ) → IfSome cutoff (IsValidRow program held box) → IsImproving program held point → IsInBox box point → IfSome cutoff (λ row. IsSatisfied row point)
-cutoff_at program held box None point h i w = tt
-cutoff_at program held box (Some row) point h i w = h point i w
-
-pub lent_holds : (program : Program) (held : Option ℚ) (box : List Sides) (lent : Lent) (point : List ℚ) → IsLentOf program held box lent → IsImproving program held point → IsInBox box point → RowsHold lent point
-lent_holds program held box lent point l i w = record {
-  own = subst (λ (rows : List Row). AllByRecursion (λ row. IsSatisfied row point) rows) (sym l.own) i.feasible.rows;
-  pool = pool_holds program held lent.pool point i (recursion_from_All (λ (kept : PoolRow). IsValidRow program (valid_below held kept.rests) kept.scope kept.row) lent.pool l.pool);
-  cutoff = cutoff_at program held box lent.cutoff point l.cutoff i w;
-}
 
 -- ---- sides
 

@@ -1,5 +1,5 @@
 -- What a handler's answer leaves.
-use Rattle.std.proofs.Common.{◌≡◌, ℕ, Bool, true, not, true≢false, List, length, [], Option, None, Some, MatchOption, cond, Result, Ok, Err, refl, sym, ap, ◌∙◌, subst}
+use Rattle.std.proofs.Common.{◌≡◌, ℕ, Bool, true, not, true≢false, List, length, Option, None, Some, MatchOption, cond, Result, Ok, Err, refl, sym, ap, ◌∙◌, subst}
 use Rattle.std.specs.Prelude.{is_some, OnOk}
 use Rattle.cip_calls.specs.declared.judged.Judged.{Judged}
 use Rattle.cip_calls.specs.KeptRankings.{Room}
@@ -58,9 +58,6 @@ come_more old mid had node a b c some room scratches come sound run = record {
   rows = come.rows;
   run = run_further a b c come.run run;
 }
-
-pub run_none : (a b : State) → b ≡ a → Ran a b
-run_none a b e = record { steps = []; run = e }
 
 -- calls, and then steps that call nobody
 pub come_went : (old mid new : CoreState) (had node has : TakenNode) (a b c d : State) (some room : Room) (first scratches : Scratches) → HasCome old had a mid node first b some

@@ -24,6 +24,7 @@ use Rattle.cip_tree.specs.Nodes.{TakenNode}
 use Rattle.cip_core.specs.CoreStates.{CoreState}
 use Rattle.cip_core.specs.SidesTold.{IsSideTaken}
 use Rattle.cip_domain.specs.declared.stores.Tightened.{Tightened}
+use Rattle.cip_domain.proofs.Marks.{empty_case}
 use Rattle.cip_calls.specs.ReductionsJudged.{is_far, side_fault, by_check, judged_by, IsAfterReduction}
 use Rattle.cip_calls.specs.declared.judged.Judged.TheVariants.{Emptied}
 use Rattle.cip_calls.specs.declared.judged.NodeFault.TheVariants.{NoSuchColumn, TooFar}
@@ -60,11 +61,6 @@ named_near program column side value ids e whole =
 
 -- ---- no value
 
-past_of : (strong past : Bool) → (if strong then Same else (if past then Empty else Yes)) ≡ Empty → past ≡ true
-past_of true past e = absurd (let f : Same ≡ Empty = e in cc)
-past_of false true e = refl
-past_of false false e = absurd (let f : Yes ≡ Empty = e in cc)
-
 not_true : (b : Bool) → not b ≡ true → b ≡ false
 not_true true e = absurd (true≢false (sym e))
 not_true false e = refl
@@ -86,7 +82,7 @@ crossed sides High value x e b m =
 pub none_left : (program : Program) (held : Option ℚ) (box : List Sides) (column : ℕ) (side : Side) (value : ℚ) → HoldsInBox program held box (λ point. Meets point (side_change column side value)) → tightening (sides_at box column) side value ≡ Empty → HasNoImproving program held box
 none_left program held box column side value h e point i w =
     crossed (sides_at box column) side value (value_at point column)
-    (past_of (is_as_strong (sides_at box column) side value) (would_cross (sides_at box column) side value) e)
+    (empty_case (is_as_strong (sides_at box column) side value) (would_cross (sides_at box column) side value) e)
     (in_box_at box point column w) (h point i w)
 
 -- ---- a side that isn't refused

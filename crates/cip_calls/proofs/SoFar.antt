@@ -1,11 +1,10 @@
 -- Plugins that are asked one at a time, as far as that has come.
-use Rattle.std.proofs.Common.{◌≡◌, ◌⊎◌, inl, inr, ℕ, ◌+◌, ◌<◌, Bool, true, List, [], ◌∷◌, ◌++◌, length, replicate, Contains, Option, None, Some, refl, sym, ap, ◌∙◌, subst, arith, add-zero, append-nil}
-use Rattle.std.specs.Prelude.{◌&&◌}
+use Rattle.std.proofs.Common.{◌≡◌, ◌⊎◌, inl, inr, ℕ, ◌+◌, ◌<◌, true, List, [], ◌∷◌, ◌++◌, length, replicate, Contains, Option, None, Some, refl, sym, ap, ◌∙◌, subst, arith, add-zero, append-nil}
 use Rattle.std.proofs.lemmas.List.Elements.{All-cons, Contains-append_left, Contains-append_right}
+use Rattle.std.proofs.lemmas.Bool.{and_from}
 use Rattle.cip_plugin.specs.Asking.{asks}
 use Rattle.cip_plugin.specs.Calls.{Ask, Call}
 use Rattle.cip_plugin.specs.declared.asking.Given.{Given}
-use Rattle.cip_search.proofs.Members.{none_in}
 use Rattle.cip_plugin.specs.declared.keys.Key.{Key}
 use Rattle.cip_plugin.specs.Seats.{Seat, State, is_on}
 use Rattle.cip_plugin.specs.Steps.{Step, Runs, calls_of, asks_in}
@@ -21,6 +20,7 @@ use Rattle.cip_calls.proofs.Asking.{count_more, handed-append}
 use Rattle.cip_calls.proofs.Serving.{judged_by}
 use Rattle.cip_calls.proofs.Waiting.{keyed, waits_first}
 use Rattle.cip_calls.specs.Enforcing.{made}
+use Rattle.cip_problem.proofs.Covers.{none_of_nothing}
 
 -- some plugins were asked, the last of them this one, and what each gave was judged; of those that waited as it began
 -- each was asked, or waits still
@@ -103,13 +103,10 @@ used_part ask start now had has named so = record {
   each = λ id s u at later on. record { asked = λ i d within. absurd (omega (arith, within)); judged = so.judged id };
 }
 
-and_true : (a b : Bool) → a ≡ true → b ≡ true → (a && b) ≡ true
-and_true a b e f = ap (λ (t : Bool). t && b) e ∙ f
-
 none_left : (ask : Ask) (seats : List Seat) (named : Option ℕ) (key : Key) (calls : List Call) → waiting ask seats named ≡ []
     → Contains (asks_in calls) ask ⊎ Contains (waiting ask seats named) key → Contains (asks_in calls) ask
 none_left ask seats named key calls none (inl asked) = asked
-none_left ask seats named key calls none (inr waits) = absurd (none_in key (subst (λ (l : List Key). Contains l key) none waits))
+none_left ask seats named key calls none (inr waits) = absurd (none_of_nothing key (subst (λ (l : List Key). Contains l key) none waits))
 
 -- where none waits any more, all were asked
 pub used_all : (ask : Ask) (start a b : State) (had h : List (ℕ × Judged)) (named : Option ℕ) → ((s : Seat) → is_wanted ask s ≡ asks s.who.kind ask)
@@ -128,7 +125,7 @@ used_all ask start a b had h named plain so next = record {
         asked = All-cons (λ q. is_wanted q s ≡ true → Contains (asks_in (calls_of id (so.steps ++ next.some.steps))) q) ask []
             (λ wanted. first_part ask xs ys (calls_of id (so.steps ++ next.some.steps)) calls
             (none_left ask a.seats named (keyed id s.priority) xs next.next
-            (so.waits (keyed id s.priority) (waits_first ask start.seats id s at (and_true (is_on s) (asks s.who.kind ask) on.on_before (sym (plain s) ∙ wanted))))))
+            (so.waits (keyed id s.priority) (waits_first ask start.seats id s at (and_from (is_on s) (asks s.who.kind ask) on.on_before (sym (plain s) ∙ wanted))))))
             (λ i d within. absurd (omega (arith, within)));
         judged = omega (arith, none, all, was);
       };

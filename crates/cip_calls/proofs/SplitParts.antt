@@ -1,6 +1,5 @@
 -- Whether a column can be split, by its kind and its choice.
-use borrow.Author.Differences.{up, down, sum_is_lem}
-use Rattle.std.proofs.Common.{◌≡◌, ◌⊎◌, inl, inr, ℕ, ◌+◌, ◌<◌, ◌≤◌, ◌^◌, ℤ, pos, negsuc, ◌+ℤ◌, unsigned_abs, Bool, true, false, List, length, get_or, Some, slice_get, refl, sym, ap, ◌∙◌, subst, arith, to_z, of_z}
+use Rattle.std.proofs.Common.{◌≡◌, ℕ, ◌+◌, ◌<◌, ◌≤◌, ◌^◌, ℤ, unsigned_abs, Bool, true, false, List, length, get_or, Some, slice_get, refl, sym, ap, ◌∙◌, subst, arith, to_z, of_z}
 use Rattle.std.proofs.lemmas.Int.{to_z-of_z, fits_signed_from_abs}
 use Rattle.std.specs.Int.{w128}
 use Rattle.std.proofs.lemmas.Option.{slice_get-get_or}
@@ -12,6 +11,7 @@ use Rattle.cip_lin.specs.ChoiceParts.{is_plain}
 use Rattle.cip_domain.specs.Halves.{CanHalve}
 use Rattle.cip_core.specs.SplitRules.{LeavesBoth}
 use Rattle.cip_core.specs.KeptNodes.{farthest}
+use Rattle.cip_node_rules.proofs.BothSides.{near_next}
 
 -- the kind of a column that is there
 pub kind_at : (kinds : List Bool) (column : ℕ) (kind : Bool) → column < length kinds → get_or kinds column false ≡ kind → slice_get kinds column ≡ Some kind
@@ -25,12 +25,6 @@ near_itself at near = to_z-of_z w128 at (fits_signed_from_abs w128 at (omega (ar
 pub kind_of : (program : Program) (kinds : List Bool) (column : ℕ) (kind : Bool) → kinds ≡ program.integral → IsWellFormed program → column < columns program → get_or kinds column false ≡ kind → slice_get program.integral column ≡ Some kind
 kind_of program kinds column kind e formed inside k =
     ap (λ (ks : List Bool). slice_get ks column) (sym e) ∙ kind_at kinds column kind (subst (λ n. column < n) (sym (ap length e ∙ formed.integral)) inside) k
-
-pub plain_from : (choice : Choice) → is_plain choice ≡ true → choice ≡ Plain
-plain_from Plain e = refl
-plain_from (Open own) e = absurd (let g : false ≡ true = e in cc)
-plain_from Off e = absurd (let g : false ≡ true = e in cc)
-plain_from On e = absurd (let g : false ≡ true = e in cc)
 
 -- a whole column whose choice isn't plain can't be split, nor a continuous one whose choice isn't open
 pub not_splittable : (choice : Choice) (kind : Bool) → (kind ≡ true → is_plain choice ≡ false) → (kind ≡ false → is_open choice ≡ false) → ¬ CanSplitAt choice (Some kind)
@@ -49,21 +43,6 @@ pub continuous_not_splittable : (choice : Choice) → is_open choice ≡ false �
 continuous_not_splittable choice e = not_splittable choice false (λ f. absurd (let g : false ≡ true = f in cc)) (λ _. e)
 
 -- ---- both halves of a whole column
-
-abs_parts : (z : ℤ) → unsigned_abs z ≡ up z + down z
-abs_parts (pos n) = omega arith
-abs_parts (negsuc n) = omega arith
-
-one_side : (z : ℤ) → (up z ≡ 0) ⊎ (down z ≡ 0)
-one_side (pos n) = inr refl
-one_side (negsuc n) = inl refl
-
-near_next : (n : ℕ) (z : ℤ) → unsigned_abs z ≤ n → unsigned_abs (z +ℤ pos 1) ≤ n + 1
-near_next n (pos m) h = omega (arith, h, abs_parts (pos m +ℤ pos 1), sum_is_lem (pos m) (pos 1))
-near_next n (negsuc m) h = elim (one_side (negsuc m +ℤ pos 1)) [
-  | inl e ↦ omega (arith, e, h, abs_parts (negsuc m +ℤ pos 1), sum_is_lem (negsuc m) (pos 1))
-  | inr e ↦ omega (arith, e, h, abs_parts (negsuc m +ℤ pos 1), sum_is_lem (negsuc m) (pos 1))
-]
 
 pub both_left : (sides : Sides) (ids : ℕ) (at : ℤ) → unsigned_abs at ≤ 2 ^ 100 → CanHalve sides at → LeavesBoth sides (farthest ids + 1) at
 both_left sides ids at near halves = record {

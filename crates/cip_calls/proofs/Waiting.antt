@@ -19,7 +19,7 @@ use Rattle.cip_plugin.specs.Asking.{asks}
 use Rattle.cip_plugin.specs.Calls.{Ask, Answer, Call, Asked}
 use Rattle.cip_plugin.specs.declared.asking.Given.{Given}
 use Rattle.cip_plugin.specs.declared.kinds.Kind.{Kind}
-use Rattle.cip_search.proofs.Members.{here, later, is_kept, kept_passes, kept_was_there}
+use Rattle.cip_search.proofs.Members.{is_kept, kept_passes, kept_was_there}
 use Rattle.cip_plugin.specs.declared.keys.Key.{Key}
 use Rattle.cip_plugin.specs.Calling.{is_ready, keys_from, same_kind, noted, turn_of, all_turns}
 use Rattle.cip_plugin.specs.Ranks.{decided_by, rank_order}
@@ -30,6 +30,7 @@ use Rattle.cip_roster.specs.Turns.{HadTurn}
 use Rattle.cip_roster.proofs.Calm.{Face, face, run_calm, turn_calm}
 use Rattle.cip_calls.specs.Waiting.{is_asked, waiting, IsTurnOf, HasAskedNext}
 use Rattle.cip_calls.proofs.Calling.{turn_some, some_none}
+use Rattle.cip_problem.proofs.Log.Entering.{contains_here, contains_later}
 
 -- ---- the order of keys
 
@@ -258,11 +259,11 @@ own_key test seats k c =
     (keys_own test seats 0 seats (λ i s at. subst (λ n. slice_get seats n ≡ Some s) (sym (zero_more i)) at))) c
 
 has_here : (k x : Key) (rest : List Key) (b : Bool) → k ≡ x → b ≡ true → Contains (cond b (k ∷ rest) rest) x
-has_here k x rest true e is = subst (Contains (k ∷ rest)) e (here k rest)
+has_here k x rest true e is = subst (Contains (k ∷ rest)) e (contains_here k rest)
 has_here k x rest false e is = absurd (true≢false (sym is))
 
 has_later : (k x : Key) (rest : List Key) (b : Bool) → Contains rest x → Contains (cond b (k ∷ rest) rest) x
-has_later k x rest true c = later k x rest c
+has_later k x rest true c = contains_later k x rest c
 has_later k x rest false c = c
 
 -- who is asked so has a key
@@ -290,14 +291,14 @@ waits_first ask seats id s at is =
 turn_asks : (id : ℕ) (ask : Ask) (answer : Answer) (rest : List Step) → Contains (asks_in (calls_of id (turn_of id ask answer ++ rest))) ask
 turn_asks id ask answer rest =
     let calls : List Call = calls_of id (noted id answer ++ rest) in
-    subst (λ (b : Bool). Contains (asks_in (cond b (Asked ask answer ∷ calls) calls)) ask) (sym (eq-eqb id id refl)) (here ask (asks_in calls))
+    subst (λ (b : Bool). Contains (asks_in (cond b (Asked ask answer ∷ calls) calls)) ask) (sym (eq-eqb id id refl)) (contains_here ask (asks_in calls))
 
 still_by : (p q : Key → Bool) (all : List Key) (x k : Key) (b : Bool) → q x ≡ b → Contains all x → (b ≡ false → x.id ≡ k.id) → (x.id ≡ k.id) ⊎ Contains (filter q all) x
 still_by p q all x k true e c other = inr (is_kept q all x c e)
 still_by p q all x k false e c other = inl (other refl)
 
-still_waits : (p q : Key → Bool) (all : List Key) (x k : Key) → Contains all x → (q x ≡ false → x.id ≡ k.id) → (later : List Key) → later ≡ filter q all
-    → (x.id ≡ k.id) ⊎ Contains later x
+still_waits : (p q : Key → Bool) (all : List Key) (x k : Key) → Contains all x → (q x ≡ false → x.id ≡ k.id) → (contains_later : List Key) → contains_later ≡ filter q all
+    → (x.id ≡ k.id) ⊎ Contains contains_later x
 still_waits p q all x k c other left e =
     subst (λ (l : List Key). (x.id ≡ k.id) ⊎ Contains l x) (sym e) (still_by p q all x k (q x) refl c other)
 

@@ -21,12 +21,9 @@ pub use Rattle.cip_core.specs.CutoffRow
 pub use Rattle.cip_core.specs.Figures
 pub use Rattle.cip_core.specs.Later
 pub use Rattle.cip_cert.specs.Lent
-pub use Rattle.cip_core.specs.declared.relaxed.Mark
-pub use Rattle.cip_core.specs.NodeRows
 pub use Rattle.cip_cert.specs.declared.rows.PoolRow
 pub use Rattle.cip_core.specs.Presolved
 pub use Rattle.cip_core.specs.PresolvedPrograms
-pub use Rattle.cip_core.specs.Relaxing
 pub use Rattle.cip_rows.specs.RowPools
 pub use Rattle.cip_core.specs.Searched
 pub use Rattle.cip_cert.specs.declared.splits.SplitCut

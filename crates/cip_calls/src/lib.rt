@@ -25,7 +25,7 @@ mod splits;
 mod verdicts;
 
 pub use asks::{Asks, Round, Turn};
-pub use cip_core::{Core, Mark, PostsolveFault, Presolved, postsolve};
+pub use cip_core::{Core, PostsolveFault, Presolved, postsolve};
 pub use cip_domain::Side;
 pub use cutoffs::judge_cutoff;
 pub use cuts::judge_cut;

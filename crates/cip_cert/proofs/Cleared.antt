@@ -9,13 +9,11 @@ use Rattle.std.proofs.lemmas.Bool.{cases_eq, cases_lt}
 use Rattle.cip_rational.specs.Rational.{ℚ, zeroℚ}
 use Rattle.cip_rational.proofs.Rational.Compare.{ℚ_discrete}
 use Rattle.cip_cert.specs.Touched.{Tells}
+use Rattle.cip_problem.proofs.Tried.{not_in_nothing}
 
 -- a number that is not unequal to 0 is 0
 pub zero_by : (q : ℚ) → ¬ (q ≢ zeroℚ) → q ≡ zeroℚ
 zero_by q h = elim (ℚ_discrete q zeroℚ) [ yes e ↦ e | no n ↦ absurd (h n) ]
-
-pub none_in_nothing : (x : ℕ) → ¬ Contains [] x
-none_in_nothing x h = absurd (omega (arith, h.1))
 
 first_or_later : (y x : ℕ) (ys : List ℕ) → Contains (y ∷ ys) x → (y ≡ x) ⊎ Contains ys x
 first_or_later y x ys (zero, h, k) = inl k
@@ -44,7 +42,7 @@ covers_more entries columns i column l e h c k n = elim (cases_eq k column) [
 ]
 
 pub covers_end : (entries : List ℚ) (columns : List ℕ) → columns ≡ [] → Covers entries columns → entries ≡ replicate (length entries) zeroℚ
-covers_end entries columns e c = all_zeros entries (λ k. zero_by _ (λ n. none_in_nothing k (subst (λ ys. Contains ys k) e (c k n))))
+covers_end entries columns e c = all_zeros entries (λ k. zero_by _ (λ n. not_in_nothing k (subst (λ ys. Contains ys k) e (c k n))))
 
 -- a row of zeros is told by no column
 none_there : (n k : ℕ) → get_or (replicate n zeroℚ) k zeroℚ ≡ zeroℚ

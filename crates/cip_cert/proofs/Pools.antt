@@ -1,13 +1,9 @@
 -- Rows of the pool by rising id.
 use Rattle.std.proofs.Common.{◌≡◌, ◌≢◌, ℕ, zero, suc, ◌+◌, ◌-◌, ◌/◌, ◌<◌, ◌≤◌, List, [], ◌∷◌, length, get_or, None, refl, sym, ap, ◌∙◌, subst, arith, slice_get, inl, inr}
 use Rattle.std.proofs.lemmas.Bool.{cases_eq, cases_lt, eq-eqb, ne_eqb}
+use Rattle.std.proofs.lemmas.List.{get_or_default}
 use Rattle.cip_cert.specs.declared.rows.PoolRow.{PoolRow}
 use Rattle.cip_cert.specs.Pool.{pool_row, AreRising}
-
-pub same_default : {X : Type 0} (xs : List X) (i : ℕ) (d e : X) → i < length xs → get_or xs i d ≡ get_or xs i e
-same_default [] i d e h = absurd (omega (arith, h))
-same_default (x ∷ xs) zero d e h = refl
-same_default (x ∷ xs) (suc i) d e h = same_default xs i d e (omega (arith, h))
 
 -- the middle of a stretch
 pub middle_within : (low high : ℕ) → low < high → low + (high - low) / 2 < high
@@ -15,7 +11,7 @@ middle_within low high h = omega arith
 
 pub more_before : (pool : List PoolRow) (m id : ℕ) (e : PoolRow) → AreRising pool → m < length pool → (get_or pool m e).id < id → (k : ℕ) (d : PoolRow) → k < m + 1 → (get_or pool k d).id < id
 more_before pool m id e rising l h k d b =
-    let same : (get_or pool m d).id ≡ (get_or pool m e).id = ap (λ (p : PoolRow). p.id) (same_default pool m d e l) in
+    let same : (get_or pool m d).id ≡ (get_or pool m e).id = ap (λ (p : PoolRow). p.id) (get_or_default pool m d e l) in
     elim (cases_eq k m) [
       | inl f ↦ subst (λ (i : ℕ). (get_or pool i d).id < id) (sym f) (omega (arith, same, h))
       | inr n ↦ omega (arith, same, h, rising k m d (omega (arith, b, n)) l)
@@ -23,7 +19,7 @@ more_before pool m id e rising l h k d b =
 
 pub less_after : (pool : List PoolRow) (m id : ℕ) (e : PoolRow) → AreRising pool → m < length pool → id ≤ (get_or pool m e).id → (k : ℕ) (d : PoolRow) → m ≤ k → k < length pool → id ≤ (get_or pool k d).id
 less_after pool m id e rising l h k d b w =
-    let same : (get_or pool m d).id ≡ (get_or pool m e).id = ap (λ (p : PoolRow). p.id) (same_default pool m d e l) in
+    let same : (get_or pool m d).id ≡ (get_or pool m e).id = ap (λ (p : PoolRow). p.id) (get_or_default pool m d e l) in
     elim (cases_eq k m) [
       | inl f ↦ subst (λ (i : ℕ). id ≤ (get_or pool i d).id) (sym f) (omega (arith, same, h))
       | inr n ↦ omega (arith, same, h, rising m k d (omega (arith, b, n)) w)
@@ -56,4 +52,4 @@ none_between pool place id rising before after other = not_found pool id apart
     ]
 
 pub other_default : (pool : List PoolRow) (place id : ℕ) (e : PoolRow) → (get_or pool place e).id ≢ id → (d : PoolRow) → place < length pool → (get_or pool place d).id ≢ id
-other_default pool place id e h d l f = h (ap (λ (p : PoolRow). p.id) (same_default pool place e d l) ∙ f)
+other_default pool place id e h d l f = h (ap (λ (p : PoolRow). p.id) (get_or_default pool place e d l) ∙ f)

@@ -28,7 +28,7 @@ use Rattle.cip_cert.proofs.Meaning.{derived_follows}
 
 -- ---- rows by their names
 
-pool_row_of : (t : Bool) (xs ys : List PoolRow) (id : ℕ) → pool_row (cond t xs ys) id ≡ cond t (pool_row xs id) (pool_row ys id)
+pub pool_row_of : (t : Bool) (xs ys : List PoolRow) (id : ℕ) → pool_row (cond t xs ys) id ≡ cond t (pool_row xs id) (pool_row ys id)
 pool_row_of true xs ys id = refl
 pool_row_of false xs ys id = refl
 
@@ -84,13 +84,13 @@ follows_without lent integral box columns combo round fits room h =
 
 -- ---- validity
 
-dearer_than_each : (held : Option ℚ) (rests : Bool) → IsNoDearer held (valid_below held rests)
+pub dearer_than_each : (held : Option ℚ) (rests : Bool) → IsNoDearer held (valid_below held rests)
 dearer_than_each None true = tt
 dearer_than_each (Some cost) true = ≤ℚ_refl cost
 dearer_than_each held false = tt
 
 -- the rows of a pool hold in their scopes at a point that is improving below what each needs
-pool_holds : (program : Program) (held : Option ℚ) (pool : List PoolRow) (point : List ℚ) → IsImproving program held point → AllByRecursion (λ kept. IsValidRow program (valid_below held kept.rests) kept.scope kept.row) pool → AllByRecursion (λ kept. IsInBox kept.scope point → IsSatisfied kept.row point) pool
+pub pool_holds : (program : Program) (held : Option ℚ) (pool : List PoolRow) (point : List ℚ) → IsImproving program held point → AllByRecursion (λ kept. IsValidRow program (valid_below held kept.rests) kept.scope kept.row) pool → AllByRecursion (λ kept. IsInBox kept.scope point → IsSatisfied kept.row point) pool
 pool_holds program held [] point i h = tt
 pool_holds program held (k ∷ ks) point i h =
     (h.0 point (fewer program held (valid_below held k.rests) point (dearer_than_each held k.rests) i), pool_holds program held ks point i h.1)
@@ -109,11 +109,11 @@ pool_released program held pool h =
     All-from_recursion (λ (kept : PoolRow). IsValidRow program (valid_below None kept.rests) kept.scope kept.row) (released pool)
     (released_valid program held pool (recursion_from_All (λ (kept : PoolRow). IsValidRow program (valid_below held kept.rests) kept.scope kept.row) pool h))
 
-cutoff_at : (program : Program) (held : Option ℚ) (box : List Sides) (cutoff : Option Row) (point : List ℚ) → IfSome cutoff (IsValidRow program held box) → IsImproving program held point → IsInBox box point → IfSome cutoff (λ row. IsSatisfied row point)
+pub cutoff_at : (program : Program) (held : Option ℚ) (box : List Sides) (cutoff : Option Row) (point : List ℚ) → IfSome cutoff (IsValidRow program held box) → IsImproving program held point → IsInBox box point → IfSome cutoff (λ row. IsSatisfied row point)
 cutoff_at program held box None point h i w = tt
 cutoff_at program held box (Some row) point h i w = h point i w
 
-lent_holds : (program : Program) (held : Option ℚ) (box : List Sides) (lent : Lent) (point : List ℚ) → IsLentOf program held box lent → IsImproving program held point → IsInBox box point → RowsHold lent point
+pub lent_holds : (program : Program) (held : Option ℚ) (box : List Sides) (lent : Lent) (point : List ℚ) → IsLentOf program held box lent → IsImproving program held point → IsInBox box point → RowsHold lent point
 lent_holds program held box lent point l i w = record {
   own = subst (λ (rows : List Row). AllByRecursion (λ row. IsSatisfied row point) rows) (sym l.own) i.feasible.rows;
   pool = pool_holds program held lent.pool point i (recursion_from_All (λ (kept : PoolRow). IsValidRow program (valid_below held kept.rests) kept.scope kept.row) lent.pool l.pool);

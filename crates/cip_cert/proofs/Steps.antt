@@ -5,6 +5,7 @@ use Rattle.std.specs.List.Sorted.{IsSorted}
 use Rattle.std.proofs.Math.ListN.{drop_of_length-le}
 use Rattle.std.proofs.lemmas.Bool.{cases_lt, cases_eq}
 use Rattle.std.proofs.lemmas.List.Sorted.{IsNonDecreasingBy-from_sort}
+use Rattle.std.proofs.lemmas.List.{get_or_default}
 use Rattle.cip_rational.specs.Rational.{ℚ, zeroℚ, negate}
 use Rattle.cip_rational.proofs.Rational.Compare.{ℚ_discrete}
 use Rattle.cip_rational.proofs.Rational.Ring.{negate_zero}
@@ -17,7 +18,6 @@ use Rattle.cip_cert.specs.Touched.{Tells}
 use Rattle.cip_cert.specs.Checks.{chain, first_stop, is_named, rest_added, own_rest_added, rests_from}
 use Rattle.cip_node_rules.specs.RowRules.{stops_rounding}
 use Rattle.cip_cert.proofs.Cleared.{zero_by}
-use Rattle.cip_cert.proofs.Pools.{same_default}
 
 -- ---- columns that weren't passed
 
@@ -27,7 +27,7 @@ untouched entries touched next i upto limit tells passed coming k a b c = zero_b
   where
     seen : Contains touched k → ⊥
     seen (j, l, e) =
-        let same : get_or touched j 0 ≡ k = same_default touched j 0 k l ∙ e in
+        let same : get_or touched j 0 ≡ k = get_or_default touched j 0 k l ∙ e in
         elim (cases_lt j i) [
           | inl h ↦ absurd (omega (arith, same, a, passed j h (omega (arith, same, c))))
           | inr h ↦ absurd (omega (arith, same, b, coming j h l))
@@ -128,7 +128,7 @@ before_that whole entries touched i upto tells passed coming k b c = elim (ℚ_d
   where
     seen : Contains touched k → stops_at whole entries k ≡ false
     seen (j, l, e) =
-        let same : get_or touched j 0 ≡ k = same_default touched j 0 k l ∙ e in
+        let same : get_or touched j 0 ≡ k = get_or_default touched j 0 k l ∙ e in
         elim (cases_lt j i) [
           | inl h ↦ subst (λ m. stops_at whole entries m ≡ false) same (passed j h (omega (arith, same, c)))
           | inr h ↦ absurd (omega (arith, same, b, coming j h l))

@@ -4,7 +4,7 @@ use Rattle.std.specs.Prelude.{IsErr}
 use Rattle.std.specs.Bool.{MatchBool}
 use Rattle.std.proofs.lemmas.Bool.{false_from_ne_true}
 use Rattle.std.proofs.Math.ListN.{drop_of_length-le}
-use Rattle.std.proofs.lemmas.List.{drop_more}
+use Rattle.std.proofs.lemmas.List.{drop_more, get_or_default}
 use Rattle.cip_rational.specs.Rational.{ℚ, ◌-ℚ◌, zeroℚ, ◌<ℚ◌, lt_test}
 use Rattle.cip_rational.specs.Range.{difference_overflows}
 use Rattle.cip_rational.proofs.Rational.Order.{test_of_lt, lt_of_test}
@@ -17,7 +17,6 @@ use Rattle.cip_cert.specs.declared.faults.CutFault.{CutFault}
 use Rattle.cip_cert.specs.declared.faults.CutFault.TheVariants.{Wide}
 use Rattle.cip_cert.specs.declared.faults.FaultPlace.{FaultPlace}
 use Rattle.cip_cert.specs.declared.faults.FaultPlace.TheVariants.{Entry, Column}
-use Rattle.cip_cert.proofs.Pools.{same_default}
 
 -- ---- entries, the first of which has a number
 
@@ -48,7 +47,7 @@ module _ {M I : Type 0} (one : ℕ → M → I → Result I CutFault) (all : ℕ
 -- what was read twice at a place is the same
 pub same_item : {X : Type 0} (xs : List X) (at : ℕ) (x y : X) → at < length xs → x ≡ get_or xs at x → y
     ≡ get_or xs at y → x ≡ y
-same_item xs at x y l e f = e ∙ same_default xs at x y l ∙ sym f
+same_item xs at x y l e f = e ∙ get_or_default xs at x y l ∙ sym f
 
 -- ---- the terms of a part
 
@@ -64,7 +63,7 @@ module _ (entry : ℕ) (factor : ℚ) (at : ℕ) (ts : List Term) (ds : List ℚ
         ∙ ap₂ (λ (k : ℕ) (q : ℚ). chain (placed (Entry entry) (product_added (value_at ds k) factor q))
         (λ d. add_terms entry factor (drop (at + 1) ts) (set ds k d))) (sym column_is) (sym coefficient_is)
         ∙ ap (λ q. chain (placed (Entry entry) (product_added q factor coefficient)) (λ d. add_terms entry factor (drop
-        (at + 1) ts) (set ds column d))) (same_default ds column zeroℚ before below ∙ sym before_is)
+        (at + 1) ts) (set ds column d))) (get_or_default ds column zeroℚ before below ∙ sym before_is)
 
     pub term_added : (value : ℚ) (others : List ℚ) → Ok value ≡ placed (Entry entry)
         (product_added before factor coefficient) → others ≡ set ds column value

@@ -191,23 +191,6 @@ module _ (points : List PoolPoint) (block : ℕ) (values : List ℚ) where
 
 -- ---- pools
 
-pub no_points : (firsts : List ℕ) → length firsts ≡ group_count → ((k : ℕ) → get_or firsts k 0 ≡ 0)
-    → IsSoundPool [] firsts []
-no_points firsts e zeros = record {
-  few = omega arith;
-  counted = λ k d h. absurd (omega (arith, h));
-  groups = e;
-  each = refl;
-  first = λ g h. subst (λ l. Skips [] g l 0) (sym (zeros g))
-      (record {
-        within = omega arith;
-        named = λ k f d. absurd (omega (arith, f));
-        others = λ k l m d. absurd
-            (omega (arith, m));
-      });
-  next = λ k d h. absurd (omega (arith, h));
-}
-
 pub pool_pushed : (points : List PoolPoint) (firsts links : List ℕ) (block : ℕ) (values : List ℚ) (group link : ℕ)
     → group ≡ group_of block values → group < group_count → length points < most_points → link ≡ length points + 1
     → IsSoundPool points firsts links

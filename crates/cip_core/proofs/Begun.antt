@@ -10,6 +10,7 @@ use Rattle.cip_problem.specs.Log.{Entry, Node}
 use Rattle.cip_problem.proofs.BoxBound.BelowCosts.{root_bound_holds}
 use Rattle.cip_problem.specs.Cuts.{HasWholeCosts}
 use Rattle.cip_problem.specs.Improving.{IsBoundIn}
+use Rattle.cip_problem.proofs.Covers.{the_only}
 use Rattle.cip_search.specs.WideLeaf.{IsWideLeaf}
 use Rattle.cip_lin.specs.declared.outcomes.Least.{Least}
 use Rattle.cip_lin.specs.declared.outcomes.Least.TheVariants.{Value, NoBound, Wide}
@@ -20,7 +21,6 @@ use Rattle.cip_search.specs.SearchState.{IsWayBack, HasGivenBoxes}
 use Rattle.cip_search.proofs.Kept as searching
 use Rattle.cip_search.proofs.AsGiven as giving
 use Rattle.cip_search.proofs.GivenBoxes as boxing
-use Rattle.cip_search.proofs.Members.{only_one}
 use Rattle.cip_presolve.specs.StepsBack.{StepsTaken, point_back, way_back}
 use Rattle.cip_tree.specs.Nodes.{Nodes}
 use Rattle.cip_tree.specs.Moves.{IsNew}
@@ -103,7 +103,7 @@ module _ (program reduced : Program) (steps : StepsTaken) (tree : Nodes) (start 
         as_given = giving.begun reduced start None;
         root = refl;
         integral = refl;
-        near = λ node c. subst (λ (n : Node). IsNearBox reduced 1 n.box) (only_one (first_node reduced start) node c) (near_box reduced near);
+        near = λ node c. subst (λ (n : Node). IsNearBox reduced 1 n.box) (the_only (first_node reduced start) node c) (near_box reduced near);
       })
 
   pub begun_boxes : HasGivenBoxes reduced tree.root.bound (state_of tree None [])

@@ -8,13 +8,14 @@ use Rattle.cip_problem.specs.WellFormed.{IsWellFormed, columns}
 use Rattle.cip_problem.specs.Log.{End, Node, Split, Closed, Parked, matters}
 use Rattle.cip_problem.specs.Cuts.{HasWholeCosts}
 use Rattle.cip_problem.specs.Improving.{IsBoundIn, HasNoImproving, IsNoDearer}
+use Rattle.cip_problem.proofs.Log.Entering.{contains_here, contains_later}
 use Rattle.cip_rows.proofs.ValidPools.{last_valid, later_valid}
 use Rattle.cip_domain.proofs.Boxes.{length-narrowed}
 use Rattle.cip_cert.specs.declared.rows.PoolRow.{PoolRow}
 use Rattle.cip_search.specs.WideLeaf.{IsWideLeaf}
 use Rattle.cip_search.specs.Searched.{NoMore}
 use Rattle.cip_search.specs.SearchState.{IsStuck, HasGivenBoxes}
-use Rattle.cip_search.proofs.Members.{here, later, is_kept, kept_passes}
+use Rattle.cip_search.proofs.Members.{is_kept, kept_passes}
 use Rattle.cip_search.proofs.GivenBoxes as boxing
 use Rattle.cip_incumbent.specs.HeldPoint.{Holding}
 use Rattle.cip_tree.specs.Nodes.{Nodes, TakenNode, base_at, node_changes, region_in, region_of, box_of, shown}
@@ -27,8 +28,7 @@ use Rattle.cip_core.specs.CoreStates.{CoreState, reduced_of, way_of, held_of, Is
 use Rattle.cip_core.specs.KeptNodes.{cost_held, state_of, farthest, IsKept, AllMatter, IsHolding}
 use Rattle.cip_core.specs.Later.{IsLater, IsNarrower, IsLaterAt}
 use Rattle.cip_core.specs.SplitPlaces.{IsSplitPlace}
-use Rattle.cip_incumbent.specs.declared.offers.Offered.{Offered}
-use Rattle.cip_core.specs.Steps.{LeavesEntry, HasLeft, IsBack, IsTrimmedAt, IsTrimmed, IsOffered, aged}
+use Rattle.cip_core.specs.Steps.{LeavesEntry, HasLeft, IsBack, IsTrimmedAt, IsTrimmed, aged}
 use Rattle.cip_core.proofs.KeptSteps.{kept_closed, kept_pruned, kept_parked, kept_taken, kept_raised, kept_lowered, kept_back, kept_let_go, kept_split, boxes_split, shown_same, cheaper_matters}
 use Rattle.cip_core.proofs.HeldAfter.{itself}
 use Rattle.cip_core.proofs.Relations.{narrower_itself}
@@ -64,7 +64,7 @@ taken_up core tree node t k =
     record {
       nodes = kept_in_same core tree now (shown tree node ∷ []) t.rest (record {
         kept = kept_taken core.program (reduced_of core) (way_of core) old now (held_of core) (shown tree node) tree.open_ tree.taken refl t.nodes k.kept;
-        matter = λ other c. k.matter other (Contains-permutation (shown tree node ∷ tree.open_) old.open_ other (IsPermutation-sym old.open_ (shown tree node ∷ tree.open_) t.nodes) (later (shown tree node) other tree.open_ c));
+        matter = λ other c. k.matter other (Contains-permutation (shown tree node ∷ tree.open_) old.open_ other (IsPermutation-sym old.open_ (shown tree node ∷ tree.open_) t.nodes) (contains_later (shown tree node) other tree.open_ c));
         boxes = λ u. boxing.taken (reduced_of core) old.root.bound state (shown tree node) tree.open_ t.nodes (k.boxes u);
       });
       taken = t.taken;
@@ -74,7 +74,7 @@ taken_up core tree node t k =
 pub taken_given : (core : CoreState) (tree : Nodes) (node : TakenNode) → TakesFirst core.tree tree node → IsKeptIn core [] → IsGivenBound (with_tree core tree) node.number node.bound
 taken_given core tree node t k =
     subst (λ (t : Nodes). IsGivenBound (with_tree core t) node.number node.bound) (sym t.rest)
-    (λ given e. k.kept.as_given.bounds (shown tree node) given (Contains-permutation (shown tree node ∷ tree.open_) core.tree.open_ (shown tree node) (IsPermutation-sym core.tree.open_ (shown tree node ∷ tree.open_) t.nodes) (here (shown tree node) tree.open_)) e)
+    (λ given e. k.kept.as_given.bounds (shown tree node) given (Contains-permutation (shown tree node ∷ tree.open_) core.tree.open_ (shown tree node) (IsPermutation-sym core.tree.open_ (shown tree node ∷ tree.open_) t.nodes) (contains_here (shown tree node) tree.open_)) e)
 
 pub took : (core : CoreState) (tree : Nodes) (node : Option TakenNode) → MatchOption node ((core.tree.open_ ≡ []) × (tree ≡ core.tree)) (TakesFirst core.tree tree) → IsKeptIn core [] → MatchOption node (IsKeptIn (with_tree core tree) []) (IsTakenUp (with_tree core tree))
 took core tree None h k = kept_in_same core tree core.tree [] h.1 k
@@ -83,10 +83,6 @@ took core tree (Some node) h k = taken_up core tree node h k
 pub took_given : (core : CoreState) (tree : Nodes) (node : Option TakenNode) → MatchOption node ((core.tree.open_ ≡ []) × (tree ≡ core.tree)) (TakesFirst core.tree tree) → IsKeptIn core [] → MatchOption node (IsKeptIn (with_tree core tree) []) (λ node. IsGivenBound (with_tree core tree) node.number node.bound)
 took_given core tree None h k = kept_in_same core tree core.tree [] h.1 k
 took_given core tree (Some node) h k = taken_given core tree node h k
-
-pub took_first : (core : CoreState) (tree : Nodes) (node : Option TakenNode) → MatchOption node ((core.tree.open_ ≡ []) × (tree ≡ core.tree)) (TakesFirst core.tree tree) → MatchOption node ((core.tree.open_ ≡ []) × (with_tree core tree ≡ core)) (TakesFirst core.tree tree)
-took_first core tree None h = (h.0, ap (with_tree core) h.1)
-took_first core tree (Some node) h = h
 
 -- ---- nodes end
 
@@ -332,7 +328,7 @@ module _ (core : CoreState) (node : TakenNode) (bound : Option ℚ) (back tree :
     later = later_tree core tree (ap (λ (n : Nodes). n.root) all_same) (ap (λ (n : Nodes). n.integral) all_same) (omega (arith, ap (λ (n : Nodes). n.ids) all_same));
     open_ = λ m. record {
       node = restored;
-      among = trimmed_open back tree (held_of core) restored t (Contains-permutation (restored ∷ core.tree.open_) back.open_ restored nodes (here restored core.tree.open_)) m;
+      among = trimmed_open back tree (held_of core) restored t (Contains-permutation (restored ∷ core.tree.open_) back.open_ restored nodes (contains_here restored core.tree.open_)) m;
       number_is = refl;
       bound_is = refl;
     };
@@ -392,11 +388,6 @@ pub work_long : (core : CoreState) (node : TakenNode) → IsWellFormed (reduced_
 work_long core node formed w =
     ap (λ (r : Region). length r.box) w.region ∙ length-narrowed (region_in core.tree.root) (node_changes core.tree node)
     ∙ ap (λ (n : Node). length n.box) w.up.nodes.kept.root ∙ formed.bounds
-
--- a node's region is the same after a point was offered
-pub region_offered : (old new : CoreState) (node : TakenNode) (point : List ℚ) (answer : Offered) → IsOffered old new point answer → IsLater old new → region_of new.tree node ≡ region_of old.tree node
-region_offered old new node point answer o l =
-    ap region_in (shown_same old.tree new.tree node (trimmed_base old.tree new.tree (held_of new) node.place o.trimmed) l.root)
 
 -- ---- what holds always
 

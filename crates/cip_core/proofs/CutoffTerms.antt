@@ -1,9 +1,8 @@
 -- The terms of the cutoff row, one after another.
-use Rattle.std.proofs.Common.{◌≡◌, ℕ, ◌+◌, ◌<◌, ◌≤◌, List, [], ◌∷◌, ◌++◌, length, get_or, Option, None, sym, ap, ◌∙◌, subst}
+use Rattle.std.proofs.Common.{◌≡◌, ℕ, ◌+◌, ◌<◌, List, [], ◌∷◌, ◌++◌, length, get_or, None, sym, subst}
 use Rattle.cip_rational.specs.Rational.{ℚ, zeroℚ}
-use Rattle.cip_problem.specs.Program.{Term, Row}
-use Rattle.cip_problem.specs.Cuts.{terms_from}
-use Rattle.cip_rows.proofs.BuiltTerms.{Begun, begun_zero, begun_other, begun_all}
+use Rattle.cip_problem.specs.Program.{Row}
+use Rattle.cip_rows.proofs.BuiltTerms.{Begun, begun_zero, begun_other}
 
 -- a row that is built of costs, without sides
 pub record CutoffBegun (costs : List ℚ) (at : ℕ) (row : Row) : Type 0 where
@@ -19,11 +18,3 @@ cutoff_zero costs at row d l r z b = record { begun = begun_zero costs at row.te
 
 pub cutoff_other : (costs : List ℚ) (at : ℕ) (row : Row) (d : ℚ) → at < length costs → d ≡ get_or costs at d → ¬ (d ≡ zeroℚ) → CutoffBegun costs at row → CutoffBegun costs (at + 1) (record row { terms = row.terms ++ record { column = at; coefficient = d } ∷ [] })
 cutoff_other costs at row d l r n b = record { begun = begun_other costs at row.terms d l r n b.begun; low = b.low; high = b.high }
-
--- it is done
-pub cutoff_done : (costs : List ℚ) (at : ℕ) (row : Row) → length costs ≤ at → CutoffBegun costs at row → row ≡ record { terms = terms_from 0 costs; low = None; high = None }
-cutoff_done costs at row l b =
-    let made : List Term → Option ℚ → Option ℚ → Row = λ terms low high. record { terms = terms; low = low; high = high } in
-    ap (λ t. made t row.low row.high) (begun_all costs at row.terms l b.begun)
-    ∙ ap (λ s. made (terms_from 0 costs) s row.high) b.low
-    ∙ ap (λ s. made (terms_from 0 costs) None s) b.high

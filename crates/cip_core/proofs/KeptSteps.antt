@@ -1,31 +1,32 @@
 -- Steps of the tree keep what holds of a search.
-use Rattle.std.proofs.Common.{◌≡◌, ◌≢◌, inl, inr, ℕ, zero, suc, ◌+◌, ◌<◌, ◌≤◌, ℤ, pos, ◌+ℤ◌, unsigned_abs, length, slice_set, slice_get, IfSome, Bool, true, false, List, [], ◌∷◌, ◌++◌, filter, Option, None, Some, Contains, MatchOption, refl, sym, ap, ◌∙◌, subst, arith, true≢false}
+use Rattle.std.proofs.Common.{◌≡◌, ◌≢◌, inl, inr, ℕ, zero, suc, ◌+◌, ◌≤◌, ℤ, pos, ◌+ℤ◌, unsigned_abs, length, slice_set, slice_get, IfSome, Bool, true, false, List, [], ◌∷◌, ◌++◌, filter, Option, None, Some, Contains, refl, sym, ap, ◌∙◌, subst, arith, true≢false}
 use Rattle.std.specs.List.Sorted.{IsPermutation}
 use Rattle.std.proofs.lemmas.Bool.{cases_lt, cases_eq}
 use Rattle.std.proofs.lemmas.Option.{same_Some, none-some}
-use Rattle.std.proofs.lemmas.List.{get_or-set_same}
 use Rattle.cip_rational.specs.Rational.{ℚ, integer, floor, ceil}
 use Rattle.cip_rational.proofs.Rational.Rounding.{floor-integer, ceil-integer}
-use Rattle.cip_problem.specs.Box.{no_sides, sides_at}
+use Rattle.cip_problem.specs.Box.{sides_at}
 use Rattle.cip_problem.specs.Program.{Sides, Choice, Plain, Open, Off, On, Program}
 use Rattle.cip_problem.specs.Choices.{choice_at, is_open, met, zero_sides}
 use Rattle.cip_problem.specs.Log.{Entry, Node, node_of, Split, Closed, Parked, low_of, high_of, low_node, high_node, CanSplit, matters}
 use Rattle.std.proofs.lemmas.List.Elements.{Contains-append_left, Contains-append_right, Contains-append_cases}
 use Rattle.cip_domain.specs.Changes.{narrowed}
 use Rattle.cip_problem.specs.Improving.{IsBoundIn, HasNoImproving, IsNoDearer}
+use Rattle.cip_problem.proofs.Log.Entering.{contains_here, contains_cons, contains_later}
 use Rattle.cip_search.specs.Searched.{first_node, nodes_given, NoMore}
 use Rattle.cip_search.specs.WideLeaf.{IsWideLeaf}
 use Rattle.cip_search.specs.SearchState.{WayBack, HasGivenBoxes, IsAttained, IsStuck}
 use Rattle.cip_search.specs.Statements.{AreHalves}
-use Rattle.cip_search.proofs.Members.{here, later, here_or_later, kept_was_there}
+use Rattle.cip_search.proofs.Members.{kept_was_there}
 use Rattle.cip_search.proofs.Kept as searching
 use Rattle.cip_search.proofs.Ended as ending
 use Rattle.cip_search.proofs.AsGiven as giving
 use Rattle.cip_search.proofs.GivenBoxes as boxing
+use Rattle.cip_search.proofs.Moving.{sides_set}
 use Rattle.std.proofs.lemmas.List.Sorted.{Contains-permutation, IsPermutation-sym}
 use Rattle.cip_tree.specs.Nodes.{Nodes, Base, TakenNode, base_at, base_changes, region_in, node_in, region_of, box_of, choices_of, shown}
 use Rattle.cip_tree.specs.Notes.{noted}
-use Rattle.cip_tree.specs.Moves.{TakesFirst, IsSplit, is_cheaper}
+use Rattle.cip_tree.specs.Moves.{IsSplit, is_cheaper}
 use Rattle.cip_tree.specs.Searched.{IsSearched}
 use Rattle.cip_node_rules.specs.OpenColumns.{is_whole_at}
 use Rattle.cip_node_rules.specs.SplitRules.{AreNear, LeavesBoth}
@@ -47,7 +48,7 @@ kept_closed program reduced way old new held node taken e h k =
       as_given = giving.closed program reduced way IsWideLeaf old.root.bound state node [] refl k.searched k.as_given;
       root = k.root;
       integral = k.integral;
-      near = λ other c. k.near other (later node other old.open_ c);
+      near = λ other c. k.near other (contains_later node other old.open_ c);
     })
 
 pub kept_pruned : (program reduced : Program) (way : WayBack) (old new : Nodes) (held : Option ℚ) (node : Node) (taken : List (Option Base)) → new ≡ record old { taken = taken; log = old.log ++ record { node = node.number; bound = node.bound; end = Closed } ∷ [] } → matters held node.bound ≡ false → IsKept program reduced way old held (node ∷ []) → IsKept program reduced way new held []
@@ -59,7 +60,7 @@ kept_pruned program reduced way old new held node taken e h k =
       as_given = giving.closed program reduced way IsWideLeaf old.root.bound state node [] refl k.searched k.as_given;
       root = k.root;
       integral = k.integral;
-      near = λ other c. k.near other (later node other old.open_ c);
+      near = λ other c. k.near other (contains_later node other old.open_ c);
     })
 
 pub kept_parked : (program reduced : Program) (way : WayBack) (old new : Nodes) (held : Option ℚ) (node : Node) (taken : List (Option Base)) → new ≡ record old { parked = old.parked ++ node ∷ []; taken = taken; log = old.log ++ record { node = node.number; bound = node.bound; end = Parked } ∷ [] } → IsStuck program reduced way IsWideLeaf node → IsKept program reduced way old held (node ∷ []) → IsKept program reduced way new held []
@@ -71,7 +72,7 @@ kept_parked program reduced way old new held node taken e h k =
       as_given = giving.parked program reduced way IsWideLeaf old.root.bound state node [] refl k.searched k.as_given;
       root = k.root;
       integral = k.integral;
-      near = λ other c. k.near other (later node other old.open_ c);
+      near = λ other c. k.near other (contains_later node other old.open_ c);
     })
 
 -- the first open node is taken up
@@ -86,10 +87,6 @@ kept_taken program reduced way old new held node open_ taken e p k =
       integral = k.integral;
       near = λ other c. k.near other (Contains-permutation (node ∷ open_) old.open_ other (IsPermutation-sym old.open_ (node ∷ open_) p) c);
     })
-
-pub taken_or_none : (program reduced : Program) (way : WayBack) (old new : Nodes) (held : Option ℚ) (o : Option TakenNode) → MatchOption o ((old.open_ ≡ []) × (new ≡ old)) (TakesFirst old new) → IsKept program reduced way old held [] → MatchOption o (IsKept program reduced way new held []) (λ node. IsKept program reduced way new held (shown new node ∷ []))
-taken_or_none program reduced way old new held None h k = kept_same program reduced way old new held [] h.1 k
-taken_or_none program reduced way old new held (Some node) h k = kept_taken program reduced way old new held (shown new node) new.open_ new.taken h.rest h.nodes k
 
 -- ---- what a call leaves of a node in work
 
@@ -108,9 +105,9 @@ kept_raised program reduced way tree held node b h l k =
       as_given = giving.raised reduced tree.root.bound state node [] (Some b) refl k.as_given;
       root = k.root;
       integral = k.integral;
-      near = λ other c. elim (here_or_later (record node { bound = Some b }) other tree.open_ c) [
-        | inl e ↦ subst (λ (n : Node). IsNearBox reduced tree.ids n.box) e (k.near node (here node tree.open_))
-        | inr j ↦ k.near other (later node other tree.open_ j)
+      near = λ other c. elim (contains_cons (record node { bound = Some b }) other tree.open_ c) [
+        | inl e ↦ subst (λ (n : Node). IsNearBox reduced tree.ids n.box) e (k.near node (contains_here node tree.open_))
+        | inr j ↦ k.near other (contains_later node other tree.open_ j)
       ];
     }
 
@@ -123,9 +120,9 @@ kept_lowered program reduced way tree held node bound f k =
       as_given = giving.worked reduced tree.root.bound state (record node { bound = bound } ∷ []) k.as_given;
       root = k.root;
       integral = k.integral;
-      near = λ other c. elim (here_or_later (record node { bound = bound }) other tree.open_ c) [
-        | inl e ↦ subst (λ (n : Node). IsNearBox reduced tree.ids n.box) e (k.near node (here node tree.open_))
-        | inr j ↦ k.near other (later node other tree.open_ j)
+      near = λ other c. elim (contains_cons (record node { bound = bound }) other tree.open_ c) [
+        | inl e ↦ subst (λ (n : Node). IsNearBox reduced tree.ids n.box) e (k.near node (contains_here node tree.open_))
+        | inr j ↦ k.near other (contains_later node other tree.open_ j)
       ];
     }
 
@@ -173,14 +170,6 @@ kept_let_go program reduced way old new cost work open_ taken e p k =
       ];
     })
 
-pub let_go_from : (program reduced : Program) (way : WayBack) (old new : Nodes) (held : Option ℚ) (cost : ℚ) (work open_ : List Node) (taken : List (Option Base)) → held ≡ Some cost → new ≡ record old { open_ = open_; taken = taken } → IsPermutation (filter (is_cheaper cost) old.open_) open_ → IsKept program reduced way old held work → IsKept program reduced way new held work
-let_go_from program reduced way old new held cost work open_ taken h e p k =
-    subst (λ t. IsKept program reduced way new t work) (sym h) (kept_let_go program reduced way old new cost work open_ taken e p (subst (λ t. IsKept program reduced way old t work) h k))
-
--- a first node in work that is shown the same
-pub kept_shown : (program reduced : Program) (way : WayBack) (tree : Nodes) (held : Option ℚ) (node other : Node) → other ≡ node → IsKept program reduced way tree held (node ∷ []) → IsKept program reduced way tree held (other ∷ [])
-kept_shown program reduced way tree held node other e k = subst (λ n. IsKept program reduced way tree held (n ∷ [])) (sym e) k
-
 -- ---- splits
 
 pub no_farther : (n m : ℕ) (sides : Sides) → n ≤ m → AreNear n sides → AreNear m sides
@@ -189,9 +178,6 @@ no_farther n m sides l h = record { low = weaker sides.low ceil h.low; high = we
     weaker : (side : Option ℚ) (f : ℚ → ℤ) → IfSome side (λ s. unsigned_abs (f s) ≤ n) → IfSome side (λ s. unsigned_abs (f s) ≤ m)
     weaker None f k = tt
     weaker (Some s) f k = omega (arith, k, l)
-
-at_same : (box : List Sides) (column : ℕ) (sides : Sides) → column < length box → sides_at (slice_set box column sides) column ≡ sides
-at_same box column sides l = get_or-set_same box column sides no_sides l
 
 at_other : (box : List Sides) (column other : ℕ) (sides : Sides) → other ≢ column → sides_at (slice_set box column sides) other ≡ sides_at box other
 at_other [] column other sides d = refl
@@ -209,7 +195,7 @@ past_end (s ∷ ss) (suc column) sides l = ap (λ t. s ∷ t) (past_end ss colum
 pub near_set : (program : Program) (ids : ℕ) (box : List Sides) (column : ℕ) (sides : Sides) → IsNearBox program ids box → AreNear (farthest ids) sides → IsNearBox program ids (slice_set box column sides)
 near_set program ids box column sides h k = λ other w. elim (cases_lt column (length box)) [
   | inl l ↦ elim (cases_eq other column) [
-    | inl e ↦ subst (λ c. AreNear (farthest ids) (sides_at (slice_set box column sides) c)) (sym e) (subst (AreNear (farthest ids)) (sym (at_same box column sides l)) k)
+    | inl e ↦ subst (λ c. AreNear (farthest ids) (sides_at (slice_set box column sides) c)) (sym e) (subst (AreNear (farthest ids)) (sym (sides_set box column sides l)) k)
     | inr d ↦ subst (AreNear (farthest ids)) (sym (at_other box column other sides d)) (h other w)
   ]
   | inr l ↦ subst (λ b. AreNear (farthest ids) (sides_at b other)) (sym (past_end box column sides l)) (h other w)
@@ -274,7 +260,7 @@ module _ (program reduced : Program) (way : WayBack) (old new : Nodes) (held : O
   split_tree = record old { open_ = new.open_; taken = new.taken; ids = old.ids + 2; log = old.log ++ entry ∷ [] }
 
   own_near : IsNearBox reduced old.ids (box_of old node)
-  own_near = k.near (shown old node) (here (shown old node) old.open_)
+  own_near = k.near (shown old node) (contains_here (shown old node) old.open_)
 
   wider_near : IsNearBox reduced (old.ids + 2) (box_of old node)
   wider_near = nearer reduced old.ids (old.ids + 2) (box_of old node) (omega arith) own_near
@@ -283,11 +269,11 @@ module _ (program reduced : Program) (way : WayBack) (old new : Nodes) (held : O
   both_near = near_halves reduced old.ids (shown old node) column at wider_near place
 
   all_near : (other : Node) → Contains new.open_ other → IsNearBox reduced (old.ids + 2) other.box
-  all_near other c = elim (here_or_later low_half_node other (high_half_node ∷ old.open_) (Contains-permutation new.open_ (low_half_node ∷ high_half_node ∷ old.open_) other (IsPermutation-sym (low_half_node ∷ high_half_node ∷ old.open_) new.open_ s.nodes) c)) [
+  all_near other c = elim (contains_cons low_half_node other (high_half_node ∷ old.open_) (Contains-permutation new.open_ (low_half_node ∷ high_half_node ∷ old.open_) other (IsPermutation-sym (low_half_node ∷ high_half_node ∷ old.open_) new.open_ s.nodes) c)) [
     | inl e ↦ subst (λ (n : Node). IsNearBox reduced (old.ids + 2) n.box) e both_near.0
-    | inr j ↦ elim (here_or_later high_half_node other old.open_ j) [
+    | inr j ↦ elim (contains_cons high_half_node other old.open_ j) [
       | inl e ↦ subst (λ (n : Node). IsNearBox reduced (old.ids + 2) n.box) e both_near.1
-      | inr i ↦ nearer reduced old.ids (old.ids + 2) other.box (omega arith) (k.near other (later (shown old node) other old.open_ i))
+      | inr i ↦ nearer reduced old.ids (old.ids + 2) other.box (omega arith) (k.near other (contains_later (shown old node) other old.open_ i))
     ]
   ]
 

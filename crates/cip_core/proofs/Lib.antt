@@ -4,17 +4,11 @@ pub mod CutoffTerms
 pub mod HeldAfter
 pub mod KeptSteps
 pub mod LedBack
-pub mod Lists
 pub mod Made
 pub mod NearColumns
 pub mod OfferedBack
 pub mod OwnChoices
-pub mod PassedOn
 pub mod Relations
 pub mod Rounded
-pub mod Rounding
 pub mod RowsAdded
 pub mod SidesTightened
-pub mod Solvable
-pub mod Solving
-pub mod Told

@@ -1,6 +1,6 @@
 -- Sides below 10^20 are near.
-use borrow.Author.Differences.{up, down, le_out}
-use Rattle.std.proofs.Common.{◌≡◌, ◌⊎◌, inl, inr, ℕ, zero, suc, ◌+◌, ◌^◌, ◌≤◌, ℤ, pos, negsuc, ◌≤ℤ◌, neg_ℤ, unsigned_abs, [], ◌∷◌, length, All, Option, None, Some, IfSome, refl, sym, subst, arith}
+use borrow.Author.Differences.{le_out}
+use Rattle.std.proofs.Common.{◌≡◌, inl, inr, ℕ, zero, suc, ◌^◌, ◌≤◌, ℤ, pos, ◌≤ℤ◌, neg_ℤ, unsigned_abs, length, All, Option, None, Some, IfSome, refl, sym, subst, arith}
 use Rattle.std.proofs.lemmas.Bool.{cases_lt}
 use Rattle.std.proofs.lemmas.List.Elements.{All-get_or}
 use Rattle.std.proofs.lemmas.List.{get_or_past}
@@ -8,20 +8,12 @@ use Rattle.cip_rational.specs.Rational.{ℚ, ◌≤ℚ◌, ◌<ℚ◌, negate, i
 use Rattle.cip_rational.proofs.Rational.Extremes.{absolute_ge}
 use Rattle.cip_rational.proofs.Rational.Order.{≤ℚ_trans, ≤ℚ_of_lt}
 use Rattle.cip_rational.proofs.Rational.Rounding.{floor_le, floor_greatest, le_ceil, ceil_least, le_integer, integer-negate}
-use Rattle.cip_rational.proofs.Linear.{linear_le}
 use Rattle.cip_problem.specs.Program.{Sides, Program}
 use Rattle.cip_problem.specs.Box.{no_sides, sides_at}
 use Rattle.cip_problem.specs.NearSides.{IsNear, HasNearSides}
 use Rattle.cip_node_rules.specs.SplitRules.{AreNear}
+use Rattle.cip_node_rules.proofs.BothSides.{one_side, abs_parts, negate_le_back}
 use Rattle.cip_core.specs.Beginning.{AreNearColumns}
-
-abs_parts : (z : ℤ) → unsigned_abs z ≡ up z + down z
-abs_parts (pos n) = omega arith
-abs_parts (negsuc n) = omega arith
-
-one_side : (z : ℤ) → (up z ≡ 0) ⊎ (down z ≡ 0)
-one_side (pos n) = inr refl
-one_side (negsuc n) = inl refl
 
 neg_size : (n : ℕ) → unsigned_abs (neg_ℤ (pos n)) ≡ n
 neg_size zero = refl
@@ -33,9 +25,6 @@ between n z l m = elim (one_side z) [
   | inl e ↦ omega (arith, e, neg_size n, abs_parts z, abs_parts (neg_ℤ (pos n)), le_out (neg_ℤ (pos n)) z l, le_out z (pos n) m)
   | inr e ↦ omega (arith, e, neg_size n, abs_parts z, abs_parts (neg_ℤ (pos n)), le_out (neg_ℤ (pos n)) z l, le_out z (pos n) m)
 ]
-
-negate_le_back : (a b : ℚ) → negate a ≤ℚ b → negate b ≤ℚ a
-negate_le_back a b h = linear_le (a ∷ b ∷ []) (λ s w. omega (arith, s.le_out))
 
 module _ (n : ℕ) (value : ℚ) (h : absolute value <ℚ integer (pos n)) where
   above : value ≤ℚ integer (pos n)

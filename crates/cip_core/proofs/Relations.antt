@@ -7,7 +7,7 @@ use Rattle.cip_problem.specs.Cuts.{HasWholeCosts}
 use Rattle.cip_problem.specs.Improving.{IsNoDearer, IsImproving}
 use Rattle.cip_problem.proofs.Improving.{fewer}
 use Rattle.cip_search.proofs.Bounds.{no_more_itself}
-use Rattle.cip_search.proofs.Relaxed.{no_more_trans}
+use Rattle.cip_search.proofs.Roots.{no_more}
 use Rattle.cip_tree.specs.Nodes.{TakenNode, shown}
 use Rattle.cip_core.specs.CoreStates.{CoreState, held_of, reduced_of, IsAtWork}
 use Rattle.cip_core.specs.Later.{IsLater, IsNarrower, IsLaterAt, StepsCompose}
@@ -61,7 +61,7 @@ narrower_further mid new was node now l h k =
       choices = k.choices ∙ h.choices;
       inside = λ point w. h.inside point (k.inside point w);
       keeps = λ point i w. k.keeps point i (h.keeps point (fewer (reduced_of mid) (held_of new) (held_of mid) point l.no_dearer (subst (λ p. IsImproving p (held_of new) point) same i)) w);
-      bound = no_more_trans was.bound node.bound now.bound h.bound k.bound;
+      bound = no_more was.bound node.bound now.bound h.bound k.bound;
       whole = elim k.whole [
         | inl e ↦ elim h.whole [
           | inl f ↦ inl (e ∙ f)

@@ -10,7 +10,7 @@ use Rattle.cip_problem.specs.Improving.{IsBoundIn}
 use Rattle.cip_problem.specs.Cuts.{HasWholeCosts}
 use Rattle.cip_problem.proofs.Implied.{whole_bound}
 use Rattle.cip_search.specs.Searched.{NoMore}
-use Rattle.cip_search.proofs.Relaxed.{no_more_trans}
+use Rattle.cip_search.proofs.Roots.{no_more}
 use Rattle.cip_core.specs.CoreStates.{CoreState, reduced_of}
 use Rattle.cip_core.specs.Steps.{IsRaisedTo}
 
@@ -32,7 +32,7 @@ up_rounded b H true m h = refl
 up_rounded b H false m h = absurd (m h)
 
 pub no_more_rounded : (b r : ℚ) (whole : Bool) (bound : Option ℚ) → r ≡ (if whole then integer (ceil b) else b) → NoMore (Some r) bound → NoMore (Some b) bound
-no_more_rounded b r whole bound e l = no_more_trans (Some b) (Some r) bound (subst (λ t. b ≤ℚ t) (sym e) (rounded_up b whole)) l
+no_more_rounded b r whole bound e l = no_more (Some b) (Some r) bound (subst (λ t. b ≤ℚ t) (sym e) (rounded_up b whole)) l
 
 -- what is no less than a rounded bound
 pub raised_to : (core : CoreState) (b r : ℚ) (whole : Bool) (raised : Option ℚ) → MatchBool whole (HasWholeCosts (reduced_of core)) (¬ HasWholeCosts (reduced_of core)) → r ≡ (if whole then integer (ceil b) else b) → NoMore (Some r) raised → IsRaisedTo core b raised

@@ -63,8 +63,8 @@ scope_long core node false formed w = formed.bounds
 abbrev pub with_pool : CoreState → Pool → CoreState
 with_pool core pool = record core { pool = pool; touched = true }
 
-same_pool : (core : CoreState) (pool : Pool) → pool ≡ core.pool → IsSound core → IsSound (with_pool core pool)
-same_pool core pool e s = subst (λ p. IsSound (with_pool core p)) (sym e) (record { is_held = s.is_held; valid = s.valid; same = s.same; bare = λ u. absurd (true≢false u); back = s.back })
+pub sound_kept : (core : CoreState) (pool : Pool) → pool ≡ core.pool → IsSound core → IsSound (with_pool core pool)
+sound_kept core pool e s = subst (λ p. IsSound (with_pool core p)) (sym e) (record { is_held = s.is_held; valid = s.valid; same = s.same; bare = λ u. absurd (true≢false u); back = s.back })
 
 pub sound_added : (core : CoreState) (pool : Pool) (row : Inequality) (box : List Sides) (rests : Bool) (added : Added) → IsAdded core.pool (row_of row) box rests pool added → ArePoolRowsValid (reduced_of core) (held_of core) (with_row core.pool (row_of row) box rests).rows → IsSound core → IsSound (with_pool core pool)
 sound_added core pool row box rests (New id) a v s =
@@ -75,17 +75,14 @@ sound_added core pool row box rests (New id) a v s =
       bare = λ u. absurd (true≢false u);
       back = s.back;
     })
-sound_added core pool row box rests (Known id) a v s = same_pool core pool a.1 s
-sound_added core pool row box rests Full a v s = same_pool core pool a.2 s
-
-pub sound_kept : (core : CoreState) (pool : Pool) → pool ≡ core.pool → IsSound core → IsSound (with_pool core pool)
-sound_kept = same_pool
+sound_added core pool row box rests (Known id) a v s = sound_kept core pool a.1 s
+sound_added core pool row box rests Full a v s = sound_kept core pool a.2 s
 
 -- a valid row was added, or memory was refused
 pub sound_given : {E : Type 0} (core : CoreState) (pool : Pool) (row : Inequality) (box : List Sides) (rests : Bool) (r : Result Added E) → MatchResult r (IsAdded core.pool (row_of row) box rests pool) (λ _. pool ≡ core.pool) → IsValid (reduced_of core) (valid_below (held_of core) rests) box row → IsSound core → IsSound (with_pool core pool)
 sound_given core pool row box rests (Ok added) a v s =
     sound_added core pool row box rests added a (more_valid (reduced_of core) (held_of core) core.pool (row_of row) box rests s.valid (λ point i w. row_satisfied row point (v point i w))) s
-sound_given core pool row box rests (Err e) a v s = same_pool core pool a s
+sound_given core pool row box rests (Err e) a v s = sound_kept core pool a s
 
 -- a node in work stays so with another pool
 pub later_pooled : (core : CoreState) (pool : Pool) (node : TakenNode) → IsAtWork core node → IsLaterAt core node (with_pool core pool) node

@@ -12,6 +12,7 @@ use Rattle.cip_problem.specs.Log.{Node}
 use Rattle.cip_problem.proofs.Choices.Meeting.{between_met, set_in_box}
 use Rattle.cip_problem.proofs.Points.AtPlaces.{in_box_at}
 use Rattle.cip_problem.specs.Improving.{HoldsInBox}
+use Rattle.cip_problem.proofs.Log.Entering.{contains_here, contains_cons, contains_later}
 use Rattle.cip_lin.specs.declared.sides.Side.{Side}
 use Rattle.cip_domain.specs.Changes.{Region, Change, side_change, tightened}
 use Rattle.cip_domain.specs.Domain.{tightening}
@@ -19,7 +20,6 @@ use Rattle.cip_domain.specs.declared.stores.Tightened.{Tightened}
 use Rattle.cip_domain.specs.declared.stores.Tightened.TheVariants.{Yes, Same, Empty}
 use Rattle.cip_search.specs.WideLeaf.{IsWideLeaf}
 use Rattle.cip_search.proofs.Bounds.{no_more_itself}
-use Rattle.cip_search.proofs.Members.{here, later, here_or_later}
 use Rattle.cip_search.proofs.Kept as searching
 use Rattle.cip_search.proofs.AsGiven as giving
 use Rattle.cip_node_rules.specs.OpenColumns.{is_whole_at}
@@ -102,7 +102,7 @@ module _ (core : CoreState) (node has : TakenNode) (column : ℕ) (side : Side) 
   near_now : IsNearBox (reduced_of core) core.tree.ids box
   near_now =
       near_met (reduced_of core) core.tree.ids was.box column change.sides (is_whole_at (reduced_of core).integral column) refl
-      (w.up.nodes.kept.near (shown core.tree node) (here (shown core.tree node) core.tree.open_)) told.near
+      (w.up.nodes.kept.near (shown core.tree node) (contains_here (shown core.tree node) core.tree.open_)) told.near
 
   abbrev there : Nodes
   there = record core.tree { work = tightened core.tree.work change }
@@ -116,9 +116,9 @@ module _ (core : CoreState) (node has : TakenNode) (column : ℕ) (side : Side) 
         as_given = giving.worked (reduced_of core) core.tree.root.bound state (narrow ∷ []) k.as_given;
         root = k.root;
         integral = k.integral;
-        near = λ other c. elim (here_or_later narrow other core.tree.open_ c) [
+        near = λ other c. elim (contains_cons narrow other core.tree.open_ c) [
           | inl e ↦ subst (λ (m : Node). IsNearBox (reduced_of core) core.tree.ids m.box) e near_now
-          | inr j ↦ k.near other (later (shown core.tree node) other core.tree.open_ j)
+          | inr j ↦ k.near other (contains_later (shown core.tree node) other core.tree.open_ j)
         ];
       }
 

@@ -2,17 +2,12 @@ pub mod Beginning
 pub mod CoreStates
 pub mod CutoffRow
 pub mod Entering
-pub mod Guessing
 pub mod KeptNodes
 pub mod Later
-pub mod NodeRows
-pub mod Relaxing
 pub mod RowsAsked
 pub mod SidesTold
-pub mod Solving
 pub mod SplitPlaces
 pub mod Steps
-pub mod Telling
 pub use Rattle.cip_incumbent.specs.HeldPoint
 pub use Rattle.cip_incumbent.specs.declared.offers.Offered
 pub use Rattle.cip_node_rules.specs.OpenColumns

@@ -11,14 +11,13 @@ ghost use Rattle.cip_core.specs.Beginning.{IsRootBound, AreNearColumns, HasNotBe
 ghost use Rattle.cip_core.specs.Entering.{own_region};
 ghost use Rattle.cip_core.specs.KeptNodes.{IsKept, state_of};
 
-use crate::are_costs_whole;
 use crate::cores::Core;
 use crate::costs::open_cutoff;
 use cip_cert::Scratch;
 use cip_domain::Region;
 use cip_frac::Frac;
 use cip_incumbent::Incumbent;
-use cip_model::Program;
+use cip_model::{Program, are_costs_whole};
 use cip_node_rules::rounded_least;
 use cip_presolve::Presolved;
 use cip_rows::RowPool;

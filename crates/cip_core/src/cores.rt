@@ -133,6 +133,13 @@ impl<'a> Core<'a> {
         }
     }
 
+    /// The pool of rows.
+    pub fn pool(&self) -> &RowPool
+        ensures { result.now ≡ self.now.pool }
+    {
+        &self.pool
+    }
+
     /// The point held.
     pub fn incumbent(&self) -> &Incumbent
         ensures { result.now ≡ self.now.incumbent }

@@ -1,21 +1,21 @@
 -- Products that are added to values.
 use borrow.Author.Differences.{same_in, product_is}
-use Rattle.std.proofs.Common.{to_z, of_z, ◌-◌, ◌≡◌, ℕ, ◌*◌, ◌<◌, ◌^◌, ℤ, pos, ◌+ℤ◌, ◌*ℤ◌, Bool, true, false, cond, not, ◌&&◌, ◌||◌, [], ◌∷◌, None, refl, sym, ap, ap₂, ◌∙◌, arith}
+use Rattle.std.proofs.Common.{to_z, of_z, ◌-◌, ◌≡◌, ℕ, ◌*◌, ◌<◌, ◌^◌, ℤ, pos, ◌+ℤ◌, ◌*ℤ◌, Bool, true, false, not, ◌&&◌, None, refl, sym, ap, ap₂, ◌∙◌, arith}
 use Rattle.std.specs.Int.{w64}
 use Rattle.std.proofs.lemmas.Int.{ints, unsigned_abs-mul}
 use Rattle.std.proofs.lemmas.Nat.{mul-le}
 use Rattle.std.proofs.Math.Nat.{mul-pos}
 use Rattle.cip_rational.specs.Rational.{ℚ, ◌+ℚ◌, ◌*ℚ◌, ratio, numerator, denominator, is_ratio, is_zero}
-use Rattle.cip_rational.specs.Range.{magnitude, sum_overflows, product_overflows}
+use Rattle.cip_rational.specs.Range.{magnitude}
 use Rattle.cip_rational.proofs.Rational.Ratio.{ratio-add, ratio-mul}
 use Rattle.cip_rational.proofs.Rational.Lowest.{denominator-pos}
-use Rattle.cip_bland.specs.Operations.{Product, Sum, placed, first_overflow, sum_at}
 use Rattle.cip_bland.specs.declared.places.Line.TheVariants.{Cost}
 use Rattle.cip_bland.specs.declared.places.EntryPlace.{EntryPlace}
 use Rattle.cip_dict.specs.Values.{IsAdded}
 use Rattle.cip_dict.specs.WholeLines.{HasTermsBelow}
 use Rattle.cip_dict.proofs.Formed.{sum_zero_left, sum_zero_right}
 use Rattle.cip_dict.proofs.WholeLines.{whole_lines_tell}
+use Rattle.cip_dict.proofs.WholePuts.{sum_none}
 
 -- where a factor is 0 the value stays
 
@@ -29,13 +29,6 @@ pub zero_right : (c a b : ℚ) → is_zero b ≡ true → IsAdded true c a b c
 zero_right c a b e = ((λ place. (sum_zero_right place c a b e).0), (sum_zero_right some_place c a b e).1)
 
 -- where no operation overflows, none does
-
-formed : (none product sum : Bool) (place : EntryPlace) (a b c : ℚ) → product_overflows a b ≡ false → sum_overflows c (a *ℚ b) ≡ false → first_overflow (cond none [] (placed place (Product a b) ∷ placed place (Sum c (a *ℚ b)) ∷ [])) ≡ None
-formed true product sum place a b c p s = refl
-formed false product sum place a b c p s = rw (p, s) refl
-
-fits : (place : EntryPlace) (c a b : ℚ) → product_overflows a b ≡ false → sum_overflows c (a *ℚ b) ≡ false → first_overflow (sum_at place c a b) ≡ None
-fits place c a b p s = formed (is_zero a || is_zero b) false false place a b c p s
 
 -- short numbers are small
 
@@ -61,7 +54,7 @@ short_added q t n below new z u h hn hb hq ht ez eu e =
     let entry : HasTermsBelow (2 ^ 42) (ratio n below) = whole_lines_tell.small n below h (omega (arith, hn)) (omega (arith, hb)) in
     let p = whole_lines_tell.products (ratio n below) t entry (small_of t ht) in
     let s = whole_lines_tell.sums q (ratio n below) t (small_of q hq) entry (small_of t ht) in
-    ((λ place. fits place q (ratio n below) t p s), e ∙ ap₂ (λ x y. ratio x y) ez eu ∙ sym (sum_is q t n below h))
+    ((λ place. sum_none place q (ratio n below) t p s), e ∙ ap₂ (λ x y. ratio x y) ez eu ∙ sym (sum_is q t n below h))
 
 pub common_some : (q t : ℚ) (below u : ℕ) → 0 < below → u ≡ denominator q * (below * denominator t) → 0 < u
 common_some q t below u h e = rw e (mul-pos (denominator-pos q) (mul-pos h (denominator-pos t)))

@@ -13,28 +13,11 @@ use Rattle.cip_bland.proofs.Kept.{exchanges_keep}
 use Rattle.cip_dict.specs.declared.lists.Lists.{Lists}
 use Rattle.cip_dict.specs.declared.lists.Room.{Room}
 use Rattle.cip_dict.specs.Lists.{basic_in}
-use Rattle.cip_dict.specs.Row.{row_in, row_length, HasRows, HasRowsAfter}
+use Rattle.cip_dict.specs.Row.{HasRows, HasRowsAfter}
 use Rattle.cip_dict.specs.State.{state, HasRoom, IsShaped}
 use Rattle.cip_dict.specs.Values.{taken_value}
-use Rattle.cip_dict.specs.Written.{entered_form, IsPlanned, IsTakenOver}
+use Rattle.cip_dict.specs.Written.{IsPlanned, IsTakenOver}
 use Rattle.cip_dict.proofs.Exchanged.{rows_after, stands_after}
-
--- rows of the right lengths before have the right lengths after i has left and j entered
-pub entered_long : (standing : List (Option Stand)) (i j : ℕ) (rows final : List (List ℚ)) (new : List ℚ) → HasRows standing rows → length new ≡ length standing → j < length standing → basic_in standing j ≡ false → length final ≡ length standing → ((v : ℕ) → v < length standing → row_in final v ≡ entered_form i j rows new v) → HasRowsAfter standing i j final
-entered_long standing i j rows final new h n lj nonbasic long at = record {
-  each_one = long;
-  long = λ v l. ap length (at v l) ∙ elim (cases_eq v i) [
-    | inl e ↦ ap (λ t. length (cond t (row_in rows j) (cond (v == j) new (row_in rows v)))) (eq-eqb v i e)
-        ∙ h.long j lj ∙ ap (λ t. cond t (length standing) 0) nonbasic
-        ∙ sym (ap (λ t. cond t 0 (cond (v == j) (length standing) (row_length standing v))) (eq-eqb v i e))
-    | inr ni ↦ ap (λ t. length (cond t (row_in rows j) (cond (v == j) new (row_in rows v)))) (ne_eqb v i ni)
-        ∙ elim (cases_eq v j) [
-          | inl e ↦ ap (λ t. length (cond t new (row_in rows v))) (eq-eqb v j e) ∙ n ∙ sym (ap (λ t. cond t (length standing) (row_length standing v)) (eq-eqb v j e))
-          | inr nj ↦ ap (λ t. length (cond t new (row_in rows v))) (ne_eqb v j nj) ∙ h.long v l ∙ sym (ap (λ t. cond t (length standing) (row_length standing v)) (ne_eqb v j nj))
-        ]
-        ∙ sym (ap (λ t. cond t 0 (cond (v == j) (length standing) (row_length standing v))) (ne_eqb v i ni))
-  ];
-}
 
 -- where variables stand after it
 module _ (standing : List (Option Stand)) (i j : ℕ) (to : Stand) (li : i < length standing) (lj : j < length standing) (ne : ¬ (i ≡ j)) where

@@ -7,6 +7,7 @@ use Rattle.cip_rational.proofs.Rational.Ring.{+ℚ-zero, zero-*ℚ}
 use Rattle.cip_problem.specs.Program.{Sides}
 use Rattle.cip_problem.specs.Activity.{value_at}
 use Rattle.cip_problem.specs.Box.{sides_at}
+use Rattle.cip_problem.proofs.Rows.{zero_of_test}
 use Rattle.cip_bland.specs.Tables.{table, each}
 use Rattle.cip_bland.specs.Dictionary.{Dictionary, size, stand, is_basic, entry, cost_entry, standing_value, IsConsistent}
 use Rattle.cip_bland.specs.Exchange.{is_absent, substituted, pivot, entering, exchanged_row, exchanged_rows, exchanged_stand, CanExchange, moved, step}
@@ -16,7 +17,6 @@ use Rattle.cip_bland.specs.declared.places.Line.TheVariants.{Row, Cost}
 use Rattle.cip_bland.specs.declared.moves.Stand.{Stand}
 use Rattle.cip_bland.proofs.Tables.{same_table, at_table}
 use Rattle.cip_bland.proofs.Forms.{IsFree, substituted_leaving, substituted_absent, substituted_kept}
-use Rattle.cip_bland.proofs.Zeros.{zero_of}
 use Rattle.cip_dict.specs.declared.lists.Lists.{Lists}
 use Rattle.cip_dict.specs.Row.{form_changes, row_in, HasRows, taken_form, written_form}
 use Rattle.cip_dict.specs.State.{state}
@@ -101,7 +101,7 @@ module _ (d : Dictionary) (i j : ℕ) (to : Stand) (c : IsConsistent d) (h : Can
         elim (cases_Bool (form_changes d.standing i j v (row_in d.rows v))) [
           | inl yes' ↦ ap (λ t. cond t (row_in room v) (row_in d.rows v)) yes' ∙ written v l yes' ∙ sym (after_basic v ni nj (and_parts (is_basic d v) _ yes').0)
           | inr no' ↦ ap (λ t. cond t (row_in room v) (row_in d.rows v)) no' ∙ elim (cases_Bool (is_basic d v)) [
-            | inl b ↦ unchanged_row (size d) (is_basic d) i j (pivot d i j) (entering d i j) (row_in d.rows v) h.basic h.leaving (λ k lk bk. c.rows_free v k l b lk bk) (zero_of _ (no_entry (is_basic d v) (v == i) (is_zero (value_at (row_in d.rows v) j)) no' b (ne_eqb v i ni))) (row_long v l b) ∙ sym (after_basic v ni nj b)
+            | inl b ↦ unchanged_row (size d) (is_basic d) i j (pivot d i j) (entering d i j) (row_in d.rows v) h.basic h.leaving (λ k lk bk. c.rows_free v k l b lk bk) (zero_of_test _ (no_entry (is_basic d v) (v == i) (is_zero (value_at (row_in d.rows v) j)) no' b (ne_eqb v i ni))) (row_long v l b) ∙ sym (after_basic v ni nj b)
             | inr b ↦ row_none v l b ∙ sym (after_nonbasic v ni nj b)
           ]
         ]

@@ -1,13 +1,12 @@
 -- The costs of the first state, put one after another into a line of zeros.
 use Rattle.std.proofs.Common.{◌≡◌, ℕ, ◌+◌, ◌<◌, ◌≤◌, cond, List, length, replicate, get_or, set, sym, ap, ◌∙◌, inl, inr, arith, length-set}
 use Rattle.std.proofs.lemmas.Bool.{lt-ltb, le-ltb, cases_lt, cases_eq}
-use Rattle.std.proofs.lemmas.List.{get_or-set_same, get_or-set_other, get_or-replicate, length-replicate}
+use Rattle.std.proofs.lemmas.List.{get_or-set_same, get_or-set_other, get_or-replicate, length-replicate, get_or_default}
 use Rattle.cip_rational.specs.Rational.{ℚ, zeroℚ}
 use Rattle.cip_problem.specs.Activity.{value_at}
 use Rattle.cip_bland.specs.Tables.{table}
 use Rattle.cip_bland.proofs.Tables.{same_table}
 use Rattle.cip_dict.specs.FirstLists.{cost_in}
-use Rattle.cip_dict.proofs.Places.{same_default}
 
 -- the first k costs are put
 pub record AreCosts (costs : List ℚ) (n k : ℕ) (all : List ℚ) : Type 0 where
@@ -18,7 +17,7 @@ pub record AreCosts (costs : List ℚ) (n k : ℕ) (all : List ℚ) : Type 0 whe
 -- a cost that is read is that of its column
 cost_here : (costs : List ℚ) (k : ℕ) (q : ℚ) → k < length costs → q ≡ get_or costs k q → q ≡ cost_in costs k
 cost_here costs k q l is =
-    is ∙ same_default costs k q zeroℚ l ∙ sym (ap (λ t. cond t (value_at costs k) zeroℚ) (lt-ltb k (length costs) l))
+    is ∙ get_or_default costs k q zeroℚ l ∙ sym (ap (λ t. cond t (value_at costs k) zeroℚ) (lt-ltb k (length costs) l))
 
 pub costs_none : (costs : List ℚ) (n : ℕ) (all : List ℚ) → all ≡ replicate n zeroℚ → AreCosts costs n 0 all
 costs_none costs n all e = record {

@@ -1,5 +1,6 @@
 -- The value of a form by its entries that aren't 0.
 use Rattle.std.proofs.Common.{◌≡◌, ℕ, zero, suc, ◌+◌, ◌-◌, ◌<◌, ◌≤◌, List, length, get_or, None, Some, Result, Ok, Err, MatchResult, refl, sym, ap, ◌∙◌, arith}
+use Rattle.std.proofs.lemmas.List.{get_or_default}
 use Rattle.cip_rational.specs.Rational.{ℚ, zeroℚ, ◌+ℚ◌, ◌*ℚ◌}
 use Rattle.cip_rational.proofs.Rational.Ring.{+ℚ-zero, zero-*ℚ}
 use Rattle.cip_bland.specs.Tables.{form}
@@ -15,7 +16,7 @@ use Rattle.cip_dict.proofs.Begun.{form_operations_same}
 use Rattle.cip_dict.specs.SparseLines.{Kept, entry_on, AreKept, IsPlace}
 use Rattle.cip_dict.proofs.Formed.{sum_zero_left}
 use Rattle.cip_dict.proofs.KeptLoops.{gap_fits}
-use Rattle.cip_dict.proofs.Places.{same_default, at_least, place_up, place_hit, entry_hit, entry_between}
+use Rattle.cip_dict.proofs.Places.{at_least, place_up, place_hit, entry_hit, entry_between}
 
 -- entries that are 0 add nothing
 form_more : (m more : ℕ) (f x : ℕ → ℚ) → ((k : ℕ) → m ≤ k → k < m + more → f k ≡ zeroℚ) → form (m + more) f x ≡ form m f x
@@ -37,7 +38,7 @@ form_gap line m n f x total l fits so_far none =
 -- an entry comes next
 module _ (line : Line) (n : ℕ) (es : List Kept) (x : ℕ → ℚ) (len : ℕ) (kept : AreKept 0 len es) (p m : ℕ) (e : Kept) (at : IsPlace m es p) (fits : first_overflow (form_operations line m (entry_on es) x) ≡ None) (total : ℚ) (so_far : total ≡ form m (entry_on es) x) (l : p < length es) (is : e ≡ get_or es p e) (below : e.0 < n) where
   number : (d : Kept) → (get_or es p d).0 ≡ e.0
-  number d = ap (λ (k : Kept). k.0) (same_default es p d e l ∙ sym is)
+  number d = ap (λ (k : Kept). k.0) (get_or_default es p d e l ∙ sym is)
 
   order : m ≤ e.0
   order = let a : m ≤ (get_or es p e).0 = at_least m es p e at l in omega (arith, a, number e)

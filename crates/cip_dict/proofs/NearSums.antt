@@ -1,15 +1,10 @@
 -- Sums that fit 64 bits, and their division where they stand.
-use Rattle.std.proofs.Common.{◌≡◌, ℕ, zero, suc, ◌*◌, ◌<◌, ◌^◌, ℤ, pos, ◌*ℤ◌, to_z, of_z, List, [], ◌∷◌, length, get_or, set, refl, sym, ap, ap₂, ◌∙◌, subst, arith}
-use Rattle.std.specs.Int.{w64}
-use Rattle.std.proofs.lemmas.Int.{ints}
+use Rattle.std.proofs.Common.{◌≡◌, ℕ, zero, suc, ◌*◌, ◌<◌, ◌^◌, ℤ, pos, ◌*ℤ◌, List, [], ◌∷◌, length, get_or, set, refl, sym, ap, ap₂, ◌∙◌, subst, arith}
 use Rattle.cip_rational.specs.Rational.{ℚ, ratio}
 use Rattle.cip_rational.specs.Range.{magnitude}
 use Rattle.cip_dict.specs.SparseLines.{Kept}
 use Rattle.cip_dict.specs.WholeLines.{Whole, over, AreBelow}
 use Rattle.cip_dict.proofs.WholeLines.{whole_lines_tell}
-
-pub read_near : (z : ℤ) → magnitude z < 2 ^ 63 → to_z w64 (of_z w64 z) ≡ z
-read_near z h = omega (arith, ints, h)
 
 -- the first p numbers of a list have been divided by g, which leaves them below 2^42
 abbrev pub IsDivided : ℕ → ℕ → List Whole → List Whole → Type 0
@@ -18,13 +13,6 @@ IsDivided g (suc p) [] [] = Unit {0}
 IsDivided g (suc p) [] (b ∷ bs) = ⊥
 IsDivided g (suc p) (a ∷ ns) [] = ⊥
 IsDivided g (suc p) (a ∷ ns) (b ∷ bs) = (a.0 ≡ b.0) × (b.1 ≡ a.1 *ℤ pos g) × (magnitude a.1 < 2 ^ 42) × IsDivided g p ns bs
-
-pub divided_length : (g p : ℕ) (now old : List Whole) → IsDivided g p now old → length now ≡ length old
-divided_length g zero now old h = ap length h
-divided_length g (suc p) [] [] h = refl
-divided_length g (suc p) [] (b ∷ bs) h = absurd h
-divided_length g (suc p) (a ∷ ns) [] h = absurd h
-divided_length g (suc p) (a ∷ ns) (b ∷ bs) h = ap suc (divided_length g p ns bs h.3)
 
 pub divided_next : (g p : ℕ) (now old : List Whole) (d : Whole) → IsDivided g p now old → get_or now p d ≡ get_or old p d
 divided_next g zero now old d h = ap (λ es. get_or es 0 d) h

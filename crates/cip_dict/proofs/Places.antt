@@ -1,13 +1,9 @@
 -- Places in lists of kept entries.
 use Rattle.std.proofs.Common.{◌≡◌, ℕ, zero, suc, ◌+◌, ◌-◌, ◌/◌, ◌<◌, ◌≤◌, cond, List, [], ◌∷◌, length, get_or, refl, sym, ap, ◌∙◌, subst, inl, inr, arith}
 use Rattle.std.proofs.lemmas.Bool.{cases_eq, cases_lt, eq-eqb, ne_eqb}
+use Rattle.std.proofs.lemmas.List.{get_or_default}
 use Rattle.cip_rational.specs.Rational.{zeroℚ}
 use Rattle.cip_dict.specs.SparseLines.{Kept, entry_on, AreKept, AreRising, IsPlace, IsNext}
-
-pub same_default : {X : Type 0} (xs : List X) (i : ℕ) (d e : X) → i < length xs → get_or xs i d ≡ get_or xs i e
-same_default [] i d e h = absurd (omega (arith, h))
-same_default (x ∷ xs) zero d e h = refl
-same_default (x ∷ xs) (suc i) d e h = same_default xs i d e (omega (arith, h))
 
 -- an entry on another variable is passed over
 pub passed : (e : Kept) (es : List Kept) (k : ℕ) → ¬ (e.0 ≡ k) → entry_on (e ∷ es) k ≡ entry_on es k
@@ -115,7 +111,7 @@ middle_within low high h = omega arith
 pub more_before : {A : Type 0} (es : List (ℕ × A)) (m k : ℕ) (e : ℕ × A) → AreRising 0 es → m < length es → (get_or es m e).0 < k → (a : ℕ) (d : ℕ × A) → a < m + 1 → (get_or es a d).0 < k
 more_before es m k e up l h a d b =
     elim (cases_eq a m) [
-      | inl f ↦ (let s : (get_or es m d).0 ≡ (get_or es m e).0 = ap (λ p. p.0) (same_default es m d e l) in
+      | inl f ↦ (let s : (get_or es m d).0 ≡ (get_or es m e).0 = ap (λ p. p.0) (get_or_default es m d e l) in
           subst (λ (i : ℕ). (get_or es i d).0 < k) (sym f) (omega (arith, s, h)))
       | inr ne ↦ (let r : (get_or es a d).0 < (get_or es m e).0 = rising es 0 a m d e up (omega (arith, b, ne)) l in omega (arith, r, h))
     ]
@@ -123,7 +119,7 @@ more_before es m k e up l h a d b =
 pub less_after : {A : Type 0} (es : List (ℕ × A)) (m k : ℕ) (e : ℕ × A) → AreRising 0 es → m < length es → k ≤ (get_or es m e).0 → (a : ℕ) (d : ℕ × A) → m ≤ a → a < length es → k ≤ (get_or es a d).0
 less_after es m k e up l h a d b w =
     elim (cases_eq a m) [
-      | inl f ↦ (let s : (get_or es m d).0 ≡ (get_or es m e).0 = ap (λ p. p.0) (same_default es m d e l) in
+      | inl f ↦ (let s : (get_or es m d).0 ≡ (get_or es m e).0 = ap (λ p. p.0) (get_or_default es m d e l) in
           subst (λ (i : ℕ). k ≤ (get_or es i d).0) (sym f) (omega (arith, s, h)))
       | inr ne ↦ (let r : (get_or es m e).0 < (get_or es a d).0 = rising es 0 m a e d up (omega (arith, b, ne)) w in omega (arith, r, h))
     ]

@@ -4,12 +4,14 @@ use Rattle.std.specs.List.{insert}
 use Rattle.std.proofs.lemmas.List.{append-nil}
 use Rattle.cip_rational.specs.Rational.{ℚ, zeroℚ, ratio, is_zero}
 use Rattle.cip_rational.specs.Range.{magnitude}
-use Rattle.cip_bland.proofs.Zeros.{zero_of, nonzero_of}
+use Rattle.cip_rational.proofs.Rational.Inverse.{ratio_zero}
+use Rattle.cip_bland.proofs.Zeros.{nonzero_of}
 use Rattle.cip_dict.specs.SparseLines.{Kept, entry_on, AreKept, AreRising, IsPlace, kept_at}
 use Rattle.cip_dict.specs.WholeLines.{Whole, over, IsWhole}
 use Rattle.cip_dict.proofs.Places.{place_of, more_before}
 use Rattle.cip_dict.proofs.PutEntries.{insert_entry, insert_kept, gone_already}
-use Rattle.cip_dict.proofs.WholeParts.{length_over, over_place, over_append, ratio_none, none_ratio, append_below}
+use Rattle.cip_dict.proofs.WholeParts.{length_over, over_place, over_append, none_ratio, append_below}
+use Rattle.cip_problem.proofs.Rows.{zero_of_test}
 
 -- where the last entry is on a variable below k, all are
 pub last_below : {A : Type 0} (es : List (ℕ × A)) (m k : ℕ) (e : ℕ × A) → AreRising 0 es → m + 1 ≡ length es → (get_or es m e).0 < k → IsPlace k es (length es)
@@ -17,10 +19,6 @@ last_below es m k e up l below =
     place_of k es (length es) (omega arith)
     (λ a d w. more_before es m k e up (omega (arith, l)) below a d (omega (arith, l, w)))
     (λ a d u w. absurd (omega (arith, u, w)))
-
-pub none_below_any : {A : Type 0} (es : List (ℕ × A)) (k : ℕ) → length es ≡ 0 → IsPlace k es (length es)
-none_below_any [] k h = tt
-none_below_any (e ∷ es) k h = absurd (omega (arith, h))
 
 insert_last : (es : List Kept) (x : Kept) → insert es (length es) x ≡ es ++ x ∷ []
 insert_last [] x = refl
@@ -37,7 +35,7 @@ pub none_entry : (k v : ℕ) (q : ℚ) (es : List Kept) (n : ℕ) → AreKept 0 
 none_entry k v q es n h i z = gone_already k v es (length es) 0 n h i (λ d w. absurd (omega (arith, w))) ∙ ap (λ p. cond (v == k) p (entry_on es v)) (sym z)
 
 either_entry : (b : Bool) (k v : ℕ) (q : ℚ) (es : List Kept) (n : ℕ) → AreKept 0 n es → IsPlace k es (length es) → is_zero q ≡ b → entry_on (es ++ cond b [] ((k, q) ∷ [])) v ≡ cond (v == k) q (entry_on es v)
-either_entry true k v q es n h i z = ap (λ xs. entry_on xs v) (append-nil es) ∙ none_entry k v q es n h i (zero_of q z)
+either_entry true k v q es n h i z = ap (λ xs. entry_on xs v) (append-nil es) ∙ none_entry k v q es n h i (zero_of_test q z)
 either_entry false k v q es n h i z = last_entry k v q es i
 
 either_kept : (b : Bool) (k n : ℕ) (q : ℚ) (es : List Kept) → AreKept 0 n es → IsPlace k es (length es) → k < n → is_zero q ≡ b → AreKept 0 n (es ++ cond b [] ((k, q) ∷ []))
@@ -71,7 +69,7 @@ module _ (k : ℕ) (entry : ℚ) (number : ℤ) (below : ℕ) (one : below ≡ 1
       (last_kept k n entry (over below es) h at_end l (λ z. other (none_ratio number 1 (lit< tt) (is ∙ z))))
 
   pub nothing_entry : (n : ℕ) → AreKept 0 n (over below es) → number ≡ pos 0 → (v : ℕ) → entry_on (over below es) v ≡ cond (v == k) entry (entry_on (over below es) v)
-  nothing_entry n h z v = none_entry k v entry (over below es) n h at_end (sym is ∙ ap (λ m. ratio m 1) z ∙ ratio_none 1 (lit< tt))
+  nothing_entry n h z v = none_entry k v entry (over below es) n h at_end (sym is ∙ ap (λ m. ratio m 1) z ∙ ratio_zero 1 (lit< tt))
 
 pub behind_whole : (k : ℕ) (number : ℤ) (below : ℕ) (es new : List Whole) → IsWhole below es → magnitude number < 2 ^ 42 → new ≡ es ++ (k, number) ∷ [] → IsWhole below new
 behind_whole k number below es new h l e = record {

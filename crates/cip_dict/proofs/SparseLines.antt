@@ -7,8 +7,9 @@ use Rattle.cip_rational.specs.Rational.{ℚ, zeroℚ, is_zero}
 use Rattle.cip_bland.specs.Tables.{table, each}
 use Rattle.cip_bland.specs.Operations.{Placed}
 use Rattle.cip_bland.proofs.Tables.{table_same}
-use Rattle.cip_bland.proofs.Zeros.{zero_of, is_zero_of}
+use Rattle.cip_bland.proofs.Zeros.{is_zero_of}
 use Rattle.cip_dict.specs.SparseLines.{Kept, entry_on, dense, kept_at, kept_of, SparseLinesTell}
+use Rattle.cip_problem.proofs.Rows.{zero_of_test}
 
 -- the variables are below n
 abbrev AreBelow : ℕ → List Kept → Type 0
@@ -49,7 +50,7 @@ entry_last (e ∷ es) n q h =
 
 -- with one number more, that of the last variable and those of the others
 last_with : (n : ℕ) (f : ℕ → ℚ) (b : Bool) → is_zero (f n) ≡ b → entry_on (kept_of n f ++ cond b [] ((n, f n) ∷ [])) n ≡ f n
-last_with n f true e = ap (λ es. entry_on es n) (append-nil (kept_of n f)) ∙ entry_none (kept_of n f) n (kept_below n f) ∙ sym (zero_of (f n) e)
+last_with n f true e = ap (λ es. entry_on es n) (append-nil (kept_of n f)) ∙ entry_none (kept_of n f) n (kept_below n f) ∙ sym (zero_of_test (f n) e)
 last_with n f false e = entry_last (kept_of n f) n (f n) (kept_below n f)
 
 other_with : (n : ℕ) (f : ℕ → ℚ) (k : ℕ) (b : Bool) → ¬ (n ≡ k) → entry_on (kept_of n f ++ cond b [] ((n, f n) ∷ [])) k ≡ entry_on (kept_of n f) k

@@ -2,12 +2,13 @@
 use Rattle.std.proofs.Common.{◌≡◌, ℕ, zero, suc, ◌==◌, Bool, true, false, cond, not, ◌&&◌, ◌||◌, List, [], length, Option, None, refl, ap, ◌∙◌}
 use Rattle.cip_rational.specs.Rational.{ℚ, zeroℚ, negate, is_zero}
 use Rattle.cip_problem.specs.Activity.{value_at}
+use Rattle.cip_problem.proofs.Rows.{zero_of_test}
 use Rattle.cip_bland.specs.Tables.{each}
 use Rattle.cip_bland.specs.Exchange.{is_absent, solved_at, solved, substituted_at, substituted}
 use Rattle.cip_bland.specs.Operations.{Placed, first_overflow}
 use Rattle.cip_bland.specs.MoveOperations.{solved_operations_at, solved_operations, substituted_operations_at, substituted_operations}
 use Rattle.cip_rational.proofs.Rational.Ring.{negate_zero}
-use Rattle.cip_bland.proofs.Zeros.{is_zero_of, zero_of}
+use Rattle.cip_bland.proofs.Zeros.{is_zero_of}
 use Rattle.cip_bland.specs.declared.places.Line.{Line}
 use Rattle.cip_bland.specs.declared.places.EntryPlace.{EntryPlace}
 use Rattle.cip_bland.specs.declared.moves.Stand.{Stand}
@@ -55,7 +56,7 @@ kept line standing i j q new row k e = kept_at _ _ (basic_in standing k) (k == i
 -- nothing is written where the row that is solved has no entry
 none_at : (place : EntryPlace) (none leaving absent : Bool) (q a : ℚ) → is_zero a ≡ none → (none && not leaving) ≡ true → (first_overflow (solved_operations_at place leaving absent q a) ≡ None) × (zeroℚ ≡ solved_at leaving absent q a)
 none_at place true false true q a z e = (refl, refl)
-none_at place true false false q a z e = product_zero_left place (negate a) q (is_zero_of (negate a) (ap negate (zero_of a z) ∙ negate_zero))
+none_at place true false false q a z e = product_zero_left place (negate a) q (is_zero_of (negate a) (ap negate (zero_of_test a z) ∙ negate_zero))
 none_at place true true absent q a z e = absurd (cc)
 none_at place false leaving absent q a z e = absurd (cc)
 

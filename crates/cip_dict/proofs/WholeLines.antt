@@ -1,17 +1,16 @@
 -- Small numbers, and lines of whole numbers over one denominator.
 use borrow.Author.Differences.{up, down, same_in, sum_is_lem, neg_is, product_is}
-use Rattle.std.proofs.Common.{◌≡◌, ℕ, ◌+◌, ◌-◌, ◌*◌, ◌<◌, ◌≤◌, ◌^◌, ℤ, pos, neg_ℤ, ◌+ℤ◌, ◌*ℤ◌, unsigned_abs, false, ap, ap₂, ◌∙◌, arith, lit<}
-use Rattle.std.proofs.lemmas.Int.{ints, unsigned_abs-mul}
+use Rattle.std.proofs.Common.{◌≡◌, ℕ, ◌+◌, ◌-◌, ◌*◌, ◌<◌, ◌^◌, ℤ, pos, neg_ℤ, ◌+ℤ◌, ◌*ℤ◌, unsigned_abs, false, ap, ap₂, ◌∙◌, arith, lit<}
+use Rattle.std.proofs.lemmas.Int.{ints}
 use Rattle.std.proofs.lemmas.Nat.{mul-le}
 use Rattle.std.proofs.Math.Nat.{mul-pos}
 use Rattle.cip_rational.specs.Rational.{ℚ, ◌+ℚ◌, ◌*ℚ◌, negate, inverse, oneℚ, ratio, numerator, denominator}
 use Rattle.cip_rational.specs.Range.{magnitude, sum_overflows, product_overflows}
 use Rattle.cip_rational.proofs.Rational.Ratio.{ratio_same, ratio-add, ratio-mul, ratio-cancel, ratio-negate, integer_ratio}
 use Rattle.cip_rational.proofs.Rational.Inverse.{inverse_unique}
-use Rattle.cip_rational.proofs.Rational.Lowest.{denominator-pos}
 use Rattle.cip_rational.proofs.Rational.Rounding.{integer-one}
 use Rattle.cip_rational.proofs.Range.InRange.{lowest-le}
-use Rattle.cip_frac.proofs.InRange.{sum_in_range, product_in_range, product_terms}
+use Rattle.cip_frac.proofs.InRange.{sum_in_range, product_in_range, product_size}
 use Rattle.cip_dict.specs.WholeLines.{HasTermsBelow, WholeLinesTell}
 
 small : (z : ℤ) (d : ℕ) → 0 < d → magnitude z < 2 ^ 42 → d < 2 ^ 42 → HasTermsBelow (2 ^ 42) (ratio z d)
@@ -29,11 +28,6 @@ products a b h k =
     let s = two _ _ h.top k.top in
     let t = two _ _ h.bottom k.bottom in
     product_in_range a b (omega (arith, s)) (omega (arith, t))
-
-product_size : (a b : ℚ) → (unsigned_abs (numerator (a *ℚ b)) ≤ unsigned_abs (numerator a) * unsigned_abs (numerator b)) × (denominator (a *ℚ b) ≤ denominator a * denominator b)
-product_size a b =
-    let h = lowest-le (numerator a *ℤ numerator b) (denominator a * denominator b) (mul-pos (denominator-pos a) (denominator-pos b)) in
-    rw (product_terms a b, ← unsigned_abs-mul (numerator a) (numerator b)) h
 
 sums : (a b c : ℚ) → HasTermsBelow (2 ^ 42) a → HasTermsBelow (2 ^ 42) b → HasTermsBelow (2 ^ 42) c → sum_overflows a (b *ℚ c) ≡ false
 sums a b c h k l =

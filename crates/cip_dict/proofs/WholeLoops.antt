@@ -4,11 +4,12 @@ use Rattle.std.proofs.lemmas.Bool.{eq-eqb, ne_eqb}
 use Rattle.std.proofs.lemmas.Int.{ints}
 use Rattle.std.proofs.lemmas.List.{append-nil, take_more}
 use Rattle.cip_rational.specs.Rational.{ratio}
+use Rattle.cip_rational.proofs.Rational.Inverse.{ratio_zero}
 use Rattle.cip_bland.specs.Exchange.{is_absent}
 use Rattle.cip_dict.specs.SparseLines.{AreKept}
 use Rattle.cip_dict.specs.WholeLines.{Whole, over, number_on, is_none, whole_at, wholes_of, put_number, turned_number}
 use Rattle.cip_dict.proofs.WholeLines.{whole_lines_tell}
-use Rattle.cip_dict.proofs.WholeParts.{ratio_none, over_append}
+use Rattle.cip_dict.proofs.WholeParts.{over_append}
 
 pub none_is : (z : ℤ) → z ≡ pos 0 → is_none z ≡ true
 none_is z e = ap is_none e
@@ -77,4 +78,4 @@ pub turned_leaving : (i k : ℕ) (d : ℤ) (es : List Whole) (n : ℕ) → es �
 turned_leaving i k d es n e kept h s =
     let one : AreKept 0 n (over 1 ((i, d) ∷ [])) = subst (λ (xs : List Whole). AreKept 0 n (over 1 xs)) e kept in
     let z : d ≡ pos 0 = sym (ap (λ t. cond t d (pos 0)) (eq-eqb i k (sym s))) ∙ sym (ap (λ xs. number_on xs k) e) ∙ h in
-    one.2 (ap (λ m. ratio m 1) z ∙ ratio_none 1 (lit< tt))
+    one.2 (ap (λ m. ratio m 1) z ∙ ratio_zero 1 (lit< tt))

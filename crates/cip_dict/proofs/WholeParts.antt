@@ -11,7 +11,8 @@ use Rattle.cip_rational.proofs.Range.InRange.{fits_in, fits-ratio}
 use Rattle.cip_frac.specs.FractionFault.{quotient_of, IsFaultOf}
 use Rattle.cip_frac.specs.declared.fraction.FracFault.{FracFault}
 use Rattle.cip_frac.specs.declared.fraction.FracFault.TheVariants.{ZeroBelow, Wide}
-use Rattle.cip_rational.proofs.Rational.Ratio.{same_truth, ratio_same, same_ratio, ratio-mul, ratio-lt_test, integer_ratio}
+use Rattle.cip_rational.proofs.Rational.Ratio.{same_truth, same_ratio, ratio-mul, ratio-lt_test, integer_ratio}
+use Rattle.cip_rational.proofs.Rational.Inverse.{ratio_zero}
 use Rattle.cip_bland.proofs.Zeros.{is_zero_of, is_zero_false}
 use Rattle.cip_dict.specs.SparseLines.{Kept, entry_on, AreKept, AreRising, IsPlace}
 use Rattle.cip_dict.proofs.WholeLines.{whole_lines_tell}
@@ -24,9 +25,6 @@ zero_one : zeroℚ ≡ ratio (pos 0) 1
 unfolding zeroℚ ratio rational.whole
 zero_one = refl
 
-pub ratio_none : (d : ℕ) → 0 < d → ratio (pos 0) d ≡ zeroℚ
-ratio_none d h = ratio_same (pos 0) (pos 0) d 1 h (lit< tt) (omega (arith, ints)) ∙ sym zero_one
-
 pub none_ratio : (n : ℤ) (d : ℕ) → 0 < d → ratio n d ≡ zeroℚ → n ≡ pos 0
 none_ratio n d h e =
     let s : n *ℤ pos 1 ≡ pos 0 *ℤ pos d = same_ratio n (pos 0) d 1 h (lit< tt) (e ∙ zero_one) in
@@ -35,7 +33,7 @@ none_ratio n d h e =
 -- a ratio is 0, or above 0, where its number is
 
 zero_is : (n : ℤ) (d : ℕ) (b : Bool) → 0 < d → (b ≡ true → n ≡ pos 0) → (b ≡ false → n ≢ pos 0) → b ≡ is_zero (ratio n d)
-zero_is n d true h none some = sym (is_zero_of (ratio n d) (ap (λ m. ratio m d) (none refl) ∙ ratio_none d h))
+zero_is n d true h none some = sym (is_zero_of (ratio n d) (ap (λ m. ratio m d) (none refl) ∙ ratio_zero d h))
 zero_is n d false h none some = sym (is_zero_false (ratio n d) (λ e. some refl (none_ratio n d h e)))
 
 pub other_ratio : (n : ℤ) (d : ℕ) (b : Bool) → 0 < d → (b ≡ true → n ≡ pos 0) → (b ≡ false → n ≢ pos 0) → not b ≡ not (is_zero (ratio n d))
@@ -67,7 +65,7 @@ chosen_over true n m d = refl
 chosen_over false n m d = refl
 
 pub entry_over : (d : ℕ) (es : List Whole) (k : ℕ) → 0 < d → entry_on (over d es) k ≡ ratio (number_on es k) d
-entry_over d [] k h = sym (ratio_none d h)
+entry_over d [] k h = sym (ratio_zero d h)
 entry_over d (e ∷ es) k h = ap (λ q. cond (e.0 == k) (ratio e.1 d) q) (entry_over d es k h) ∙ chosen_over (e.0 == k) e.1 (number_on es k) d
 
 pub over_append : (d : ℕ) (es fs : List Whole) → over d (es ++ fs) ≡ over d es ++ over d fs
@@ -78,13 +76,7 @@ over_append d (e ∷ es) fs = ap (λ xs. (e.0, ratio e.1 d) ∷ xs) (over_append
 pub kept_over : (c d l n : ℕ) (es : List Whole) → 0 < c → 0 < d → AreKept l n (over c es) → AreKept l n (over d es)
 kept_over c d l n [] hc hd h = tt
 kept_over c d l n (e ∷ es) hc hd h =
-    (h.0, h.1, (λ z. h.2 (ap (λ m. ratio m c) (none_ratio e.1 d hd z) ∙ ratio_none c hc)), kept_over c d (suc e.0) n es hc hd h.3)
-
-pub place_over : (c d k : ℕ) (es : List Whole) (p : ℕ) → IsPlace k (over c es) p → IsPlace k (over d es) p
-place_over c d k [] zero h = tt
-place_over c d k [] (suc p) h = absurd h
-place_over c d k (e ∷ es) zero h = h
-place_over c d k (e ∷ es) (suc p) h = (h.0, place_over c d k es p h.1)
+    (h.0, h.1, (λ z. h.2 (ap (λ m. ratio m c) (none_ratio e.1 d hd z) ∙ ratio_zero c hc)), kept_over c d (suc e.0) n es hc hd h.3)
 
 pub rising_over : (d least n : ℕ) (es : List Whole) → AreKept least n (over d es) → AreRising least es
 rising_over d least n [] h = tt
@@ -139,8 +131,6 @@ below_over es p n b h l =
     let r : (get_or (over 1 es) p (0, zeroℚ)).0 < n = all_below (over 1 es) 0 n p (0, zeroℚ) h w in
     let s : (get_or (over 1 es) p (0, zeroℚ)).0 ≡ (get_or es p b).0 = ap (λ (e : Kept). e.0) (at_over 1 es p (0, zeroℚ) b l) in
     omega (arith, r, s)
-
--- ---- a search
 
 -- ---- numbers as the code reads them
 

@@ -5,7 +5,7 @@ use Rattle.std.proofs.lemmas.Int.{ints}
 use Rattle.std.proofs.Math.Nat.{mul-pos}
 use Rattle.cip_rational.specs.Rational.{ℚ, ◌+ℚ◌, ◌*ℚ◌, negate, inverse, ratio, is_zero}
 use Rattle.cip_rational.specs.Range.{magnitude, sum_overflows, product_overflows}
-use Rattle.cip_rational.proofs.Rational.Inverse.{inverse_zero}
+use Rattle.cip_rational.proofs.Rational.Inverse.{inverse_zero, ratio_zero}
 use Rattle.cip_rational.proofs.Rational.Ratio.{ratio-negate}
 use Rattle.cip_bland.specs.Tables.{each}
 use Rattle.cip_bland.specs.Exchange.{is_absent, solved_at, solved, substituted_at, substituted}
@@ -19,7 +19,7 @@ use Rattle.cip_dict.specs.SparseLines.{entry_on, kept_at, kept_of}
 use Rattle.cip_dict.specs.WholeLines.{Whole, over, number_on, is_none, whole_at, wholes_of, put_number, turned_number, IsWhole, IsPut, HasTermsBelow}
 use Rattle.cip_dict.proofs.Formed.{product_zero_left, product_zero_right, product_fits, sum_zero_left, sum_zero_right, sum_fits}
 use Rattle.cip_dict.proofs.WholeLines.{whole_lines_tell}
-use Rattle.cip_dict.proofs.WholeParts.{ratio_none, none_ratio, entry_over, over_append, number_small}
+use Rattle.cip_dict.proofs.WholeParts.{none_ratio, entry_over, over_append, number_small}
 
 -- ---- what is kept
 
@@ -28,7 +28,7 @@ is_nought z e = let m : magnitude z ≡ 0 = eqb-true (magnitude z) 0 e in omega 
 
 one_over : (d k : ℕ) (z : ℤ) (b : Bool) → 0 < d → is_none z ≡ b → over d (cond b [] ((k, z) ∷ [])) ≡ kept_at k (ratio z d)
 one_over d k z true h e =
-    let zero_is : is_zero (ratio z d) ≡ true = is_zero_of (ratio z d) (ap (λ n. ratio n d) (is_nought z e) ∙ ratio_none d h) in
+    let zero_is : is_zero (ratio z d) ≡ true = is_zero_of (ratio z d) (ap (λ n. ratio n d) (is_nought z e) ∙ ratio_zero d h) in
     sym (ap (λ b. cond b [] ((k, ratio z d) ∷ [])) zero_is)
 one_over d k z false h e =
     let nonzero : is_zero (ratio z d) ≡ false = is_zero_false (ratio z d) (λ s. absurd (true_false z (none_ratio z d h s) e)) in
@@ -67,7 +67,7 @@ sum_none place c a b o p = sum_by place c a b (is_zero a) (is_zero b) refl refl 
 
 put_by : (leaving absent : Bool) (d : ℕ) (y z : ℤ) (q a b c : ℚ) → 0 < d → (leaving ≡ true → ratio y d ≡ b *ℚ q) → ratio z d ≡ a +ℚ b *ℚ c → ratio (cond leaving y (cond absent (pos 0) z)) d ≡ substituted_at leaving absent q a b c
 put_by true absent d y z q a b c h f g = f refl
-put_by false true d y z q a b c h f g = ratio_none d h
+put_by false true d y z q a b c h f g = ratio_zero d h
 put_by false false d y z q a b c h f g = g
 
 put_fits : (place : EntryPlace) (leaving absent : Bool) (q a b c : ℚ) → HasTermsBelow (2 ^ 42) q → HasTermsBelow (2 ^ 42) a → HasTermsBelow (2 ^ 42) b → HasTermsBelow (2 ^ 42) c → first_overflow (substituted_operations_at place leaving absent q a b c) ≡ None
@@ -104,7 +104,7 @@ put_tells n line basic i j q d row e new below out hr hn leaving p =
 
 turned_by : (leaving absent positive : Bool) (p : ℕ) (y n : ℤ) (q a : ℚ) → 0 < p → ratio y p ≡ q → (positive ≡ true → ratio (neg_ℤ n) p ≡ negate a *ℚ q) → (positive ≡ false → ratio n p ≡ negate a *ℚ q) → ratio (cond leaving y (cond absent (pos 0) (cond positive (neg_ℤ n) n))) p ≡ solved_at leaving absent q a
 turned_by true absent positive p y n q a h e f g = e
-turned_by false true positive p y n q a h e f g = ratio_none p h
+turned_by false true positive p y n q a h e f g = ratio_zero p h
 turned_by false false true p y n q a h e f g = f refl
 turned_by false false false p y n q a h e f g = g refl
 
@@ -145,7 +145,7 @@ some_own own d q h e z = above (unsigned_abs own) never
     never : unsigned_abs own ≡ 0 → ⊥
     never m =
         let s : own ≡ pos 0 = omega (arith, ints, m) in
-        let zero_q : is_zero q ≡ true = is_zero_of q (e ∙ ap inverse (ap (λ n. ratio n d) s ∙ ratio_none d h) ∙ inverse_zero) in
+        let zero_q : is_zero q ≡ true = is_zero_of q (e ∙ ap inverse (ap (λ n. ratio n d) s ∙ ratio_zero d h) ∙ inverse_zero) in
         absurd (cc)
 
 pub turned_whole : (n : ℕ) (line : Line) (basic : ℕ → Bool) (i j : ℕ) (q : ℚ) (d : ℕ) (row : List Whole) (own : ℤ) (p : ℕ) (positive : Bool) (out : List Whole) → IsWhole d row → own ≡ number_on row j → q ≡ inverse (ratio (number_on row j) d) → is_zero q ≡ false → p ≡ unsigned_abs own → p < 2 ^ 42

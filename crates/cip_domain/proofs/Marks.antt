@@ -16,7 +16,7 @@ use Rattle.cip_domain.specs.declared.stores.Tightened.TheVariants.{Yes, Same, Em
 
 -- ---- marks
 
-one_more : (before : List Region) (region new : Region) (mark : ℕ) → mark ≤ length before → get_or ((before ++ region ∷ []) ++ new ∷ []) mark new ≡ get_or (before ++ region ∷ []) mark region
+pub one_more : (before : List Region) (region new : Region) (mark : ℕ) → mark ≤ length before → get_or ((before ++ region ∷ []) ++ new ∷ []) mark new ≡ get_or (before ++ region ∷ []) mark region
 one_more before region new mark l =
     let within : mark < length (before ++ region ∷ []) = omega (arith, l, length_push before region) in
     get_or_append_left (before ++ region ∷ []) (new ∷ []) new mark within ∙ get_or_default (before ++ region ∷ []) mark new region within
@@ -67,7 +67,7 @@ crossed None high value e b = absurd (let g : false ≡ true = e in cc)
 crossed (Some low) None value e b = absurd (let g : false ≡ true = e in cc)
 crossed (Some low) (Some high) value e b = not_le_of_lt (lt_of_test e) (≤ℚ_trans b.above b.below)
 
-empty_case : (strong past : Bool) → (if strong then Same else (if past then Empty else Yes)) ≡ Empty → past ≡ true
+pub empty_case : (strong past : Bool) → (if strong then Same else (if past then Empty else Yes)) ≡ Empty → past ≡ true
 empty_case true past e = absurd (cc)
 empty_case false true e = refl
 empty_case false false e = absurd (cc)

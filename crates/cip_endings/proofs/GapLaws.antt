@@ -1,14 +1,11 @@
 -- A gap is reached exactly where the test says so.
 use Rattle.std.proofs.Common.{◌≡◌, Bool, true, false, not, ◌&&◌, Option, None, Some, refl, sym, ap, ◌∙◌, true≢false}
+use Rattle.std.proofs.lemmas.Bool.{and_parts}
 use Rattle.cip_rational.specs.Rational.{ℚ, ◌-ℚ◌, lt_test, le_test}
 use Rattle.cip_rational.specs.Range.{difference_overflows}
 use Rattle.cip_rational.proofs.Rational.Order.{test_of_lt, lt_of_test, test_of_le, le_of_test}
 use Rattle.cip_search.specs.SearchEnds.{ReachesGap}
 use Rattle.cip_endings.specs.Gaps.{is_near_enough, reaches_gap}
-
-both_true : (a b : Bool) → (a && b) ≡ true → (a ≡ true) × (b ≡ true)
-both_true true b e = (refl, e)
-both_true false b e = absurd (true≢false (sym e))
 
 not_true : (a : Bool) → not a ≡ true → a ≡ false
 not_true true e = absurd (true≢false (sym e))
@@ -22,8 +19,8 @@ gap_reached None held bound e = absurd (true≢false (sym e))
 gap_reached (Some gap) None bound e = absurd (true≢false (sym e))
 gap_reached (Some gap) (Some cost) None e = absurd (true≢false (sym e))
 gap_reached (Some gap) (Some cost) (Some bound) e =
-    let first = both_true (not (difference_overflows cost bound)) (lt_test bound cost && le_test (cost -ℚ bound) gap) e in
-    let second = both_true (lt_test bound cost) (le_test (cost -ℚ bound) gap) first.1 in
+    let first = and_parts (not (difference_overflows cost bound)) (lt_test bound cost && le_test (cost -ℚ bound) gap) e in
+    let second = and_parts (lt_test bound cost) (le_test (cost -ℚ bound) gap) first.1 in
     record {
       fits = not_true (difference_overflows cost bound) first.0;
       above = lt_of_test second.0;

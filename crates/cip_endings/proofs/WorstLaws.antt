@@ -4,14 +4,14 @@ use Rattle.std.proofs.lemmas.List.Elements.{Contains-append_cases}
 use Rattle.cip_rational.specs.Rational.{ℚ}
 use Rattle.cip_problem.specs.Program.{Program}
 use Rattle.cip_problem.specs.Log.{Node}
+use Rattle.cip_problem.proofs.Covers.{none_of_nothing, the_only}
 use Rattle.cip_search.specs.Leaf.{Leaf}
 use Rattle.cip_search.specs.Searched.{NoMore}
 use Rattle.cip_search.specs.WideLeaf.{Shown}
-use Rattle.cip_search.proofs.Members.{only_one, none_in}
 use Rattle.cip_search.proofs.Bounds.{no_more_itself}
-use Rattle.cip_search.proofs.Relaxed.{no_more_trans}
 use Rattle.cip_endings.specs.LeastBounds.{is_no_more}
 use Rattle.cip_search.specs.SearchState.{WayBack, IsWideBack}
+use Rattle.cip_search.proofs.Roots.{no_more}
 use Rattle.cip_endings.specs.Worst.{IsFirstWorst}
 use Rattle.cip_endings.proofs.BoundLaws.{no_more_tells, more_tells, more_below}
 
@@ -24,8 +24,8 @@ module _ (program reduced : Program) (way : WayBack) where
       before = [];
       after = [];
       placed = refl;
-      least = λ other c. subst (λ t. NoMore node.bound t.bound) (only_one node other c) (no_more_itself node.bound);
-      first = λ other c. absurd (none_in other c);
+      least = λ other c. subst (λ t. NoMore node.bound t.bound) (the_only node other c) (no_more_itself node.bound);
+      first = λ other c. absurd (none_of_nothing other c);
     };
     is_bound = e;
     wide = p;
@@ -41,7 +41,7 @@ module _ (program reduced : Program) (way : WayBack) where
       placed = ap (λ l. l ++ node ∷ []) w.chosen.placed ∙ append_assoc w.chosen.before (w.node ∷ w.chosen.after) (node ∷ []);
       least = λ one c. elim (Contains-append_cases parked (node ∷ []) one c) [
         | inl a ↦ w.chosen.least one a
-        | inr b ↦ subst (λ n. NoMore w.node.bound n.bound) (only_one node one b) (subst (λ b. NoMore b node.bound) (sym w.is_bound) (subst (NoMore bound) (sym e) (no_more_tells bound more t)))
+        | inr b ↦ subst (λ n. NoMore w.node.bound n.bound) (the_only node one b) (subst (λ b. NoMore b node.bound) (sym w.is_bound) (subst (NoMore bound) (sym e) (no_more_tells bound more t)))
       ];
       first = w.chosen.first;
     };
@@ -60,10 +60,10 @@ module _ (program reduced : Program) (way : WayBack) where
           after = [];
           placed = refl;
           least = λ one c. elim (Contains-append_cases parked (node ∷ []) one c) [
-            | inl a ↦ no_more_trans node.bound bound one.bound below (subst (λ b. NoMore b one.bound) w.is_bound (w.chosen.least one a))
-            | inr b ↦ subst (λ n. NoMore node.bound n.bound) (only_one node one b) (no_more_itself node.bound)
+            | inl a ↦ no_more node.bound bound one.bound below (subst (λ b. NoMore b one.bound) w.is_bound (w.chosen.least one a))
+            | inr b ↦ subst (λ n. NoMore node.bound n.bound) (the_only node one b) (no_more_itself node.bound)
           ];
-          first = λ one c n. more_tells bound more t (no_more_trans bound one.bound more (subst (λ b. NoMore b one.bound) w.is_bound (w.chosen.least one c)) (subst (NoMore one.bound) e n));
+          first = λ one c n. more_tells bound more t (no_more bound one.bound more (subst (λ b. NoMore b one.bound) w.is_bound (w.chosen.least one c)) (subst (NoMore one.bound) e n));
         };
         is_bound = e;
         wide = p;

@@ -1,5 +1,5 @@
 //! A branching rule: the dearest column whose last value isn't whole.
-ghost use Rattle.std.specs.Prelude.{◌≡◌, [], None, codes};
+ghost use Rattle.std.specs.Prelude.{None, codes};
 
 use cip_frac::Frac;
 use cip_plugin::{BranchRule, Plugin, Split, View};

@@ -1,5 +1,5 @@
 //! A heuristic: the point of the last linear program, rounded down.
-ghost use Rattle.std.specs.Prelude.{◌≡◌, [], None, codes};
+ghost use Rattle.std.specs.Prelude.{None, codes};
 
 use cip_frac::Frac;
 use cip_plugin::{Guess, Heuristic, Plugin, View};

@@ -1,5 +1,5 @@
 //! A separator: half of a row, rounded.
-ghost use Rattle.std.specs.Prelude.{◌≡◌, [], None, codes};
+ghost use Rattle.std.specs.Prelude.{None, codes};
 
 use cip_frac::Frac;
 use cip_lin::{Combo, Row, RowId, RowMultiple};

@@ -4,6 +4,7 @@ use Rattle.std.specs.Int.{w64, w128}
 use Rattle.std.specs.Prelude.{int_div}
 use Rattle.std.proofs.lemmas.Int.{ints, unsigned_abs-mul, to_z-of_z, fits_signed_from_abs, quot_is, quot_fits}
 use Rattle.std.proofs.Math.Nat.{mul-le-mul}
+use Rattle.cip_frac.proofs.ShortSums.{word_size}
 
 pub short_fits : (a : ℤ) → FitsSigned w128 a → unsigned_abs (to_z w128 (of_z w128 a)) < 2 ^ 63 → FitsSigned w64 (to_z w128 (of_z w128 a))
 short_fits a fa p = fits_signed_from_abs w64 (to_z w128 (of_z w128 a)) p
@@ -34,9 +35,6 @@ widened_small p f = omega (arith, ints, f)
 pub widened : (p : ℤ) → FitsSigned w64 p → to_z w128 (of_z w128 (to_z w64 (of_z w64 p))) ≡ p
 widened p f = ap (λ z. to_z w128 (of_z w128 z)) (to_z-of_z w64 p f) ∙ kept p (widened_small p f)
 
-short_size : (a : ℤ) → FitsSigned w64 a → unsigned_abs a ≤ 2 ^ 63
-short_size a f = omega (arith, ints, f)
-
 step_total : (n z : ℤ) → unsigned_abs n < 2 ^ 126 → unsigned_abs z ≤ 2 ^ 126 → unsigned_abs (n +ℤ z) < 2 ^ 127
 step_total n z p q = omega (arith, ints, p, q)
 
@@ -44,7 +42,7 @@ step_total n z p q = omega (arith, ints, p, q)
 module _ (a b : ℤ) (fa : FitsSigned w64 a) (fb : FitsSigned w64 b) where
   product_small : unsigned_abs (a *ℤ b) ≤ 2 ^ 126
   product_small =
-      let h : unsigned_abs a * unsigned_abs b ≤ 2 ^ 63 * 2 ^ 63 = mul-le-mul (short_size a fa) (short_size b fb) in
+      let h : unsigned_abs a * unsigned_abs b ≤ 2 ^ 63 * 2 ^ 63 = mul-le-mul (word_size a fa) (word_size b fb) in
       rw (unsigned_abs-mul a b) (omega arith)
 
   pub product_below : unsigned_abs (a *ℤ b) < 2 ^ 127

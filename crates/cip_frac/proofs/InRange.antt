@@ -46,7 +46,7 @@ product_in_range a b p q =
     let small : magnitude (numerator a *ℤ numerator b) ≤ largest = rw (unsigned_abs-mul (numerator a) (numerator b)) (omega (arith, p)) in
     fits_product a b (rw (product_terms a b) (fits_in _ (fits-ratio (numerator a *ℤ numerator b) (denominator a * denominator b) (mul-pos (denominator-pos a) (denominator-pos b)) small (omega (arith, q)))))
 
-product_size : (a b : ℚ) → (unsigned_abs (numerator (a *ℚ b)) ≤ unsigned_abs (numerator a) * unsigned_abs (numerator b)) × (denominator (a *ℚ b) ≤ denominator a * denominator b)
+pub product_size : (a b : ℚ) → (unsigned_abs (numerator (a *ℚ b)) ≤ unsigned_abs (numerator a) * unsigned_abs (numerator b)) × (denominator (a *ℚ b) ≤ denominator a * denominator b)
 product_size a b =
     let h = lowest-le (numerator a *ℤ numerator b) (denominator a * denominator b) (mul-pos (denominator-pos a) (denominator-pos b)) in
     rw (product_terms a b, ← unsigned_abs-mul (numerator a) (numerator b)) h

@@ -7,6 +7,7 @@ use Rattle.std.proofs.lemmas.Int.{ints, unsigned_abs-mul, by_lt_z}
 use Rattle.std.proofs.lemmas.Bool.Decides.{nat_tests}
 use Rattle.std.proofs.lemmas.Nat.Gcd.{dvd_refl, IsGcd-swap}
 use Rattle.std.proofs.Math.Nat.{dvd-mul_right, dvd-mul_left_of_dvd, dvd-add, dvd-add_iff_left, dvd-add_iff_right, one-dvd, mul-pos, div-mul_cancel}
+use Rattle.std.proofs.lemmas.Bool.{or_left, or_right}
 use Rattle.cip_rational.specs.Gcd.{gcd}
 use Rattle.cip_rational.proofs.Gcd.{gcd_unique}
 use Rattle.cip_rational.specs.Rational.{ℚ, ◌+ℚ◌, ratio, numerator, denominator, is_ratio}
@@ -59,14 +60,6 @@ large_true m h = grind (arith, nat_tests)
 large_false : (m : ℕ) → m < 2 ^ 127 → nat_lt largest m ≡ false
 large_false m h = grind (arith, nat_tests)
 
-second_true : (p q : Bool) → q ≡ true → (p || q) ≡ true
-second_true true q e = refl
-second_true false q e = e
-
-first_true : (p q : Bool) → p ≡ true → (p || q) ≡ true
-first_true true q e = refl
-first_true false q e = absurd (cc)
-
 all_false : (p q r s : Bool) → p ≡ false → q ≡ false → r ≡ false → s ≡ false → (p || q || r || s) ≡ false
 all_false p q r s a b c d = rw (a, b, c, d) refl
 
@@ -83,18 +76,18 @@ module _ (x y : ℚ) (a c : ℤ) (b d : ℕ) (ea : a ≡ numerator x) (eb : b �
   pub first_large : (unsigned_abs a * o < 2 ^ 127 → ⊥) → sum_overflows x y ≡ true
   first_large h =
       let l : too_large (a *ℤ pos o) ≡ true = large_true _ (rw (unsigned_abs-mul a (pos o)) h) in
-      overflow_is ∙ first_true _ _ (first_true _ _ (first_true _ _ l))
+      overflow_is ∙ or_left _ _ (or_left _ _ (or_left _ _ l))
 
   pub second_large : (unsigned_abs c * u < 2 ^ 127 → ⊥) → sum_overflows x y ≡ true
   second_large h =
       let l : too_large (c *ℤ pos u) ≡ true = large_true _ (rw (unsigned_abs-mul c (pos u)) h) in
-      overflow_is ∙ first_true _ _ (first_true _ _ (second_true _ _ l))
+      overflow_is ∙ or_left _ _ (or_left _ _ (or_right _ _ l))
 
   pub total_large : (unsigned_abs (a *ℤ pos o +ℤ c *ℤ pos u) < 2 ^ 127 → ⊥) → sum_overflows x y ≡ true
-  total_large h = overflow_is ∙ first_true _ _ (second_true _ _ (large_true _ h))
+  total_large h = overflow_is ∙ or_left _ _ (or_right _ _ (large_true _ h))
 
   pub common_large : (u * d < 2 ^ 127 → ⊥) → sum_overflows x y ≡ true
-  common_large h = overflow_is ∙ second_true _ _ (large_true _ h)
+  common_large h = overflow_is ∙ or_right _ _ (large_true _ h)
 
   pub none_large : unsigned_abs a * o < 2 ^ 127 → unsigned_abs c * u < 2 ^ 127 → unsigned_abs (a *ℤ pos o +ℤ c *ℤ pos u) < 2 ^ 127 → u * d < 2 ^ 127 → sum_overflows x y ≡ false
   none_large p q r s =

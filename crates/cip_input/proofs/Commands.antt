@@ -1,17 +1,14 @@
 -- What the command takes of words, and the job of words that it takes.
-use Rattle.std.specs.Prelude.{◌≡◌, Bool, true, false, ℕ, List, [], ◌∷◌, Option, None, Some, Result, Ok, Err, MatchResult, IfOk, refl, if◌then◌else◌, option_map, option_and_then}
+use Rattle.std.specs.Prelude.{◌≡◌, true, ℕ, List, [], ◌∷◌, Option, None, Some, Result, Ok, Err, MatchResult, IfOk, refl, option_and_then}
 use Rattle.std.proofs.Common.{sym, ap, ap₂, ◌∙◌, subst, inl, inr}
-use lib.Chars.{codes}
-use Rattle.std.specs.Str.{bytes_eq}
-use Rattle.std.proofs.lemmas.Slice.Eq.{bytes_eq-Decides}
-use Rattle.clap.specs.Words.{App, HasKind, HasMatchesOf, IsAmong, Kinds, Row, Text, fault_of, kind_of, is_simple, is_simple_and_free, subcommand_of, subcommand_rows_of, subcommand_name_of}
+use Rattle.clap.specs.Words.{App, HasKind, HasMatchesOf, IsAmong, Kinds, fault_of, kind_of, is_simple, is_simple_and_free, subcommand_of, subcommand_rows_of}
 use Rattle.clap.specs.declared.error.Error.{Error}
 use Rattle.clap.specs.declared.error.kind.ErrorKind.{ErrorKind}
 use Rattle.clap.specs.declared.error.kind.ErrorKind.TheVariants.{OutOfMemory}
 use Rattle.clap.specs.declared.parser.matches.ArgMatches.{ArgMatches}
 use Rattle.clap.proofs.OnLiterals.{clap_on_literals}
 use Rattle.cip_input.proofs.Numbers.{asks_for_some}
-use Rattle.cip_input.specs.Jobs.{Job, AsksForSome, cip_command, job_at, job_behind, check_behind, self_behind, job_of, unless_faulty}
+use Rattle.cip_input.specs.Jobs.{Job, AsksForSome, cip_command, job_at, job_of, unless_faulty}
 use Rattle.cip_input.specs.WordsRead.{WordsCause, meant}
 use Rattle.cip_input.specs.declared.words.Job.{Job as Wanted}
 use Rattle.cip_input.specs.declared.words.WordsFault.{WordsFault}
@@ -75,65 +72,3 @@ refused_words app words told error Refused a w h n = elim h [
   | inr among ↦ no_job told (kind_of error) (subst (λ kinds. IsAmong (kind_of error) kinds) (ap₂ fault_of a w) among)
 ]
 refused_words app words told error NoMemory a w h n = tt
-
--- ---- the subcommand
-
-two_maps : {A B C : Type 0} (f : A → B) (g : B → C) (o : Option A) → option_map g (option_map f o) ≡ option_map (λ x. g (f x)) o
-two_maps f g None = refl
-two_maps f g (Some x) = refl
-
-at_solve : (entered : Option (Text × List Row)) (rows : List Row) → option_map (λ p. p.0) entered ≡ Some (codes "solve") → option_map (λ p. p.1) entered ≡ Some rows → option_and_then job_at entered ≡ job_behind rows
-at_solve None rows n r = absurd (cc)
-at_solve (Some (name, behind)) rows n r = rw (some_of n, some_of r) refl
-  where
-    some_of : {X : Type 0} {x y : X} → Some x ≡ Some y → x ≡ y
-    some_of e = cc
-
--- the rows of the subcommand `solve`
-pub entered_job : (m : ArgMatches) (rows : List Row) → subcommand_name_of m ≡ Some (codes "solve") → option_map (λ p. p.1) (subcommand_rows_of m) ≡ Some rows → option_and_then job_at (subcommand_rows_of m) ≡ job_behind rows
-entered_job m rows n r = at_solve (subcommand_rows_of m) rows (two_maps _ _ _ ∙ n) r
-
-at_check : (entered : Option (Text × List Row)) (rows : List Row) → option_map (λ p. p.0) entered ≡ Some (codes "check") → option_map (λ p. p.1) entered ≡ Some rows → option_and_then job_at entered ≡ check_behind rows
-at_check None rows n r = absurd (cc)
-at_check (Some (name, behind)) rows n r = rw (some_of n, some_of r) refl
-  where
-    some_of : {X : Type 0} {x y : X} → Some x ≡ Some y → x ≡ y
-    some_of e = cc
-
--- the rows of the subcommand `check`
-pub entered_check : (m : ArgMatches) (rows : List Row) → subcommand_name_of m ≡ Some (codes "check") → option_map (λ p. p.1) (subcommand_rows_of m) ≡ Some rows → option_and_then job_at (subcommand_rows_of m) ≡ check_behind rows
-entered_check m rows n r = at_check (subcommand_rows_of m) rows (two_maps _ _ _ ∙ n) r
-
-at_self : (entered : Option (Text × List Row)) (rows : List Row) → option_map (λ p. p.0) entered ≡ Some (codes "self") → option_map (λ p. p.1) entered ≡ Some rows → option_and_then job_at entered ≡ self_behind rows
-at_self None rows n r = absurd (cc)
-at_self (Some (name, behind)) rows n r = rw (some_of n, some_of r) refl
-  where
-    some_of : {X : Type 0} {x y : X} → Some x ≡ Some y → x ≡ y
-    some_of e = cc
-
--- the rows of the subcommand `self`
-pub entered_self : (m : ArgMatches) (rows : List Row) → subcommand_name_of m ≡ Some (codes "self") → option_map (λ p. p.1) (subcommand_rows_of m) ≡ Some rows → option_and_then job_at (subcommand_rows_of m) ≡ self_behind rows
-entered_self m rows n r = at_self (subcommand_rows_of m) rows (two_maps _ _ _ ∙ n) r
-
-not_self : (name : List ℕ) (behind : List Row) → ¬ (Some name ≡ Some (codes "self")) → (same : Bool) → bytes_eq name (codes "self") ≡ same → (if same then self_behind behind else None) ≡ None
-not_self name behind n true e = absurd (n (ap Some ((bytes_eq-Decides name (codes "self")).0 e)))
-not_self name behind n false e = refl
-
-not_check : (name : List ℕ) (behind : List Row) → ¬ (Some name ≡ Some (codes "check")) → ¬ (Some name ≡ Some (codes "self")) → (same : Bool) → bytes_eq name (codes "check") ≡ same → (if same then check_behind behind else (if bytes_eq name (codes "self") then self_behind behind else None)) ≡ None
-not_check name behind n k true e = absurd (n (ap Some ((bytes_eq-Decides name (codes "check")).0 e)))
-not_check name behind n k false e = not_self name behind k (bytes_eq name (codes "self")) refl
-
-not_solve : (name : List ℕ) (behind : List Row) → ¬ (Some name ≡ Some (codes "solve")) → ¬ (Some name ≡ Some (codes "check")) → ¬ (Some name ≡ Some (codes "self")) → (same : Bool) → bytes_eq name (codes "solve") ≡ same → (if same then job_behind behind else (if bytes_eq name (codes "check") then check_behind behind else (if bytes_eq name (codes "self") then self_behind behind else None))) ≡ None
-not_solve name behind n m k true e = absurd (n (ap Some ((bytes_eq-Decides name (codes "solve")).0 e)))
-not_solve name behind n m k false e = not_check name behind m k (bytes_eq name (codes "check")) refl
-
-none_of_them : (entered : Option (Text × List Row)) → ¬ (option_map (λ p. p.0) entered ≡ Some (codes "solve")) → ¬ (option_map (λ p. p.0) entered ≡ Some (codes "check")) → ¬ (option_map (λ p. p.0) entered ≡ Some (codes "self")) → option_and_then job_at entered ≡ None
-none_of_them None n m k = refl
-none_of_them (Some (name, behind)) n m k = not_solve name behind n m k (bytes_eq name (codes "solve")) refl
-
--- another subcommand, or none, has no job
-pub no_command : (m : ArgMatches) → (subcommand_name_of m ≡ Some (codes "solve") → false ≡ true) → (subcommand_name_of m ≡ Some (codes "check") → false ≡ true) → (subcommand_name_of m ≡ Some (codes "self") → false ≡ true) → option_and_then job_at (subcommand_rows_of m) ≡ None
-no_command m n c k = none_of_them (subcommand_rows_of m) (λ e. no_truth (n (sym (two_maps _ _ _) ∙ e))) (λ e. no_truth (c (sym (two_maps _ _ _) ∙ e))) (λ e. no_truth (k (sym (two_maps _ _ _) ∙ e)))
-  where
-    no_truth : false ≡ true → ⊥
-    no_truth e = cc

@@ -1,5 +1,5 @@
 -- The sides of the columns of an LP text are near: a value of a bound of a size of 10^20 or more is none.
-use Rattle.std.proofs.Common.{◌≡◌, ℕ, zero, suc, ◌^◌, Bool, true, false, cond, not, ◌&&◌, ◌||◌, List, [], ◌∷◌, ◌++◌, Option, None, Some, refl, sym, subst, inl, inr}
+use Rattle.std.proofs.Common.{◌≡◌, ℕ, zero, suc, ◌^◌, Bool, true, false, cond, not, ◌&&◌, ◌||◌, List, [], ◌∷◌, ◌++◌, Option, None, Some, refl, sym, subst}
 use Rattle.std.specs.Prelude.{All, pos, slice_index_or, slice_set}
 use Rattle.std.specs.List.{AllByRecursion}
 use Rattle.std.proofs.lemmas.Bool.{cond_both}
@@ -11,14 +11,15 @@ use Rattle.cip_problem.specs.NearSides.{IsNear, HasNearSides}
 use Rattle.cip_rational.specs.Numeral.{value_of, numeral_of}
 use Rattle.cip_text_rules.specs.MpsWords.{is_too_fine, bound_number, is_in}
 use Rattle.cip_text_rules.specs.MpsStepStatements.{ValuesAreTested}
-use Rattle.cip_text_rules.specs.LineStatements.{known_after, IsEndReached, NeedsNoEnd}
-use Rattle.cip_text_rules.proofs.LineEnded.{result_found, holds_open}
+use Rattle.cip_text_rules.specs.LineStatements.{known_after}
+use Rattle.cip_text_rules.proofs.LineEnded.{holds_open}
 use Rattle.cip_text_rules.specs.LpWords.{LpPart, NoPart, Costs, Constraints, Bounds, Generals, Binaries, End, Relation, AtMost, EqualTo, AtLeast}
 use Rattle.cip_text_rules.specs.LpTokens.{Token, Opening, OutsideSection, Free, Infinite, Number, Name, Sign, Colon, Relates, BadToken}
 use Rattle.cip_text_rules.specs.LpPlaces.{Amount, unit, Limit, limit_of, is_equality, agree, flipped, Given, goes_on, Place, Start, Labelled, FirstName, FirstSign, FirstNumber, SecondStart, SecondSign, SecondNumber, SecondName, AfterTerm, TermSign, TermNumber, LastDue, LastSign, BoundName, BoundDue, BoundSign, LimitSign, LimitRead, LimitDue, BoundedName, Where, Event, Fails, Opens, NamesObjective, Begins, AddsCost, AddsConstant, Adds, Ends, Mentions, SetsLow, SetsHigh, SetsBoth, MakesWhole, MakesBinary, Reads, fails, moves, says, says_both}
 use Rattle.cip_text_rules.specs.LpGrammar.{is_name, is_colon, goes_behind, row_ends, zero_ends, settled_cost, settled_row, settled_in, settled, with_value, with_number, amount_in, limit_in, with_limit, cost_read, second_term, last_value, front_read, row_read, is_wrong, side_of, bound_set, bound_value, bound_front, bound_read, general_read, binary_read, may_end, is_past, is_out_of_order, opened, section_read, outside_read, read_in, read, events_of}
 use Rattle.cip_text_rules.specs.LpFacts.{LpFacts, default_sides, sides_of, column_number, with_column, with_row, with_part, facts_with, facts_after}
 use Rattle.cip_text_rules.specs.LpOutcome.{LpContext, no_context, token_fault, context_with, is_end, lp_tokens, HasLpProgram}
+use Rattle.cip_text_rules.proofs.LpTexts.{end_reached}
 use Rattle.cip_input.proofs.NearSides.{zero_near, one_near, bound_near}
 
 -- ---- what is said
@@ -314,13 +315,6 @@ near_token v context token e h =
       place = now.place;
       bounds = near_after context.facts (events_of context.where_ token) (all_both _ _ before.events now.events) h.bounds;
     }
-
--- a program is that of tokens without fault, up to End
-end_reached : (text : List ℕ) (program : Program) → HasLpProgram text program → IsEndReached is_end lp_tokens text program
-end_reached text program h = elim (result_found is_end lp_tokens text program h).1 [ inl r ↦ r | inr n ↦ absurd (never n) ]
-  where
-    never : NeedsNoEnd is_end lp_tokens text program → ⊥
-    never n = let e = n.no_fault in cc e
 
 pub lp_sides_near : (v : ValuesAreTested) (text : List ℕ) (program : Program) → HasLpProgram text program → All HasNearSides program.bounds
 lp_sides_near v text program h =

@@ -1,11 +1,12 @@
 -- The numbers behind `self`: seeds, and how many columns and rows.
-use Rattle.std.specs.Prelude.{◌≡◌, ◌==◌, ◌&&◌, ◌||◌, Bool, true, false, ℕ, ◌^◌, ◌<◌, ◌≤◌, List, [], ◌∷◌, Option, None, Some, refl, if◌then◌else◌}
+use Rattle.std.specs.Prelude.{◌≡◌, ◌&&◌, ◌||◌, Bool, true, false, ℕ, ◌^◌, ◌<◌, ◌≤◌, List, Option, None, Some, refl, if◌then◌else◌}
 use Rattle.std.proofs.Common.{sym, ap, ap₂, ◌∙◌, arith}
 use lib.Chars.{codes}
 use Rattle.std.specs.Str.{bytes_eq}
 use Rattle.std.proofs.lemmas.Slice.Eq.{bytes_eq-Decides}
 use Rattle.std.specs.Str.Parse.{IsNumeral, digits_value, without_leading_plus}
 use Rattle.std.proofs.lemmas.Option.{same_Some}
+use Rattle.std.proofs.lemmas.Bool.{and_from}
 use Rattle.clap.specs.Words.{Row, first_of, first_value, rows_of}
 use Rattle.clap.specs.declared.parser.matches.Found.{Found}
 use Rattle.clap.proofs.WalkLemmas.{both, first_value-rows}
@@ -30,14 +31,11 @@ plain_of text e = plain_or_zero text (bytes_eq text (codes "0")) (begins_above_z
 number_by : (most : ℕ) (same : Bool) (text : List ℕ) → (begins_plainly text && is_unsigned_in 0 most text) ≡ same → number_up_to most (Some text) ≡ (if same then Some (digits_value 10 text) else None)
 number_by most same text e = ap (λ (b : Bool). if b then Some (digits_value 10 text) else None) e
 
-pub both_true : (a b : Bool) → a ≡ true → b ≡ true → (a && b) ≡ true
-both_true a b e f = ap₂ (λ (x y : Bool). x && y) e f
-
 -- a number in the range
 pub some_number : (most : ℕ) (text : List ℕ) (n : ℕ) → begins_plainly text ≡ true → IsNumeral 10 (without_leading_plus text) → digits_value 10 (without_leading_plus text) < 2 ^ 64 → n ≡ digits_value 10 (without_leading_plus text) → n ≤ most → number_up_to most (Some text) ≡ Some n
 some_number most text n plainly numeral fits e high =
     let unsigned = Accepts-accepts false (vp.Unsigned 0 most) text (numeral, fits, omega arith, omega (arith, e, high)) in
-    number_by most true text (both_true _ _ plainly unsigned) ∙ ap Some (sym (e ∙ ap (digits_value 10) (plain_of text plainly)))
+    number_by most true text (and_from _ _ plainly unsigned) ∙ ap Some (sym (e ∙ ap (digits_value 10) (plain_of text plainly)))
 
 pub is_not : (b : Bool) → (b ≡ true → ⊥) → (same : Bool) → b ≡ same → b ≡ false
 is_not b n true e = absurd (n e)

@@ -1,5 +1,5 @@
 -- The sides of the columns of a text are near: a bound of a size of 10^20 or more is none.
-use Rattle.std.proofs.Common.{◌≡◌, ℕ, zero, suc, ◌^◌, Bool, true, false, cond, not, ◌&&◌, List, [], ◌∷◌, ◌++◌, map, Option, None, Some, refl, sym, subst}
+use Rattle.std.proofs.Common.{◌≡◌, ℕ, zero, suc, ◌^◌, Bool, true, false, cond, not, ◌&&◌, List, [], ◌∷◌, map, Option, None, Some, refl, sym, subst}
 use Rattle.std.specs.Prelude.{All, pos, fold}
 use Rattle.std.specs.List.{AllByRecursion, list_any}
 use Rattle.std.specs.Str.{bytes_eq}
@@ -20,6 +20,7 @@ use Rattle.cip_text_rules.specs.MpsOutcome.{Context, said_in, HasProgram}
 use Rattle.cip_text_rules.proofs.Quiet.{Keeps}
 use Rattle.cip_text_rules.proofs.Outcomes.{of_program}
 use Rattle.cip_text_rules.specs.MpsStepStatements.{is_far_value, ValuesAreTested}
+use Rattle.cip_text_rules.proofs.LineBytes.{all_append}
 use Rattle.cip_problem.specs.NearSides.{IsNear, HasNearSides}
 use Rattle.cip_input.specs.LimitedModels.{HasNearOwn}
 
@@ -149,13 +150,9 @@ said_near v place (Entry words) = fields_near v place.part place words
 
 -- ---- the facts
 
-all_both : {X : Type 0} (P : X → Type 0) (xs ys : List X) → AllByRecursion P xs → AllByRecursion P ys → AllByRecursion P (xs ++ ys)
-all_both P [] ys h k = k
-all_both P (x ∷ xs) ys h k = (h.0, all_both P xs ys h.1 k)
-
 near_with : (v : ValuesAreTested) (context : Context) (content : Record) → Keeps context.facts (said_in context content) → AreNear context.facts.bounds → AreNear (facts_with context.facts (said_in context content)).bounds
 near_with v context content k h =
-    all_both (λ (bound : GivenBound). IsNear (value_of bound.value)) context.facts.bounds (bounds_in (said_in context content)) h (said_near v context.place content)
+    all_append (λ (bound : GivenBound). IsNear (value_of bound.value)) context.facts.bounds (bounds_in (said_in context content)) h (said_near v context.place content)
 
 -- ---- the sides of a column
 

@@ -12,8 +12,9 @@ use Rattle.clap.specs.Values.{IsUnsignedIn}
 use Rattle.clap.specs.declared.builder.value_parser.ValueParser.TheVariants as vp
 use Rattle.clap.proofs.ValueTestLemmas.{accepts-Accepts, Accepts-accepts}
 use Rattle.std.proofs.lemmas.Option.{same_Some}
+use Rattle.std.proofs.lemmas.Bool.{and_from}
 use Rattle.cip_input.proofs.Plus.{no_plus}
-use Rattle.cip_input.proofs.Naturals.{self_ranged, both_true, is_not}
+use Rattle.cip_input.proofs.Naturals.{self_ranged, is_not}
 use Rattle.cip_rational.specs.Rational.{ℚ, zeroℚ, le_test}
 use Rattle.cip_rational.specs.Numeral.{value_of}
 use Rattle.cip_rational.specs.FractionText.{fraction_of}
@@ -29,7 +30,7 @@ number_of same text e = ap (λ (b : Bool). if b then Some (digits_value 10 text)
 pub some_nodes : (text : List ℕ) (n : ℕ) → begins_above_zero text ≡ true → IsNumeral 10 (without_leading_plus text) → digits_value 10 (without_leading_plus text) < 2 ^ 64 → n ≡ digits_value 10 (without_leading_plus text) → 1 ≤ n → n ≤ most_nodes → nodes_of (Some text) ≡ Some n
 some_nodes text n above numeral fits e low high =
     let unsigned = Accepts-accepts false (vp.Unsigned 1 most_nodes) text (numeral, fits, omega (arith, e, low), omega (arith, e, high)) in
-    number_of true text (both_true _ _ above unsigned) ∙ ap Some (sym (e ∙ ap (digits_value 10) (no_plus text above)))
+    number_of true text (and_from _ _ above unsigned) ∙ ap Some (sym (e ∙ ap (digits_value 10) (no_plus text above)))
 
 -- and what is none
 pub no_nodes : (text : List ℕ) → (IsUnsignedIn 1 most_nodes text → ⊥) → nodes_of (Some text) ≡ None

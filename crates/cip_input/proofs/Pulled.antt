@@ -1,5 +1,5 @@
 -- What is pulled of a text, piece by piece.
-use Rattle.std.specs.Prelude.{◌≡◌, ℕ, zero, suc, ◌+◌, ◌≤◌, List, [], ◌∷◌, ◌++◌, Option, None, Some, IfSome, option_map, take, drop, length, refl}
+use Rattle.std.specs.Prelude.{◌≡◌, ℕ, ◌+◌, ◌≤◌, List, [], ◌++◌, Option, None, Some, IfSome, option_map, take, drop, length, refl}
 use Rattle.std.proofs.Common.{sym, ap, ap₂, ◌∙◌, subst, arith}
 use Rattle.std.proofs.lemmas.List.{drop-drop, drop_all, length-append, length-take-le, take-append-drop, append-nil}
 use Rattle.std.proofs.Math.Seq.{take-add}
@@ -68,13 +68,3 @@ whole_at_end chosen now new before after bytes p h l =
 -- or where one byte too many was pulled
 pub whole_at_limit : (chosen now : StoreTells) (bytes : List ℕ) → IsPulled chosen now bytes → length bytes ≡ most_pulled → IsAllPulled chosen.left now
 whole_at_limit chosen now bytes p e = p.rest ∙ ap (λ k. option_map (drop k) chosen.left) e
-
--- a text of which so many bytes were pulled is as long
-pub pulled_length : (text : Option (List ℕ)) (bytes : List ℕ) → IfSome text (λ all. take (length bytes) all ≡ bytes) → IfSome text (λ all. length bytes ≤ length all)
-pulled_length None bytes f = tt
-pulled_length (Some all) bytes f = subst (λ b. length b ≤ length all) f (take_short (length bytes) all)
-  where
-    take_short : (n : ℕ) (all : List ℕ) → length (take n all) ≤ length all
-    take_short zero all = omega arith
-    take_short (suc n) [] = omega arith
-    take_short (suc n) (x ∷ xs) = let h : length (take n xs) ≤ length xs = take_short n xs in omega (arith, h)

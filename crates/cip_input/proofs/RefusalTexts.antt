@@ -1,16 +1,17 @@
 -- The texts of refusals: how they are written, and what they tell.
 use lib.Chars.{codes}
-use Rattle.std.specs.Prelude.{◌≡◌, ◌≢◌, ◌==◌, ℕ, zero, suc, ◌+◌, ◌-◌, ◌*◌, ◌^◌, ◌<◌, ◌≤◌, Bool, true, false, ◌&&◌, length, slice_index_or, List, [], ◌∷◌, ◌++◌, pos, decimal, refl, if◌then◌else◌}
+use Rattle.std.specs.Prelude.{◌≡◌, ◌≢◌, ◌==◌, ℕ, zero, suc, ◌+◌, ◌-◌, ◌*◌, ◌^◌, ◌<◌, ◌≤◌, Bool, true, ◌&&◌, length, slice_index_or, List, [], ◌∷◌, ◌++◌, pos, decimal, refl, if◌then◌else◌}
 use Rattle.std.specs.List.{AllByRecursion}
-use Rattle.std.proofs.Common.{sym, ap, ◌∙◌, subst, arith, append_assoc, append-nil}
+use Rattle.std.proofs.Common.{sym, ap, ◌∙◌, subst, arith, append_assoc}
 use Rattle.std.proofs.lemmas.List.{append_cancel_right}
-use Rattle.std.proofs.lemmas.Bool.{eqb-true}
+use Rattle.std.proofs.lemmas.Bool.{eqb-true, and_parts}
 use Rattle.std.proofs.lemmas.List.Elements.{recursion_from_All}
-use Rattle.cip_rational.specs.Rational.{integer, denominator}
-use Rattle.cip_rational.proofs.Rational.Lowest.{numerator-integer, denominator-integer}
-use Rattle.cip_rational.specs.NumberText.{natural_text, integer_text, denominator_text, fraction_text}
+use Rattle.cip_rational.specs.Rational.{integer}
+use Rattle.cip_rational.specs.NumberText.{natural_text, fraction_text}
 use Rattle.cip_rational.proofs.NumberText.{IsFractionByte, fraction_text_plain, natural_text_decimal, natural_text_injective}
 use Rattle.cip_search.specs.Figures.{end_line, line, refusal_text}
+use Rattle.cip_search.proofs.TraceTexts.{whole_text}
+use Rattle.cip_search.proofs.AnswerTexts.{line_then, cancelled}
 use Rattle.cip_input.specs.MpsKindTexts.{kind_texts as mps_texts}
 use Rattle.cip_input.specs.LpKindTexts.{kind_texts as lp_texts}
 use Rattle.cip_input.specs.declared.model_kinds.ModelKind.{ModelKind}
@@ -23,10 +24,6 @@ use Rattle.cip_input.specs.declared.refusals.FaultyText.TheVariants.{Model, Bloc
 use Rattle.cip_input.specs.Refusals.{text_name, line_of, number_of, kind_text, RefusalsTell}
 
 -- ---- how it is written
-
--- a line, and then more
-line_then : (word figure rest : List ℕ) → line word figure ++ rest ≡ word ++ 32 ∷ (figure ++ 10 ∷ rest)
-line_then word figure rest = simp append_assoc
 
 -- five lists, one after another
 five : (a b c d e : List ℕ) → a ++ b ++ c ++ d ++ e ≡ a ++ (b ++ (c ++ (d ++ e)))
@@ -62,12 +59,6 @@ no_feed : (text : List ℕ) → AllByRecursion IsFractionByte text → HasNoFeed
 no_feed [] plain = tt
 no_feed (byte ∷ bytes) plain = (λ e. grind (arith, plain.0), no_feed bytes plain.1)
 
-whole_text : (n : ℕ) → fraction_text (integer (pos n)) ≡ natural_text n
-unfolding fraction_text
-whole_text n =
-    ap (λ z. integer_text z ++ denominator_text (denominator (integer (pos n)))) (numerator-integer (pos n))
-    ∙ ap (λ d. natural_text n ++ denominator_text d) (denominator-integer (pos n)) ∙ append-nil (natural_text n)
-
 natural_text-no_feed : (n : ℕ) → HasNoFeed (natural_text n)
 natural_text-no_feed n =
     subst HasNoFeed (whole_text n)
@@ -84,10 +75,6 @@ parted (x ∷ xs) (y ∷ ys) us vs p q e =
     let rest = parted xs ys us vs p.1 q.1 tail in
     (ap (λ byte. byte ∷ xs) head ∙ ap (λ bytes. y ∷ bytes) rest.0, rest.1)
 
-cancelled : (word xs ys : List ℕ) → word ++ xs ≡ word ++ ys → xs ≡ ys
-cancelled [] xs ys e = e
-cancelled (byte ∷ word) xs ys e = cancelled word xs ys (cc)
-
 -- the number of a kind, from its text
 kind_read : List ℕ → ℕ
 kind_read [] = 0
@@ -99,19 +86,14 @@ are_read : ℕ → List (List ℕ) → Bool
 are_read from [] = true
 are_read from (text ∷ texts) = (kind_read text == from) && are_read (from + 1) texts
 
-both_true : (a b : Bool) → (a && b) ≡ true → (a ≡ true) × (b ≡ true)
-both_true true true e = (refl, refl)
-both_true true false e = absurd (cc)
-both_true false b e = absurd (cc)
-
 read_at : (from : ℕ) (texts : List (List ℕ)) (k : ℕ) → are_read from texts ≡ true → k < length texts → kind_read (slice_index_or texts k []) ≡ from + k
 unfolding are_read
 read_at from [] k e h = absurd (omega (arith, h))
-read_at from (text ∷ texts) zero e h = eqb-true (kind_read text) from (both_true (kind_read text == from) (are_read (from + 1) texts) e).0 ∙ no_more from
+read_at from (text ∷ texts) zero e h = eqb-true (kind_read text) from (and_parts (kind_read text == from) (are_read (from + 1) texts) e).0 ∙ no_more from
   where
     no_more : (n : ℕ) → n ≡ n + 0
     no_more n = omega arith
-read_at from (text ∷ texts) (suc k) e h = read_at (from + 1) texts k (both_true (kind_read text == from) (are_read (from + 1) texts) e).1 (omega (arith, h)) ∙ one_more from k
+read_at from (text ∷ texts) (suc k) e h = read_at (from + 1) texts k (and_parts (kind_read text == from) (are_read (from + 1) texts) e).1 (omega (arith, h)) ∙ one_more from k
   where
     one_more : (m n : ℕ) → (m + 1) + n ≡ m + suc n
     one_more m n = omega arith

@@ -16,7 +16,7 @@ use Rattle.cip_input.specs.LimitedModels.{ProgramsAreLimited}
 use Rattle.cip_input.specs.TextsRead.{ReadsText, RefusesText}
 use Rattle.cip_input.specs.Models.{HasModel}
 use Rattle.cip_input.specs.ModelsRead.{IsRead, Reads, ReadCause}
-use Rattle.cip_input.specs.BlocksRead.{ReadsBlocks, BlocksCause}
+use Rattle.cip_input.specs.BlocksRead.{BlocksCause}
 use Rattle.cip_input.specs.PointsRead.{ReadsPoint, PointCause}
 use Rattle.cip_input.specs.declared.model_kinds.ModelKind.{ModelKind}
 use Rattle.cip_input.specs.BlockKind.{BlockKind}
@@ -31,7 +31,6 @@ use Rattle.cip_io.specs.Store.{StoreTells}
 use Rattle.cip_input.specs.Jobs.{Limits, Job, Solve, Check, Generate, AsksForSome}
 use Rattle.cip_input.specs.Generated.{most_drawn}
 use Rattle.cip_input.specs.declared.plain.Plain.{Plain}
-use Rattle.cip_problem.specs.BlockParts.{Blocks as Parts}
 use Rattle.cip_input.specs.Tasks.{IsPlain, model_of, model_in, TakesBlocks, IsSolve, IsCheck, TaskCause}
 
 -- it is that of the text that the store tells
@@ -52,7 +51,7 @@ long name text program point_text old new point limited lines r p =
 pub some_job : {asked : Job} {job : Option Job} → job ≡ Some asked → job ≡ None → ⊥
 some_job h e = cc
 
-no_name : {name : List ℕ} → None ≡ Some name → ⊥
+pub no_name : {name : List ℕ} → None ≡ Some name → ⊥
 no_name e = cc
 
 -- nor does a job that names a model name none
@@ -115,15 +114,6 @@ point_cause job model name old between new program (Faulty fault) e r same h = r
   refuses = subst (λ holds. RefusesText (HasFault (point_reading program)) (holds name) between new fault.line (point_kind_number fault.kind)) same h;
 }
 point_cause job model name old between new program NoMemory e r same h = record { sound = h ∙ r.sound; untouched = λ none. absurd (some_model e refl none) }
-
--- the blocks of a text of this name were read
-pub blocks_taken : (program : Program) (blocks : Option (List ℕ)) (name : List ℕ) (old between new : StoreTells) (parts : Parts) → blocks ≡ Some name → between.holds ≡ old.holds → ReadsBlocks program (between.holds name) between new parts → TakesBlocks program blocks old between new
-blocks_taken program blocks name old between new parts e same r =
-    subst (λ b. TakesBlocks program b old between new) (sym e) (parts, subst (λ holds. ReadsBlocks program (holds name) between new parts) same r)
-
--- no blocks are named
-pub no_blocks : (program : Program) (blocks : Option (List ℕ)) (old between : StoreTells) → blocks ≡ None → TakesBlocks program blocks old between between
-no_blocks program blocks old between e = subst (λ b. TakesBlocks program b old between between) (sym e) refl
 
 -- a program to solve was read, with its blocks
 pub is_solve : (job : Option Job) (model : List ℕ) (blocks : Option (List ℕ)) (limits : Limits) (old between new : StoreTells) (program : Program) → ProgramsAreLimited → 0 < limits.nodes → job ≡ Some (Solve model blocks limits) → Reads model (old.holds model) old between program → TakesBlocks program blocks old between new → IsSolve job old new program limits

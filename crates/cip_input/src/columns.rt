@@ -1,5 +1,5 @@
 //! The columns of a program that is drawn: their names, sides and costs.
-ghost use Rattle.std.specs.Prelude.{◌≡◌, ◌+◌, ◌%◌, ◌∷◌, map, replicate, IfOk, OnOk};
+ghost use Rattle.std.specs.Prelude.{◌≡◌, ◌+◌, ◌%◌, map, replicate, IfOk, OnOk};
 ghost use Rattle.std.specs.List.{range_with_len};
 ghost use Rattle.cip_rational.specs.Rational.{negate};
 ghost use Rattle.cip_input.specs.Generated.{natural, cost_from, state_after, name_of, zero_to_three};

@@ -1,5 +1,5 @@
 //! The words of a command line.
-ghost use Rattle.std.specs.Prelude.{◌≡◌, ◌++◌, ◌∷◌, [], true, false, Some, None, map, IfOk, OnOk, OnErr, MatchResult, option_map, option_and_then, length};
+ghost use Rattle.std.specs.Prelude.{◌≡◌, ◌++◌, ◌∷◌, [], true, false, Some, None, map, IfOk, OnOk, OnErr, MatchResult, option_map, option_and_then};
 ghost use Rattle.clap.specs.Words.{app_of, kind_of, rows_of, found_of, new_rule, rule_of, subcommand_rows_of};
 ghost use Rattle.clap.specs.declared.builder.action.ArgAction.TheVariants.{SetTrue};
 ghost use Rattle.clap.specs.declared.error.kind.ErrorKind.TheVariants.{OutOfMemory};

@@ -2,7 +2,7 @@
 use Rattle.std.proofs.Common.{◌≡◌, ℕ, zero, suc, ◌+◌, Bool, true, false, cond, List, [], ◌∷◌, length, Some, Result, Ok, Err, IfOk, refl, sym, ap, ◌∙◌, subst, arith, slice_get, add-zero}
 use Rattle.std.proofs.lemmas.Option.{none-some, same_Some}
 use Rattle.cip_rational.specs.Rational.{ℚ, ◌+ℚ◌}
-use Rattle.cip_rational.proofs.Rational.Ring.{+ℚ-zero, zero-+ℚ, +ℚ_assoc}
+use Rattle.cip_rational.proofs.Rational.Ring.{+ℚ-zero, +ℚ_assoc}
 use Rattle.cip_frac.specs.declared.operations.Wide.{Wide as Overflow}
 use Rattle.cip_frac.specs.Outcomes.{sum_outcome}
 use Rattle.cip_rational.specs.Range.{sum_overflows}
@@ -11,7 +11,6 @@ use Rattle.cip_problem.specs.Activity.{value_at}
 use Rattle.cip_problem.specs.BlockParts.{Blocks}
 use Rattle.cip_problem.specs.BlockMeaning.{part_at}
 use Rattle.cip_pricing.specs.Mixtures.{total}
-use Rattle.cip_pricing.specs.LeastCosts.{sum_below}
 use Rattle.cip_cert.specs.declared.pricing.BoundTree.{BoundTree}
 use Rattle.cip_lagrange.specs.Numbers.{found}
 use Rattle.cip_lagrange.specs.declared.parts.Subproblem.{Subproblem}
@@ -26,21 +25,9 @@ use Rattle.cip_cert.specs.Lent.{Fits}
 use Rattle.cip_lagrange.specs.Scratches.{CanBound}
 use Rattle.cip_lagrange.proofs.RowsAlone.{fits_alone}
 
--- ---- sums of prices
-
-shift_sum : (n : ℕ) (f : ℕ → ℚ) → sum_below (suc n) f ≡ f 0 +ℚ sum_below n (λ k. f (suc k))
-shift_sum zero f = zero-+ℚ (f 0) ∙ sym (+ℚ-zero (f 0))
-shift_sum (suc n) f =
-    ap (λ t. t +ℚ f (suc n)) (shift_sum n f) ∙ +ℚ_assoc (f 0) (sum_below n (λ k. f (suc k))) (f (suc n))
-
-pub sum_total : (prices : List ℚ) → sum_below (length prices) (value_at prices) ≡ total prices
-sum_total [] = refl
-sum_total (p ∷ ps) =
-    shift_sum (length ps) (value_at (p ∷ ps)) ∙ ap (λ t. p +ℚ t) (sum_total ps)
-
 -- ---- sums of bounds
 
-sum_cases : (t : Bool) (o : Overflow) (v : ℚ) → IfOk (cond t (Err o) (Ok v)) (λ w. w ≡ v)
+pub sum_cases : (t : Bool) (o : Overflow) (v : ℚ) → IfOk (cond t (Err o) (Ok v)) (λ w. w ≡ v)
 sum_cases true o v = tt
 sum_cases false o v = refl
 

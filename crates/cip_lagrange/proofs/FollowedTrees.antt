@@ -5,13 +5,13 @@ use Rattle.std.proofs.lemmas.Bool.{and_parts, ltb-true}
 use Rattle.std.proofs.lemmas.Option.{none-some}
 use Rattle.cip_rational.specs.Rational.{ℚ, ◌≤ℚ◌, le_test}
 use Rattle.cip_rational.specs.Sums.{dot}
-use Rattle.cip_rational.proofs.Rational.Order.{≤ℚ_refl, ≤ℚ_of_lt, ≤ℚ_trans, le_of_test, lt_of_le_test}
+use Rattle.cip_rational.proofs.Rational.Order.{≤ℚ_trans}
 use Rattle.cip_problem.specs.Program.{Sides, Row, Choice, Plain, Open, Off, On}
 use Rattle.cip_problem.specs.Box.{sides_at}
 use Rattle.cip_problem.specs.Choices.{choice_at}
 use Rattle.cip_problem.specs.Log.{Node, low_node, high_node, low_of, high_of, CanSplitAt}
 use Rattle.cip_pricing.specs.TreeBounds.{IsNodePoint, IsTreeBound}
-use Rattle.cip_pricing.proofs.Trees.{in_a_half}
+use Rattle.cip_pricing.proofs.Trees.{in_a_half, minimum_left, minimum_right}
 use Rattle.cip_cert.specs.Lent.{Lent, Fits, multiples_of}
 use Rattle.cip_cert.specs.Follows.{RowsHold, BoundFollows, EmptinessFollows}
 use Rattle.cip_cert.specs.Checks.{lower_bound_of, emptied}
@@ -122,14 +122,6 @@ high-long node column at Off = length-slice_set node.box column _
 high-long node column at On = length-slice_set node.box column _
 
 -- ---- the lesser bound
-
-minimum_left : (a b : ℚ) (t : Bool) → le_test a b ≡ t → cond t a b ≤ℚ a
-minimum_left a b true e = ≤ℚ_refl a
-minimum_left a b false e = ≤ℚ_of_lt (lt_of_le_test e)
-
-minimum_right : (a b : ℚ) (t : Bool) → le_test a b ≡ t → cond t a b ≤ℚ b
-minimum_right a b true e = le_of_test e
-minimum_right a b false e = ≤ℚ_refl b
 
 -- a bound is at most a value; none is, where there is no point
 abbrev Reaches : TreeBound → ℚ → Type 0

@@ -1,9 +1,9 @@
 -- Which sides can be halved.
-use lib.Signed.{le_z, lt_z}
 use Rattle.std.proofs.Common.{◌≡◌, ◌↔◌, ◌^◌, ℤ, pos, ◌+ℤ◌, Bool, true, false, ◌&&◌, T, Option, None, Some, refl, ap₂, arith}
 use Rattle.std.specs.Prelude.{unsigned_abs, nat_le, int_le, int_lt, ◌≤ℤ◌, ◌<ℤ◌}
 use Rattle.std.proofs.lemmas.Int.{ints}
 use Rattle.std.proofs.lemmas.Bool.{and_parts, leb-true, le-leb}
+use Rattle.std.proofs.lemmas.Float.{T_from_true}
 use Rattle.cip_rational.specs.Rational.{ℚ, integer, floor, ceil}
 use Rattle.cip_rational.proofs.Rational.Order.{≤ℚ_refl, ≤ℚ_trans}
 use Rattle.cip_rational.proofs.Rational.Rounding.{integer_le, le_integer, le_ceil, ceil_least, floor_le, floor_greatest}
@@ -12,10 +12,6 @@ use Rattle.cip_problem.specs.Wholes.{HasWhole}
 use Rattle.cip_lagrange.specs.TreeOutcomes.{has_low, has_high, can_halve}
 use Rattle.cip_lagrange.specs.TreeMeaning.{CanBeHalved}
 
-passes : (b : Bool) → b ≡ true → T b
-passes true e = tt
-passes false e = absurd (cc)
-
 passed : (b : Bool) → T b → b ≡ true
 passed true t = refl
 passed false t = absurd t
@@ -23,7 +19,7 @@ passed false t = absurd t
 low_has : (low : Option ℚ) (at : ℤ) → has_low low at ≡ true → HasWhole (record { low = low; high = Some (integer at) })
 low_has None at e = record { number = at; between = record { above = tt; below = ≤ℚ_refl (integer at) } }
 low_has (Some low) at e =
-    let h : ceil low ≤ℤ at = record { le = passes (int_le (ceil low) at) e } in
+    let h : ceil low ≤ℤ at = record { le = T_from_true (int_le (ceil low) at) e } in
     record {
       number = at;
       between = record
@@ -44,7 +40,7 @@ high_has : (high : Option ℚ) (at : ℤ) → has_high high at ≡ true
 high_has None at e = record
     { number = at +ℤ pos 1; between = record { above = ≤ℚ_refl (integer (at +ℤ pos 1)); below = tt } }
 high_has (Some high) at e =
-    let h : at <ℤ floor high = record { lt = passes (int_lt at (floor high)) e } in
+    let h : at <ℤ floor high = record { lt = T_from_true (int_lt at (floor high)) e } in
     record {
       number = at +ℤ pos 1;
       between = record {

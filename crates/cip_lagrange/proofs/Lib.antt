@@ -13,7 +13,6 @@ pub mod Placing
 pub mod Ready
 pub mod RowsAlone
 pub mod Shown
-pub mod SplitColumns
 pub mod SplitOutcomes
 pub mod Stepped
 pub mod Whole

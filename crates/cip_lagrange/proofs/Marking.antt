@@ -1,5 +1,5 @@
 -- Numbers that are given to blocks.
-use Rattle.std.proofs.Common.{◌≡◌, ℕ, zero, suc, ◌+◌, ◌<◌, ◌==◌, Bool, true, false, ◌||◌, List, [], ◌∷◌, length, replicate, Option, None, Some, refl, sym, ap, ◌∙◌, arith, true≢false, add-one, slice_get}
+use Rattle.std.proofs.Common.{◌≡◌, ℕ, zero, suc, ◌<◌, ◌==◌, Bool, true, false, ◌||◌, List, [], ◌∷◌, length, replicate, Option, None, Some, refl, sym, ap, ◌∙◌, arith, true≢false, slice_get}
 use Rattle.std.specs.Prelude.{slice_set}
 use Rattle.std.proofs.lemmas.Bool.{eqb-true, eqb-false}
 use Rattle.std.proofs.lemmas.Option.{none-some, same_Some, slice_get_within}
@@ -65,10 +65,6 @@ marked_not (n ∷ ns) b os k e =
 pub length-owned : (f : ℕ → List ℕ) (n : ℕ) (os : List Owner) → length (owned_below f n os) ≡ length os
 length-owned f zero os = refl
 length-owned f (suc n) os = length-marked (f n) n (owned_below f n os) ∙ length-owned f n os
-
-pub owned_more : (f : ℕ → List ℕ) (n : ℕ) (os : List Owner)
-    → owned_below f (n + 1) os ≡ marked (f n) n (owned_below f n os)
-owned_more f n os = ap (λ m. owned_below f m os) (add-one n)
 
 is_step : (f : ℕ → List ℕ) (n : ℕ) (os : List Owner) (k b : ℕ) (t : Bool) → has_number (f n) k ≡ t → k < length os
     → b < suc n → has_number (f b) k ≡ true

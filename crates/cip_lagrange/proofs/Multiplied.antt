@@ -34,7 +34,7 @@ pub ok_weaker : {A : Type 0} (P Q : A → Type 0) (r : Result A LagrangeFault) �
 ok_weaker P Q (Ok a) f h = f a h
 ok_weaker P Q (Err fault) f h = tt
 
-in_range_value : (q : ℚ) (r : Result ℚ Overflow) → IfOk r (λ v. v ≡ q) → IfOk (in_range r) (λ v. v ≡ q)
+pub in_range_value : (q : ℚ) (r : Result ℚ Overflow) → IfOk r (λ v. v ≡ q) → IfOk (in_range r) (λ v. v ≡ q)
 in_range_value q (Ok v) h = h
 in_range_value q (Err overflow) h = tt
 

@@ -1,7 +1,7 @@
 -- Multipliers, terms and columns of no block one after another.
-use Rattle.std.proofs.Common.{◌≡◌, ℕ, zero, suc, ◌+◌, ◌<◌, ◌≤◌, List, [], ◌∷◌, length, get_or, set, drop, Option, Result, Ok, Err, refl, sym, ap, ap₂, ◌∙◌, arith, cond}
+use Rattle.std.proofs.Common.{◌≡◌, ℕ, ◌+◌, ◌<◌, ◌≤◌, List, ◌∷◌, length, get_or, set, drop, Option, Result, Ok, Err, refl, sym, ap, ap₂, ◌∙◌, cond}
 use Rattle.std.proofs.Math.ListN.{drop_of_length-le}
-use Rattle.std.proofs.lemmas.List.{drop_more}
+use Rattle.std.proofs.lemmas.List.{drop_more, get_or_default}
 use Rattle.cip_rational.specs.Rational.{ℚ, zeroℚ, ◌<ℚ◌, lt_test}
 use Rattle.cip_rational.proofs.Rational.Order.{≤ℚ_of_lt, test_of_lt, lt_of_test, lt_test_of_le}
 use Rattle.std.proofs.lemmas.Bool.{false_from_ne_true}
@@ -10,12 +10,6 @@ use Rattle.cip_problem.specs.Activity.{value_at}
 use Rattle.cip_problem.specs.Box.{sides_at}
 use Rattle.cip_lagrange.specs.declared.answers.LagrangeFault.{LagrangeFault}
 use Rattle.cip_lagrange.specs.LagrangeOutcomes.{chain, Reduced, product_less, terms_less, side_used, multiplier_used, multipliers_used, rest_added, column_added, free_added}
-
--- what stands at a place of a list doesn't depend on what would stand past its end
-pub same_default : {X : Type 0} (xs : List X) (i : ℕ) (d e : X) → i < length xs → get_or xs i d ≡ get_or xs i e
-same_default [] i d e h = absurd (omega (arith, h))
-same_default (x ∷ xs) zero d e h = refl
-same_default (x ∷ xs) (suc i) d e h = same_default xs i d e (omega (arith, h))
 
 -- ---- multipliers
 
@@ -33,7 +27,7 @@ module _ (rows : List Row) (numbers : List ℕ) (ys : List ℚ) (at : ℕ) (befo
         (drop_more ys at y has ∙ ap (λ z. z ∷ drop (at + 1) ys) (sym y_is))
         ∙ ap (λ (r : Row). chain (multiplier_used (get_or numbers at 0) y r before)
         (multipliers_used rows (drop (at + 1) numbers) (drop (at + 1) ys)))
-        (same_default rows (get_or numbers at 0) no_row row there ∙ sym row_is)
+        (get_or_default rows (get_or numbers at 0) no_row row there ∙ sym row_is)
 
     pub multiplier_taken : (more : Reduced) → multiplier_used (get_or numbers at 0) y row before ≡ Ok more
         → multipliers_used rows (drop (at + 1) numbers) (drop (at + 1) ys) more ≡ total
@@ -68,7 +62,7 @@ module _ (y : ℚ) (at : ℕ) (ts : List Term) (rests : List ℚ) (total : Resul
         (λ less. terms_less y (drop (at + 1) ts) (set rests k less))) (sym column_is) (sym coefficient_is)
         ∙ ap (λ q. chain (product_less q y coefficient)
         (λ less. terms_less y (drop (at + 1) ts) (set rests column less)))
-        (same_default rests column zeroℚ rest below ∙ sym rest_is)
+        (get_or_default rests column zeroℚ rest below ∙ sym rest_is)
 
     pub term_taken : (less : ℚ) → Ok less ≡ product_less rest y coefficient
         → terms_less y (drop (at + 1) ts) (set rests column less) ≡ total
@@ -98,7 +92,7 @@ module _ (rests : List ℚ) (box : List Sides) (numbers : List ℕ) (at : ℕ) (
           ap (λ (ns : List ℕ). free_added rests box ns sum) (drop_more numbers at 0 inside)
           ∙ ap₂ (λ (q : ℚ) (s : Sides). chain (column_added (get_or numbers at 0) q s sum)
           (free_added rests box (drop (at + 1) numbers)))
-          (same_default rests (get_or numbers at 0) zeroℚ rest there ∙ sym rest_is) (sym sides_are)
+          (get_or_default rests (get_or numbers at 0) zeroℚ rest there ∙ sym rest_is) (sym sides_are)
 
       pub column_taken : (more : ℚ) → Ok more ≡ column_added (get_or numbers at 0) rest sides sum
           → free_added rests box (drop (at + 1) numbers) more ≡ total

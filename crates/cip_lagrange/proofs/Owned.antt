@@ -1,8 +1,8 @@
 -- Each column and each row has the block that it has in the program's blocks, and so the program falls into them.
-use Rattle.std.proofs.Common.{◌≡◌, ◌⊎◌, inl, inr, ℕ, zero, suc, ◌<◌, ◌≤◌, ◌==◌, Bool, true, false, ◌||◌, List, [], ◌∷◌, length, None, Some, refl, sym, ap, ◌∙◌, arith, true≢false, slice_get}
+use Rattle.std.proofs.Common.{◌≡◌, ◌⊎◌, inl, inr, ℕ, zero, suc, ◌<◌, ◌≤◌, ◌==◌, true, false, ◌||◌, List, [], ◌∷◌, length, None, Some, sym, ap, ◌∙◌, arith, true≢false, slice_get}
 use Rattle.std.specs.Prelude.{◌↔◌}
 use Rattle.std.specs.List.{AllByRecursion, list_any}
-use Rattle.std.proofs.lemmas.Bool.{eq-eqb, cases_lt}
+use Rattle.std.proofs.lemmas.Bool.{eq-eqb, cases_lt, or_right}
 use Rattle.std.proofs.lemmas.Option.{none-some, same_Some, get_or_from_slice_get}
 use Rattle.std.proofs.lemmas.List.{length-replicate, get_or_past}
 use Rattle.cip_problem.specs.Program.{Term, Row, Program, no_row}
@@ -16,10 +16,6 @@ use Rattle.cip_lagrange.proofs.AtPlaces.{all_at, all_at_place, zip_at}
 use Rattle.cip_lagrange.proofs.Marking.{nobody, length-owned, owned_is, owned_back}
 
 -- ---- entries of rows
-
-or_right : (a b : Bool) → b ≡ true → (a || b) ≡ true
-or_right true b e = refl
-or_right false b e = e
 
 -- a row has an entry of the column of each of its terms
 stands_there : (terms : List Term) (j : ℕ) (t : Term) → slice_get terms j ≡ Some t

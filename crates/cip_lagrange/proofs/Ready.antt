@@ -150,10 +150,6 @@ fitting_more n parts works part work a e f = record {
         let own : other ≡ part = same_Some other part (sym g ∙ ap (slice_get parts) h.0 ∙ e) in
         subst (λ (w : BlockScratch). FitsBlock other w) h.1 (subst (λ (p : Subproblem). FitsBlock p work) (sym own) f)
 
-pub fitting_all : (n : ℕ) (parts : List Subproblem) (works : List BlockScratch) → AreFittingTo n parts works
-    → n ≡ length parts → AreFitting parts works
-fitting_all n parts works a e = record { long = a.long ∙ e; each = a.each }
-
 -- ---- what is set
 
 pub set_step : (costs rests : List ℚ) (numbers : List ℕ) (i : ℕ) (x : ℚ) → length costs ≡ length numbers

@@ -23,6 +23,7 @@ use Rattle.cip_pricing.specs.LeastCosts.{side_total, AreRests, sum_below, price_
 use Rattle.cip_pricing.specs.TreeBounds.{IsNodePoint}
 use Rattle.cip_pricing.proofs.Trees.{node_point}
 use Rattle.cip_pricing.proofs.Shown.{lagrange_shows, feasible_shown, no_block_point}
+use Rattle.cip_pricing.proofs.Multiplied.{sum_total}
 use Rattle.cip_cert.specs.declared.pricing.BoundTree.{BoundTree}
 use Rattle.cip_lagrange.specs.Numbers.{found}
 use Rattle.cip_lagrange.specs.declared.parts.Subproblem.{Subproblem}
@@ -38,7 +39,7 @@ use Rattle.cip_lagrange.specs.LagrangeMeaning.{LagrangeFollows}
 use Rattle.cip_lagrange.specs.Scratches.{IsReady, AreReady}
 use Rattle.cip_lagrange.proofs.FollowedTrees.{tree_bounds}
 use Rattle.cip_lagrange.proofs.Multiplied.{ok_chain, ok_weaker, row_of, AreUsed, multipliers_mean, IsLeast, free_mean}
-use Rattle.cip_lagrange.proofs.BlocksAdded.{sum_total, IsShown, HasPrices, AreAdded, FitsPart, blocks_mean}
+use Rattle.cip_lagrange.proofs.BlocksAdded.{IsShown, HasPrices, AreAdded, FitsPart, blocks_mean}
 
 module _ (program : Program) (kept : Decomposed) (box : List Sides) (rests : List ℚ)
     (made : IsDecompositionOf program kept) (wide : length box ≡ columns program)

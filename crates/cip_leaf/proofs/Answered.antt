@@ -1,5 +1,5 @@
 -- What the answer on a leaf's program says of the leaf.
-use Rattle.std.proofs.Common.{◌≡◌, ◌≢◌, ℕ, ◌+◌, ◌<◌, ◌≤◌, ◌^◌, Bool, true, false, cond, List, [], ◌∷◌, ◌++◌, length, refl, sym, ap, ◌∙◌, arith}
+use Rattle.std.proofs.Common.{◌≡◌, ◌≢◌, ℕ, ◌+◌, ◌≤◌, ◌^◌, Bool, true, false, cond, List, [], ◌∷◌, ◌++◌, length, refl, sym, ap, ◌∙◌, arith}
 use Rattle.std.proofs.lemmas.List.{length-map, length-append}
 use Rattle.cip_rational.specs.Rational.{ℚ}
 use Rattle.cip_problem.specs.Program.{Program}
@@ -20,7 +20,6 @@ use Rattle.cip_simplex.specs.LpShape.{IsSolvable}
 use Rattle.cip_simplex.specs.declared.answers.LpAnswer.TheVariants.{Optimal, Infeasible, Unbounded, Wide, Limit}
 use Rattle.cip_search.specs.Leaf.{IsPointOf}
 use Rattle.cip_search.specs.LeafProgram.{at_continuous, row_of_leaf, program_of_leaf}
-use Rattle.cip_search.specs.WideLeaf.{MovesOverflow}
 use Rattle.cip_search.proofs.Merged.{leaf_proper, point_on}
 use Rattle.cip_leaf.specs.LeafAnswers.{EndsInOptimum, EndsInRay, EndsOutOfRange}
 
@@ -114,6 +113,3 @@ no_moves (m ∷ ms) e = absurd (omega (arith, e))
 pub first_is_wide : (linear : LinearProgram) (number : ℕ) → EndsOutOfRange linear number → number ≤ 0 → is_out_of_range (first_operations (system_of linear)) ≡ true
 first_is_wide linear number h l =
     first_of_none linear (h.is_answer ∙ ap def.OutOfRange (no_moves h.moves (omega (arith, h.count, l))))
-
-pub moves_are_wide : (linear : LinearProgram) (number : ℕ) → EndsOutOfRange linear number → 0 < number → MovesOverflow linear number
-moves_are_wide linear number h l = record { moves = h.moves; is_answer = h.is_answer; count = h.count; some = l }

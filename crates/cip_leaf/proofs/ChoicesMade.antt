@@ -29,7 +29,7 @@ use Rattle.cip_model.proofs.Meaning.Ray.{still_open, falls_along}
 use Rattle.cip_leaf.specs.declared.answers.LeafAnswer.{LeafAnswer}
 use Rattle.cip_leaf.specs.declared.answers.LeafAnswer.TheVariants.{Best, NoPoint, Unbounded as HasRay, Wide}
 use Rattle.cip_leaf.specs.LeafAnswers.{IsLeafAnswer, IsValuesAnswer}
-use Rattle.cip_leaf.proofs.Rays.{zero_stays}
+use Rattle.cip_bland.proofs.RayEnds.{zero_stays}
 
 -- ---- the verdict on a feasible point
 
@@ -134,9 +134,6 @@ is_there : (low : Option ℚ) → IsSomeAnd low (λ side. zeroℚ ≤ℚ side) �
 is_there None h = absurd h
 is_there (Some low) h = refl
 
-no_change : (sides : Sides) (change : ℚ) → change ≡ zeroℚ → StaysBetween sides.low sides.high change
-no_change sides change e = subst (StaysBetween sides.low sides.high) (sym e) (zero_stays sides.low sides.high)
-
 open_still : (own sides : Sides) (whole : Option Bool) (change : ℚ) → IsSemi own whole sides → StaysBetween sides.low sides.high change → change ≡ zeroℚ
 open_still own sides whole change semi h = still_open own change (subst (λ (s : Sides). StaysBetween s.low s.high change) semi.open_ h)
 
@@ -151,9 +148,9 @@ stay_there (c ∷ cs) wholes (s ∷ ss) on [] f h = absurd h
 stay_there (Plain ∷ cs) wholes (s ∷ ss) on (r ∷ rs) f h = (h.0, stay_there cs (λ column. wholes (suc column)) ss on rs (λ column. f (suc column)) h.1)
 stay_there (Open own ∷ cs) wholes (s ∷ ss) [] (r ∷ rs) f h = (h.0, stay_there cs (λ column. wholes (suc column)) ss [] rs (λ column. f (suc column)) h.1)
 stay_there (Open own ∷ cs) wholes (s ∷ ss) (true ∷ on) (r ∷ rs) f h =
-    (no_change own r (open_still own s (wholes 0) r (f 0) h.0), stay_there cs (λ column. wholes (suc column)) ss on rs (λ column. f (suc column)) h.1)
+    (zero_stays own r (open_still own s (wholes 0) r (f 0) h.0), stay_there cs (λ column. wholes (suc column)) ss on rs (λ column. f (suc column)) h.1)
 stay_there (Open own ∷ cs) wholes (s ∷ ss) (false ∷ on) (r ∷ rs) f h =
-    (no_change zero_sides r (open_still own s (wholes 0) r (f 0) h.0), stay_there cs (λ column. wholes (suc column)) ss on rs (λ column. f (suc column)) h.1)
+    (zero_stays zero_sides r (open_still own s (wholes 0) r (f 0) h.0), stay_there cs (λ column. wholes (suc column)) ss on rs (λ column. f (suc column)) h.1)
 stay_there (Off ∷ cs) wholes (s ∷ ss) on (r ∷ rs) f h = absurd (f 0)
 stay_there (On ∷ cs) wholes (s ∷ ss) on (r ∷ rs) f h = absurd (f 0)
 
@@ -166,7 +163,7 @@ stay_back (Open own ∷ cs) wholes (s ∷ ss) [] [] f h = absurd h
 stay_back (Open own ∷ cs) wholes (s ∷ ss) [] (r ∷ rs) f h = (h.0, stay_back cs (λ column. wholes (suc column)) ss [] rs (λ column. f (suc column)) h.1)
 stay_back (Open own ∷ cs) wholes (s ∷ ss) (o ∷ on) [] f h = absurd h
 stay_back (Open own ∷ cs) wholes (s ∷ ss) (o ∷ on) (r ∷ rs) f h =
-    (no_change s r (made_still own s (wholes 0) o r (f 0) (h.0, tt)), stay_back cs (λ column. wholes (suc column)) ss on rs (λ column. f (suc column)) h.1)
+    (zero_stays s r (made_still own s (wholes 0) o r (f 0) (h.0, tt)), stay_back cs (λ column. wholes (suc column)) ss on rs (λ column. f (suc column)) h.1)
 stay_back (Off ∷ cs) wholes (s ∷ ss) on ray f h = absurd (f 0)
 stay_back (On ∷ cs) wholes (s ∷ ss) on ray f h = absurd (f 0)
 

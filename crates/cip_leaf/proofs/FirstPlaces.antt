@@ -19,25 +19,25 @@ use Rattle.cip_model.specs.declared.verdicts.Place.TheVariants.{Row, Cost}
 use Rattle.cip_leaf.specs.FirstPlaces.{line_of, IsValueLine}
 use Rattle.cip_leaf.specs.LeafAnswers.{place_of}
 
-split_at : (xs ys : List Placed) (place : dictionary.EntryPlace) (first : Option dictionary.EntryPlace) → first_overflow xs ≡ first → first_overflow (xs ++ ys) ≡ Some place → (first_overflow xs ≡ Some place) ⊎ (first_overflow ys ≡ Some place)
+pub split_at : (xs ys : List Placed) (place : dictionary.EntryPlace) (first : Option dictionary.EntryPlace) → first_overflow xs ≡ first → first_overflow (xs ++ ys) ≡ Some place → (first_overflow xs ≡ Some place) ⊎ (first_overflow ys ≡ Some place)
 split_at xs ys place None e h = inr (sym (overflow-append xs ys e) ∙ h)
 split_at xs ys place (Some other) e h = inl (e ∙ (sym (overflow-found xs ys other e) ∙ h))
 
-split : (xs ys : List Placed) (place : dictionary.EntryPlace) → first_overflow (xs ++ ys) ≡ Some place → (first_overflow xs ≡ Some place) ⊎ (first_overflow ys ≡ Some place)
+pub split : (xs ys : List Placed) (place : dictionary.EntryPlace) → first_overflow (xs ++ ys) ≡ Some place → (first_overflow xs ≡ Some place) ⊎ (first_overflow ys ≡ Some place)
 split xs ys place h = split_at xs ys place (first_overflow xs) refl h
 
 -- ---- a form
 
-both_at : (at place : dictionary.EntryPlace) (a b : Bool) → cond a (Some at) (cond b (Some at) None) ≡ Some place → place ≡ at
+pub both_at : (at place : dictionary.EntryPlace) (a b : Bool) → cond a (Some at) (cond b (Some at) None) ≡ Some place → place ≡ at
 both_at at place true b h = sym (same_Some at place h)
 both_at at place false true h = sym (same_Some at place h)
 both_at at place false false h = absurd (none-some place h)
 
-sum_place : (at place : dictionary.EntryPlace) (c a b : ℚ) (test : Bool) → first_overflow (cond test [] (placed at (Product a b) ∷ placed at (Sum c (a *ℚ b)) ∷ [])) ≡ Some place → place ≡ at
+pub sum_place : (at place : dictionary.EntryPlace) (c a b : ℚ) (test : Bool) → first_overflow (cond test [] (placed at (Product a b) ∷ placed at (Sum c (a *ℚ b)) ∷ [])) ≡ Some place → place ≡ at
 sum_place at place c a b true h = absurd (none-some place h)
 sum_place at place c a b false h = both_at at place (overflows (Product a b)) (overflows (Sum c (a *ℚ b))) h
 
-form_place : (l : Line) (n : ℕ) (row x : ℕ → ℚ) (place : dictionary.EntryPlace) → first_overflow (form_operations l n row x) ≡ Some place → place ≡ value_place l
+pub form_place : (l : Line) (n : ℕ) (row x : ℕ → ℚ) (place : dictionary.EntryPlace) → first_overflow (form_operations l n row x) ≡ Some place → place ≡ value_place l
 form_place l zero row x place h = absurd (none-some place h)
 form_place l (suc n) row x place h = elim (split (form_operations l n row x) _ place h) [
   | inl before ↦ form_place l n row x place before

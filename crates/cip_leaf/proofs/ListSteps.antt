@@ -1,7 +1,6 @@
 -- One more entry of lists that are made entry by entry.
-use Rattle.std.proofs.Common.{◌≡◌, ℕ, zero, suc, ◌+◌, ◌<◌, ◌≤◌, Bool, true, false, List, [], ◌∷◌, ◌++◌, length, take, drop, refl, sym, ap, ◌∙◌, arith, true≢false, add-one, append-nil, append_assoc, subst}
+use Rattle.std.proofs.Common.{◌≡◌, ℕ, zero, suc, ◌+◌, ◌<◌, ◌≤◌, Bool, true, false, List, [], ◌∷◌, ◌++◌, length, drop, refl, sym, ap, ◌∙◌, arith, true≢false, add-one, append-nil, append_assoc, subst}
 use Rattle.std.proofs.lemmas.List.{length-append}
-use Rattle.std.specs.Prelude.{map}
 use Rattle.std.proofs.Math.ListN.{get_or}
 use Rattle.cip_rational.specs.Rational.{ℚ}
 use Rattle.cip_problem.specs.Activity.{value_at}
@@ -12,19 +11,6 @@ use Rattle.cip_leaf.specs.Building.{numbers_from}
 moved_over : {X : Type 0} (made more rest behind all : List X) (x : X) → more ≡ made ++ x ∷ [] → rest ≡ x ∷ behind → made ++ rest ≡ all → more ++ behind ≡ all
 moved_over made more rest behind all x p e f =
     ap (λ t. t ++ behind) p ∙ append_assoc made (x ∷ []) behind ∙ ap (λ t. made ++ t) (sym e) ∙ f
-
--- ---- what a function makes of each entry
-
-map_next : {X Y : Type 0} (f : X → Y) (xs : List X) (k : ℕ) (d : X) → k < length xs → map f (take (suc k) xs) ≡ map f (take k xs) ++ f (get_or xs k d) ∷ []
-map_next f [] k d l = absurd (omega (arith, l))
-map_next f (x ∷ xs) zero d l = refl
-map_next f (x ∷ xs) (suc k) d l = ap (λ t. f x ∷ t) (map_next f xs k d (omega (arith, l)))
-
-pub map_more : {X Y : Type 0} (f : X → Y) (xs : List X) (k : ℕ) (d : X) (before made more : List Y) (y : Y) → k < length xs → y ≡ f (get_or xs k d) → more ≡ made ++ y ∷ [] → made ≡ before ++ map f (take k xs) → more ≡ before ++ map f (take (k + 1) xs)
-map_more f xs k d before made more y l e p h =
-    rw add-one
-    (p ∙ ap (λ t. made ++ t ∷ []) e ∙ ap (λ t. t ++ f (get_or xs k d) ∷ []) h
-    ∙ append_assoc before (map f (take k xs)) (f (get_or xs k d) ∷ []) ∙ ap (λ t. before ++ t) (sym (map_next f xs k d l)))
 
 -- ---- the entries of continuous columns
 

@@ -1,15 +1,15 @@
 -- Leaves of a program whose columns are all whole: each has one point.
-use Rattle.std.proofs.Common.{◌≡◌, inl, Bool, true, false, suc, List, [], ◌∷◌, length, map, Some, All, refl, sym, ap, ◌∙◌, subst, arith}
-use Rattle.std.proofs.lemmas.List.Elements.{All-head, All-tail}
+use Rattle.std.proofs.Common.{◌≡◌, inl, true, List, [], length, All, refl, sym, ap, ◌∙◌, subst}
 use Rattle.cip_rational.specs.Rational.{ℚ, ◌≤ℚ◌}
 use Rattle.cip_rational.proofs.Rational.Order.{≤ℚ_refl}
-use Rattle.cip_problem.specs.Program.{Sides, Program}
+use Rattle.cip_problem.specs.Program.{Program}
 use Rattle.cip_problem.specs.WellFormed.{IsWellFormed, columns}
 use Rattle.cip_problem.specs.Points.{IsFeasible, cost_of}
-use Rattle.cip_search.specs.Leaf.{IsLeaf, IsLeafIn, IsPointOf, at_wholes}
-use Rattle.cip_search.specs.Wide.{Place as WidePlace, InRow, InCost, fixed_values, IsWideAt}
+use Rattle.cip_search.specs.Leaf.{IsLeaf, IsPointOf, at_wholes}
+use Rattle.cip_search.specs.Wide.{Place as WidePlace, InRow, InCost, IsWideAt}
 use Rattle.cip_search.proofs.Points.{all_wholes, whole_leaf}
 use Rattle.cip_search.specs.WideLeaf.{AtPlace, SumOverflows, IsWideBy}
+use Rattle.cip_search.proofs.WholeLeaves.{leaf-long, all_fixed}
 use Rattle.cip_model.specs.declared.verdicts.Place.{Place}
 use Rattle.cip_model.specs.declared.verdicts.Verdict.{Verdict}
 use Rattle.cip_model.specs.declared.verdicts.Verdict.TheVariants.{Feasible, Wide}
@@ -20,21 +20,6 @@ use Rattle.cip_leaf.proofs.Sums.{point_overflows}
 use Rattle.cip_leaf.proofs.Ends.{settled}
 
 -- ---- the one point
-
-all_fixed : (integral : List Bool) (leaf : List ℚ) → All (λ whole. whole ≡ true) integral → length leaf ≡ length integral → fixed_values integral leaf ≡ map Some leaf
-all_fixed [] [] h e = refl
-all_fixed [] (v ∷ vs) h e = absurd (omega (arith, e))
-all_fixed (true ∷ ws) [] h e = absurd (omega (arith, e))
-all_fixed (true ∷ ws) (v ∷ vs) h e = ap (λ t. Some v ∷ t) (all_fixed ws vs (All-tail (λ whole. whole ≡ true) true ws h) (omega (arith, e)))
-all_fixed (false ∷ ws) leaf h e = let f : false ≡ true = All-head (λ whole. whole ≡ true) false ws h in absurd (cc)
-
-leaf-long : (integral : List Bool) (box : List Sides) (leaf : List ℚ) → All (λ whole. whole ≡ true) integral → length integral ≡ length box → IsLeafIn integral box leaf → length leaf ≡ length integral
-leaf-long [] box [] h e k = refl
-leaf-long [] box (v ∷ vs) h e k = absurd k
-leaf-long (w ∷ ws) [] leaf h e k = absurd (omega (arith, e))
-leaf-long (true ∷ ws) (s ∷ ss) [] h e k = absurd k
-leaf-long (true ∷ ws) (s ∷ ss) (v ∷ vs) h e k = ap suc (leaf-long ws ss vs (All-tail (λ whole. whole ≡ true) true ws h) (omega (arith, e)) k.1)
-leaf-long (false ∷ ws) (s ∷ ss) leaf h e k = let f : false ≡ true = All-head (λ whole. whole ≡ true) false ws h in absurd (cc)
 
 module _ (program : Program) (leaf : List ℚ) (formed : IsWellFormed program) (none : program.choices ≡ []) (whole : All (λ whole. whole ≡ true) program.integral) (is_leaf : IsLeaf program leaf) where
   same_long : length leaf ≡ length program.integral

@@ -1,5 +1,6 @@
 -- What the test of a value that a choice allows says.
-use Rattle.std.proofs.Common.{◌≡◌, inl, inr, Bool, true, false, ◌||◌, refl, sym, ◌∙◌, true≢false}
+use Rattle.std.proofs.Common.{◌≡◌, inl, inr, Bool, true, false, ◌||◌, refl, sym, true≢false}
+use Rattle.std.proofs.lemmas.Bool.{or_right}
 use Rattle.cip_frac.specs.Rational.{ℚ, zeroℚ}
 use Rattle.cip_frac.specs.Order.{same_rational, same_from_equal, equal_from_same}
 use Rattle.cip_problem.specs.Program.{Sides, Choice, Plain, Open, Off, On}
@@ -19,24 +20,9 @@ allowed_says (Open own) value h = either_says own value (same_rational value zer
 allowed_says Off value h = tt
 allowed_says On value h = tt
 
-or_right : (a b : Bool) → b ≡ true → (a || b) ≡ true
-or_right true b h = refl
-or_right false b h = h
-
 pub allowed_from : (choice : Choice) (value : ℚ) → Allows choice value → is_allowed choice value ≡ true
 allowed_from Plain value h = refl
 allowed_from (Open own) value (inl e) = rw (same_from_equal value zeroℚ e) refl
 allowed_from (Open own) value (inr h) = or_right (same_rational value zeroℚ) (is_between own.low own.high value) (test_of_between own.low own.high value h)
 allowed_from Off value h = refl
 allowed_from On value h = refl
-
--- 0 is always allowed
-pub zero_allowed : (choice : Choice) → Allows choice zeroℚ
-zero_allowed Plain = tt
-zero_allowed (Open own) = inl refl
-zero_allowed Off = tt
-zero_allowed On = tt
-
--- a value that doesn't pass isn't allowed
-pub not_allowed_says : (choice : Choice) (value : ℚ) → is_allowed choice value ≡ false → ¬ Allows choice value
-not_allowed_says choice value e h = true≢false (sym (allowed_from choice value h) ∙ e)

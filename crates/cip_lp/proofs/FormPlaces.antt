@@ -2,8 +2,7 @@
 use Rattle.std.proofs.Common.{◌≡◌, ◌⊎◌, inl, inr, ℕ, zero, suc, ◌<◌, ◌==◌, Bool, true, false, ◌||◌, List, [], ◌∷◌, ◌++◌, length, set, Option, None, Some, refl, sym, ap, subst, ◌∙◌, arith}
 use Rattle.std.specs.Prelude.{slice_get}
 use Rattle.std.proofs.lemmas.Bool.{eqb-true, eq-eqb, cases_eq, false_from_ne_true, false≢true}
-use Rattle.std.proofs.lemmas.List.Sums.{fold_push}
-use Rattle.cip_text_rules.specs.LpFacts.{FormTerm, form_with, has_term}
+use Rattle.cip_text_rules.specs.LpFacts.{FormTerm, has_term}
 use Rattle.cip_lp.specs.LpForms.{form_of, is_of, stands_at, ArePlaced}
 use Rattle.cip_lp.proofs.FormOrder.{has_same}
 
@@ -31,11 +30,6 @@ pub found_is : (terms : List FormTerm) (places : List ℕ) (column : ℕ) → Ar
 found_is terms places column h =
     same_tests (stands_at terms (slice_get places column) column) (has_term terms column) (found_there terms (slice_get places column) column) (h.placed column)
     ∙ has_same terms column
-
--- ---- without numbers
-
-pub none_placed : (places : List ℕ) → ArePlaced [] places
-none_placed places = record { placed = λ column e. absurd (false≢true e) }
 
 -- ---- with room for more places
 
@@ -106,20 +100,12 @@ placed_with terms t places l h = record { placed = λ column e. go column e (cas
         ap (λ (o : Option ℕ). stands_at (terms ++ t ∷ []) o column) (set_elsewhere places t.column (length terms) column other)
         ∙ still_found terms t (slice_get places column) column (h.placed column (has_before terms t column other e))
 
--- the form with a number more
-pub form_push : (terms : List FormTerm) (t : FormTerm) → form_of (terms ++ t ∷ []) ≡ form_with t (form_of terms)
-form_push terms t = fold_push (λ (form : List FormTerm) (o : FormTerm). form_with o form) [] terms t
-
 -- where room was made before
 pub placed_more : (terms more : List FormTerm) (places room later : List ℕ) (t : FormTerm) → ArePlaced terms places → ((column place : ℕ) → slice_get places column ≡ Some place → slice_get room column ≡ Some place) → t.column < length room → more ≡ terms ++ t ∷ [] → later ≡ set room t.column (length terms) → ArePlaced more later
 placed_more terms more places room later t h kept l m p =
     let base : ArePlaced (terms ++ t ∷ []) (set room t.column (length terms)) = placed_with terms t room l (still_placed terms places room kept h) in
     let here : ArePlaced (terms ++ t ∷ []) later = subst (λ (ps : List ℕ). ArePlaced (terms ++ t ∷ []) ps) (sym p) base in
     subst (λ (ts : List FormTerm). ArePlaced ts later) (sym m) here
-
--- with all numbers taken away
-pub placed_empty : (terms : List FormTerm) (places : List ℕ) → terms ≡ [] → ArePlaced terms places
-placed_empty terms places e = subst (λ (ts : List FormTerm). ArePlaced ts places) (sym e) (none_placed places)
 
 -- what is found at a place that is kept, or none, of the form that contracts see
 pub found_at : (terms : List FormTerm) (places : List ℕ) (column : ℕ) (form : List FormTerm) (place : Option ℕ) → ArePlaced terms places → form_of terms ≡ form → slice_get places column ≡ place → stands_at terms place column ≡ has_term form column

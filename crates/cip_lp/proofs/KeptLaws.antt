@@ -3,6 +3,7 @@ use Rattle.std.proofs.Common.{◌≡◌, ℕ, ◌<◌, ◌≤◌, Bool, true, fa
 use Rattle.std.specs.Prelude.{All, IfSome, is_some, is_none, nat_le, slice_set, Result, Ok, Err, OnOk, OnErr}
 use Rattle.std.proofs.lemmas.List.{length-set}
 use Rattle.std.proofs.lemmas.List.Elements.{All-nil}
+use Rattle.std.proofs.lemmas.Bool.{or_from}
 use Rattle.cip_problem.specs.Limits.{most_columns}
 use Rattle.cip_problem.specs.Program.{Row, Sides}
 use Rattle.cip_rational.specs.Rational.{ℚ, zeroℚ}
@@ -11,10 +12,10 @@ use Rattle.cip_text_rules.specs.MpsRules.{rule, least}
 use Rattle.cip_text_rules.proofs.Quiet.{right_false}
 use Rattle.cip_text_rules.specs.LpWords.{LpPart, Costs, Constraints}
 use Rattle.cip_text_rules.specs.LpPlaces.{Amount, Event, Fails, Opens, NamesObjective, Begins, AddsCost, AddsConstant, Adds, Ends, Mentions, SetsLow, SetsHigh, SetsBoth, MakesWhole, MakesBinary}
-use Rattle.cip_text_rules.specs.LpFacts.{FormTerm, LpFacts, nothing_said, default_sides, is_named, name_of_row, is_again, is_column_too_many, is_entry_too_many, is_long, form_with, form_term, column_number, minimized, entries_with, with_column, with_cost, with_term, with_row, terms_of, with_part, event_fault, facts_with}
+use Rattle.cip_text_rules.specs.LpFacts.{FormTerm, LpFacts, default_sides, is_named, name_of_row, is_again, is_column_too_many, is_entry_too_many, is_long, form_with, form_term, column_number, minimized, entries_with, with_column, with_cost, with_term, with_row, terms_of, with_part, event_fault, facts_with}
 use Rattle.cip_text_rules.specs.LpSound.{form_rises}
 use Rattle.cip_text_rules.proofs.LpEvents.{unbroken}
-use Rattle.cip_text_rules.proofs.LpFits.{first_sound, event_kept, number_within}
+use Rattle.cip_text_rules.proofs.LpFits.{event_kept, number_within}
 use Rattle.cip_lp.specs.LpDrafts.{is_among, IsKeptLp}
 
 -- ---- names of rows
@@ -53,9 +54,6 @@ fresh_with facts (MakesBinary name) h e = h
 
 -- ---- the whole
 
-pub none_kept : IsKeptLp nothing_said
-none_kept = record { sound = first_sound; fresh = refl }
-
 pub kept_with : (facts : LpFacts) (event : Event) → IsKeptLp facts → event_fault facts event ≡ None → IsKeptLp (facts_with facts event)
 kept_with facts event h e = record {
   sound = event_kept facts event h.sound e;
@@ -80,14 +78,10 @@ pub cost_quiet : (facts : LpFacts) (amount : Amount) (name : List ℕ) (column :
 cost_quiet facts amount name column n a m l =
     three_quiet (is_again facts name) (is_column_too_many facts name) (is_long name) a (many_is (number_in facts.column_names name) column (nat_le most_columns (length facts.column_names)) n m) l
 
-or_quiet : (a b : Bool) → a ≡ false → b ≡ false → (a || b) ≡ false
-or_quiet false b p q = q
-or_quiet true b p q = absurd (cc)
-
 pub term_quiet : (facts : LpFacts) (amount : Amount) (name : List ℕ) (column : Option ℕ) → column ≡ number_in facts.column_names name → is_again facts name ≡ false → (is_none column && nat_le most_columns (length facts.column_names)) ≡ false → is_entry_too_many facts amount ≡ false → is_long name ≡ false → event_fault facts (Adds amount name) ≡ None
 term_quiet facts amount name column n a m t l =
     three_quiet (is_again facts name) (is_column_too_many facts name || is_entry_too_many facts amount) (is_long name) a
-    (or_quiet (is_column_too_many facts name) (is_entry_too_many facts amount) (many_is (number_in facts.column_names name) column (nat_le most_columns (length facts.column_names)) n m) t) l
+    (or_from (is_column_too_many facts name) (is_entry_too_many facts amount) (many_is (number_in facts.column_names name) column (nat_le most_columns (length facts.column_names)) n m) t) l
 
 -- a term of the objective is put
 pub cost_put : (old : LpFacts) (amount : Amount) (name : List ℕ) (f : LpFacts) (t : FormTerm) (column : ℕ) (cost : ℚ) (form : List FormTerm) (costs : List ℚ) → IsKeptLp old → event_fault old (AddsCost amount name) ≡ None → f ≡ with_column old name

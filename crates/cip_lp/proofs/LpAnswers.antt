@@ -6,7 +6,7 @@ use Rattle.std.proofs.lemmas.List.{append-nil, append_assoc}
 use Rattle.cip_problem.specs.Program.{Program}
 use Rattle.cip_text_rules.specs.LineEnds.{Stage}
 use Rattle.cip_text_rules.specs.LineTexts.{Outcome, Means, outcome_at, outcome_of, HasFault}
-use Rattle.cip_text_rules.specs.LineStream.{Progress, Going, Failed, outcome_from}
+use Rattle.cip_text_rules.specs.LineStream.{Progress, Failed, outcome_from}
 use Rattle.cip_text.specs.declared.faults.KnownFault.{KnownFault}
 use Rattle.cip_text.specs.declared.text_faults.TextFault.{TextFault}
 use Rattle.cip_text.specs.declared.text_faults.ReadFault.{ReadFault}
@@ -17,7 +17,7 @@ use Rattle.cip_text.specs.PieceFaults.{first_fault, has_kind_to}
 use Rattle.cip_text.specs.PieceStands.{progress_of, progress_after, outcome_with}
 use Rattle.cip_text.proofs.Streams.{few_kinds}
 use Rattle.cip_text_rules.specs.LpOutcome.{LpContext, lp_reading, told_kind, HasLpFault}
-use Rattle.cip_text_rules.specs.LpBytes.{LpBytes, part_read, behind, beyond, text_taken, IsTold}
+use Rattle.cip_text_rules.specs.LpBytes.{LpBytes, part_read, behind, beyond, text_taken}
 use Rattle.cip_text_rules.specs.LpTakenTexts.{last_line, TakenFaultsStay, TakenTextsComeOut}
 use Rattle.cip_lp.specs.declared.kinds.LpKind.{LpKind}
 use Rattle.cip_lp.specs.declared.lp_text.LpText.{LpText}
@@ -105,22 +105,6 @@ said_known : TakenFaultsStay → (now : LpText) (text : List ℕ) (f : Option Kn
 said_known law now text None fault stands e few said = absurd (cc said)
 said_known law now text (Some known) fault stands e few said = is_known law now text known fault.line (kind_number fault.kind) stands e few (said_by known fault said)
 
--- without a known fault
-pub none_known : (known : Option KnownFault) → option_map as_told known ≡ None → known ≡ None
-none_known None e = refl
-none_known (Some known) e = absurd (cc e)
-
-none_told : (now : LpText) (text : List ℕ) → shown_of now ≡ text_taken text → now.fault ≡ None → (line kind : ℕ) → IsTold text line kind → ⊥
-none_told now text stands none line kind told =
-    let going : text_taken text ≡ Going (bytes_of now) = sym stands ∙ ap (λ g. progress_of g (bytes_of now)) none in
-    let failed : text_taken text ≡ Failed line told.number = told.taken in
-    cc (going, failed)
-
--- of the bytes that came
-pub answered : TakenFaultsStay → (now : LpText) (bytes : List ℕ) → HasCome now bytes → has_kind_to 12 now.fault ≡ true → (answer : Result (Unit {0}) (TextFault LpKind)) → IsSaid kind_number (option_map as_told now.fault) answer → IsAnswered bytes answer
-answered law now bytes stands few (Ok _) s = none_told now bytes stands (none_known now.fault s)
-answered law now bytes stands few (Err fault) s = said_known law now bytes now.fault fault stands refl few s
-
 -- a known fault is the text's
 known_fault : (text : List ℕ) (line kind : ℕ) → IsKnown text line kind → HasLpFault text line kind
 known_fault text line kind h = subst (λ (t : List ℕ). HasLpFault t line kind) (append-nil text) (h.of_text [])
@@ -133,17 +117,6 @@ whole_fault bytes HasRead IsSpent NoMemory h = tt
 -- why a text whose fault was known gives none
 pub known_cause : TakenFaultsStay → (now : LpText) (bytes : List ℕ) → HasCome now bytes → has_kind_to 12 now.fault ≡ true → (fault : TextFault LpKind) → IsSaid kind_number (option_map as_told now.fault) (Err fault) → HasLpFault bytes fault.line (kind_number fault.kind)
 known_cause law now bytes stands few fault said = known_fault bytes fault.line (kind_number fault.kind) (said_known law now bytes now.fault fault stands refl few said)
-
--- the fault at the end
-pub end_fault : (text : List ℕ) (f : Option KnownFault) (fault : TextFault LpKind) (value : Program) → outcome_of lp_reading text ≡ outcome_with f value → IsSaid kind_number (option_map as_told f) (Err fault) → HasLpFault text fault.line (kind_number fault.kind)
-end_fault text None fault value e said = absurd (cc said)
-end_fault text (Some known) fault value e said =
-    let same = said_by known fault said in
-    record {
-      number = known.kind;
-      fault = subst (λ (n : ℕ). HasFault lp_reading text n known.kind) (sym same.0) (record { faulty = e });
-      is_kind = sym same.1;
-    }
 
 -- known faults stay
 pub stays : TakenFaultsStay → KnownLpFaultsStay

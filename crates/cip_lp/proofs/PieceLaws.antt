@@ -1,23 +1,18 @@
 -- The first piece of a line, as a pattern cuts the line.
-use Rattle.std.proofs.Common.{◌≡◌, ℕ, zero, suc, ◌-◌, ◌<◌, ◌≤◌, true, false, List, [], ◌∷◌, length, take, drop, get_or, refl, sym, ap, ◌∙◌, arith}
+use Rattle.std.proofs.Common.{◌≡◌, ℕ, ◌-◌, ◌<◌, ◌≤◌, true, false, List, [], ◌∷◌, length, take, drop, get_or, sym, ap, ◌∙◌, arith}
 use Rattle.cip_text_rules.specs.LpWords.{Piece, first_piece, first_rest}
 use Rattle.cip_text_rules.specs.LpTokens.{line_pieces}
 use Rattle.cip_text_rules.specs.Lines.{is_blank}
 use Rattle.cip_text_rules.proofs.LpPieceLaws.{piece_cut, blank_cut}
+use Rattle.cip_text_rules.proofs.LineBytes.{take_all}
 use Rattle.cip_lp.specs.LpPieces.{begins_nothing}
 
 -- what a pattern calls the rest of a line
 abbrev pub rest_of : List ℕ → List ℕ
 rest_of line = take (length line - 1) (drop 1 line)
 
-take_whole : (n : ℕ) (xs : List ℕ) → length xs ≤ n → take n xs ≡ xs
-take_whole zero [] h = refl
-take_whole (suc n) [] h = refl
-take_whole zero (x ∷ xs) h = absurd (omega (arith, h))
-take_whole (suc n) (x ∷ xs) h = ap (λ (ys : List ℕ). x ∷ ys) (take_whole n xs (omega (arith, h)))
-
 same_rest : (byte : ℕ) (behind : List ℕ) → rest_of (byte ∷ behind) ≡ behind
-same_rest byte behind = take_whole (length (byte ∷ behind) - 1) behind (omega arith)
+same_rest byte behind = take_all (length (byte ∷ behind) - 1) behind (omega arith)
 
 -- the pieces of a line that a blank begins are those of its rest
 pub blank_passed : (line whole : List ℕ) → 1 ≤ length line → true ≡ is_blank (get_or line 0 0) → line_pieces line ≡ line_pieces whole → line_pieces (rest_of line) ≡ line_pieces whole

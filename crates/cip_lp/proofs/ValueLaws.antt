@@ -1,8 +1,7 @@
 -- Numbers behind signs.
-use Rattle.std.proofs.Common.{◌≡◌, ◌↔◌, ℕ, ◌<◌, ◌≤◌, Bool, true, false, not, cond, ◌&&◌, List, Option, None, Some, IsTrue, refl, sym, ap, ◌∙◌, rules}
+use Rattle.std.proofs.Common.{◌≡◌, ◌↔◌, ℕ, ◌<◌, ◌≤◌, Bool, true, false, cond, List, Option, None, Some, IsTrue, refl, sym, ap, ◌∙◌}
 use Rattle.std.specs.Prelude.{unwrap_or}
-use Rattle.cip_rational.specs.Rational.{ℚ, zeroℚ, oneℚ, negate, lt_test}
-use Rattle.cip_rational.proofs.Rational.Order.{≤ℚ_antisymm, le_of_lt_test}
+use Rattle.cip_rational.specs.Rational.{ℚ, zeroℚ, oneℚ, negate}
 use Rattle.cip_rational.proofs.Rational.Ring.{negate_negate, negate_zero, one_is_not_zero}
 use Rattle.cip_rational.specs.Numeral.{Numeral, value_of, numeral_of}
 use Rattle.cip_text_rules.specs.MpsWords.{is_zero, is_too_fine, bound_number}
@@ -15,26 +14,12 @@ use Rattle.cip_lp.specs.LpAmounts.{amount_shown}
 use Rattle.cip_lp.specs.declared.numbers.Limit.{Limit as KeptLimit}
 use Rattle.cip_lp.specs.LpLimits.{limit_from}
 use Rattle.cip_lp.specs.LpNumbers.{IsAmount, IsNoAmount, IsLimit, IsTooFine}
+use Rattle.cip_mps_lines.proofs.ValuesRead.{zero_test_is, zero_of_test}
 
 -- ---- 0
 
-zero_of_tests : (value : ℚ) (below above : Bool) → lt_test value zeroℚ ≡ below → lt_test zeroℚ value ≡ above → (not below && not above) ≡ true → value ≡ zeroℚ
-zero_of_tests value false false p q h = ≤ℚ_antisymm (le_of_lt_test q) (le_of_lt_test p)
-zero_of_tests value true above p q h = cc
-zero_of_tests value false true p q h = cc
-
-pub zero_of : (value : ℚ) → is_zero_value value ≡ true → value ≡ zeroℚ
-zero_of value e = zero_of_tests value (lt_test value zeroℚ) (lt_test zeroℚ value) refl refl e
-
-zero_with : (value : ℚ) (answer test : Bool) → is_zero_value value ≡ test → IsTrue answer ↔ (value ≡ zeroℚ) → answer ≡ test
-zero_with value true true e h = refl
-zero_with value false false e h = refl
-zero_with value true false e h = search (rules, zero_is_zero, e, h)
-zero_with value false true e h =
-    let zero = zero_of value e in search (rules, zero, h)
-
 pub zero_is : (value : ℚ) (answer : Bool) → IsTrue answer ↔ (value ≡ zeroℚ) → answer ≡ is_zero_value value
-zero_is value answer h = zero_with value answer (is_zero_value value) refl h
+zero_is value answer h = zero_test_is value answer (is_zero_value value) refl h
 
 -- a number isn't 0
 pub not_zero : (value : ℚ) → ¬ (value ≡ zeroℚ) → is_zero_value value ≡ false
@@ -48,7 +33,7 @@ same_zero : (value : ℚ) (b : Bool) → is_zero_value value ≡ b → is_zero_v
 same_zero value b e = sym (zero_is (negate value) b (to b e, from b e))
   where
     value_is : (b : Bool) → is_zero_value value ≡ b → IsTrue b → value ≡ zeroℚ
-    value_is true e p = zero_of value e
+    value_is true e p = zero_of_test value e
     value_is false e p = absurd (cc)
 
     to : (b : Bool) → is_zero_value value ≡ b → IsTrue b → negate value ≡ zeroℚ

@@ -8,10 +8,11 @@ use Rattle.cip_problem.specs.Log.{root, leaf_count}
 use Rattle.cip_text_rules.specs.MpsOutcome.{mps_reading}
 use Rattle.cip_text_rules.specs.LpOutcome.{lp_reading, told_kind}
 use Rattle.cip_rational.specs.Rational.{ℚ}
-use Rattle.cip_text_rules.specs.LineTexts.{Reading, Outcome, outcome_of, HasResult, HasFault as HasLineFault}
+use Rattle.cip_text_rules.specs.LineTexts.{Reading, Outcome, HasResult, HasFault as HasLineFault}
 use Rattle.cip_text_rules.specs.LineTexts as texts
 use Rattle.cip_text_rules.specs.BlockRules.{block_reading}
 use Rattle.cip_text_rules.specs.PointRules.{point_reading}
+use Rattle.cip_text_rules.proofs.LineOutcomes.{one_result, one_fault}
 use Rattle.cip_main.specs.Models.{is_lp_name, HasProgramAs, HasFaultAs, HasModel, HasModelFault, is_lp_kind, model_kind_number}
 use Rattle.cip_main.specs.ModelKind.{ModelKind}
 use Rattle.cip_main.specs.TextFault.{TextFault}
@@ -42,7 +43,7 @@ use Rattle.cip_main.specs.Running.{Call, HasProgram, HasFault, IsStoreSound, IsS
 use Rattle.cip_main.specs.Saying.{Says}
 use Rattle.cip_main.specs.Work.{IsKitOf}
 use Rattle.cip_input.specs.Tasks.{TaskCause, model_of, model_in, second_of, FailsBehind, HasFaultyModel, HasFaultyBlocks, HasFaultyPoint}
-use Rattle.cip_input.proofs.TasksRead.{told, some_job}
+use Rattle.cip_input.proofs.TasksRead.{told, some_job, no_name}
 use Rattle.cip_main.proofs.Statuses.{says_usage, says_read_fault, says_refused, says_no_memory, plain_below_five, plain_not_one, plain_not_ten, plain_not_eleven, plain_not_thirteen, plain_is, is_breach, is_overflow, figures_not_one, figures_not_two, figures_not_three, figures_not_four, figures_not_five, is_spent, is_near, gap_by_word, is_wide, exit_is, verdict_not_two, verdict_not_three, verdict_not_four, verdict_not_five, verdict_not_six, verdict_not_ten, verdict_not_thirteen, verdict_is}
 
 -- ---- the status of a call
@@ -129,9 +130,6 @@ same_columns h e = cc
 same_rows : {seed columns rows other counts others : ℕ} {job : Option Job} → job ≡ Some (Generate seed columns rows) → job ≡ Some (Generate other counts others) → rows ≡ others
 same_rows h e = cc
 
-no_name : {name : List ℕ} → None ≡ Some name → ⊥
-no_name e = cc
-
 -- a job to solve a program that is drawn names no model
 none_named : {model : List ℕ} {seed columns rows : ℕ} {job : Option Job} → job ≡ Some (Generate seed columns rows) → model_in job ≡ Some model → ⊥
 none_named h e = no_name (sym (ap model_in h) ∙ e)
@@ -148,9 +146,6 @@ seed_source call a e = elim a.source [ inl t ↦ absurd (solve_drawn t.asked e) 
 not_checked : (call : Call) {model name : List ℕ} → (a : IsAnswered call) → call.job ≡ Some (Check model name) → ⊥
 not_checked call a e = elim a.source [ inl t ↦ solve_check t.asked e | inr d ↦ check_drawn e d.asked ]
 
-same_model : {model other : List ℕ} {blocks others : Option (List ℕ)} {limits more : Limits} {job : Option Job} → job ≡ Some (Solve model blocks limits) → job ≡ Some (Solve other others more) → model ≡ other
-same_model h e = cc
-
 same_limits : {model other : List ℕ} {blocks others : Option (List ℕ)} {limits more : Limits} {job : Option Job} → job ≡ Some (Solve model blocks limits) → job ≡ Some (Solve other others more) → limits ≡ more
 same_limits h e = cc
 
@@ -160,18 +155,12 @@ same_blocks h e = cc
 same_name : {name other : List ℕ} → Some name ≡ Some other → name ≡ other
 same_name e = cc
 
-same_checked : {model other name another : List ℕ} {job : Option Job} → job ≡ Some (Check model name) → job ≡ Some (Check other another) → model ≡ other
-same_checked h e = cc
-
 same_point : {model other name another : List ℕ} {job : Option Job} → job ≡ Some (Check model name) → job ≡ Some (Check other another) → name ≡ another
 same_point h e = cc
 
 -- what holds of the text of a name, where it is told, holds of the text
 of_text : (P : List ℕ → Type 0) (text : Option (List ℕ)) (bytes : List ℕ) → IfSome text P → text ≡ Some bytes → P bytes
 of_text P text bytes h e = subst (λ o. IfSome o P) e h
-
-same_value : {X : Type 0} {x y : X} → ◌≡◌ {A = Outcome X} (texts.Means x) (texts.Means y) → x ≡ y
-same_value e = cc
 
 apart : {X : Type 0} {x : X} {l k : ℕ} → ◌≡◌ {A = Outcome X} (texts.Means x) (texts.Faulty l k) → ⊥
 apart e = cc
@@ -182,23 +171,16 @@ same_line_of e = cc
 same_kind_of : {X : Type 0} {l m k n : ℕ} → ◌≡◌ {A = Outcome X} (texts.Faulty l k) (texts.Faulty m n) → k ≡ n
 same_kind_of e = cc
 
-one_value : {K I X : Type 0} (r : Reading K I X) (text : List ℕ) (x y : X) → HasResult r text x → HasResult r text y → x ≡ y
-one_value r text x y h e = same_value (sym h.means ∙ e.means)
-
 no_line_fault : {K I X : Type 0} (r : Reading K I X) (text : List ℕ) (x : X) (line kind : ℕ) → HasResult r text x → HasLineFault r text line kind → ⊥
 no_line_fault r text x line kind h e = apart (sym h.means ∙ e.faulty)
 
 one_program_as : (lp : Bool) (text : List ℕ) (program other : Program) → HasProgramAs lp text program → HasProgramAs lp text other → program ≡ other
-one_program_as true = one_value lp_reading
-one_program_as false = one_value mps_reading
+one_program_as true = one_result lp_reading
+one_program_as false = one_result mps_reading
 
 no_fault_as : (lp : Bool) (text : List ℕ) (program : Program) (line kind : ℕ) → HasProgramAs lp text program → HasFaultAs lp text line kind → ⊥
 no_fault_as true text program line kind h e = no_line_fault lp_reading text program line e.number h e.fault
 no_fault_as false text program line kind h e = no_line_fault mps_reading text program line kind h e
-
--- a text has one first fault
-one_fault : {K I X : Type 0} (r : Reading K I X) (text : List ℕ) (line kind other_line other_kind : ℕ) → HasLineFault r text line kind → HasLineFault r text other_line other_kind → (line ≡ other_line) × (kind ≡ other_kind)
-one_fault r text line kind other_line other_kind h e = let same = sym h.faulty ∙ e.faulty in (same_line_of same, same_kind_of same)
 
 one_fault_as : (lp : Bool) (text : List ℕ) (line kind other_line other_kind : ℕ) → HasFaultAs lp text line kind → HasFaultAs lp text other_line other_kind → (line ≡ other_line) × (kind ≡ other_kind)
 one_fault_as true text line kind other_line other_kind h e =
@@ -418,7 +400,7 @@ check_verdict : (call : Call) (c : IsChecked call) (text point_text : List ℕ) 
 check_verdict call c text point_text program point asks h p =
     let same = one_program call text c.program program (program_checked call text (of_check call text point_text asks) c) h in
     let found : HasResult (point_reading c.program) point_text c.point = of_text (λ bytes. HasResult (point_reading c.program) bytes c.point) _ point_text c.is_point (ap call.store.holds (same_point c.asked asks.job) ∙ asks.point_held) in
-    subst (TellsVerdict call program) (one_value (point_reading program) point_text c.point point (subst (λ q. HasResult (point_reading q) point_text c.point) same found) p)
+    subst (TellsVerdict call program) (one_result (point_reading program) point_text c.point point (subst (λ q. HasResult (point_reading q) point_text c.point) same found) p)
     (subst (λ q. TellsVerdict call q c.point) same c.verdict)
 
 check_always : (call : Call) → Ran call → (text point_text : List ℕ) (program : Program) (point : List ℚ) → AsksToCheck call text point_text → HasProgram call text program → HasResult (point_reading program) point_text point → TellsVerdict call program point ⊎ IsCutShort call

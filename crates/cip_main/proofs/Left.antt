@@ -3,7 +3,6 @@ use Rattle.std.proofs.Common.{◌≡◌, ◌≢◌, inl, inr, ℕ, List, Option,
 use Rattle.std.specs.Prelude.{option_map}
 use Rattle.cip_rational.specs.Rational.{ℚ}
 use Rattle.cip_problem.specs.Program.{Program}
-use Rattle.cip_problem.specs.Points.{printed}
 use Rattle.cip_problem.specs.Log.{Entry}
 use Rattle.cip_search.specs.Searched.{IsLeast, IsOneOf, IsCovered}
 use Rattle.cip_search.specs.SearchEnds as ends
@@ -12,6 +11,7 @@ use Rattle.cip_search.specs.SearchAnswers.{IsSearchAnswer}
 use Rattle.cip_search.specs.Figures.{Infeasible, Unbounded}
 use Rattle.cip_search.specs.Headline.{cost_of_printed}
 use Rattle.cip_search.specs.Printed.{status_of, printed_held, figures_of}
+use Rattle.cip_search.proofs.TrueFigures.{none_before}
 use Rattle.cip_solve.specs.Solved.{IsShownBeside, RayIsShown}
 use Rattle.cip_main.specs.Work.{HasNoRay, HasNoBound, TellsWhatIsLeft}
 
@@ -36,10 +36,6 @@ costs_held program (Some held) h = ap Some h.cost
 points_held : (program : Program) (held : Option Held) → option_map (λ h. h.point) held ≡ option_map (λ h. h.point) (option_map (printed_held program) held)
 points_held program None = refl
 points_held program (Some held) = refl
-
-none_before : (program : Program) (bound : Option ℚ) → option_map (printed program) bound ≡ None → bound ≡ None
-none_before program None e = refl
-none_before program (Some b) e = absurd (cc)
 
 -- where no bound is the least of what is left, something that is left has none
 none_least : (program : Program) (start : Option ℚ) (log : List Entry) (held : Option ℚ) → IsOneOf program start log held None → HasNoBound program start log

@@ -1,26 +1,21 @@
 -- What is left of a search tells the bound, and whether there is a point.
-use Rattle.std.proofs.Common.{◌≡◌, inl, inr, ℕ, List, [], ◌∷◌, Option, None, Some, refl, sym, ap, ◌∙◌, subst}
+use Rattle.std.proofs.Common.{◌≡◌, inl, inr, ℕ, List, [], ◌∷◌, Option, None, Some, sym, ap, ◌∙◌, subst}
 use Rattle.std.specs.Prelude.{option_map}
 use Rattle.std.specs.List.{Contains}
 use Rattle.cip_rational.specs.Rational.{ℚ}
-use Rattle.cip_rational.proofs.Rational.Order.{≤ℚ_antisymm}
 use Rattle.cip_problem.specs.Program.{Program}
 use Rattle.cip_problem.specs.Points.{printed}
 use Rattle.cip_problem.specs.Log.{Closed, Parked, Entry, Node, node_of}
-use Rattle.cip_search.specs.Searched.{NoMore, first_node, nodes_given, IsLeast, IsCovered, IsInOpen, IsInParked}
-use Rattle.cip_search.proofs.Members.{none_in}
-use Rattle.cip_search.proofs.OneMore.{contains_here, contains_cons, node_of_among}
+use Rattle.cip_problem.proofs.Log.Entering.{contains_here, contains_cons}
+use Rattle.cip_problem.proofs.Covers.{none_of_nothing}
+use Rattle.cip_search.specs.Searched.{first_node, nodes_given, IsLeast, IsCovered, IsInOpen, IsInParked}
+use Rattle.cip_search.proofs.OneMore.{node_of_among}
 use Rattle.cip_search.specs.Headline.{cost_of_printed}
 use Rattle.cip_main.specs.Statements.{BoundsAreTold, root_closed, PointsAreTold}
-
-both_ways : (b c : Option ℚ) → NoMore b c → NoMore c b → b ≡ c
-both_ways None None h k = refl
-both_ways None (Some c) h k = absurd k
-both_ways (Some b) None h k = absurd h
-both_ways (Some b) (Some c) h k = ap Some (≤ℚ_antisymm h k)
+use Rattle.cip_solve.proofs.LeastBounds.{no_more_both}
 
 one_least : (program : Program) (start : Option ℚ) (log : List Entry) (held b c : Option ℚ) → IsLeast program start log held b → IsLeast program start log held c → b ≡ c
-one_least program start log held b c l k = both_ways b c (l.least c k.one) (k.least b l.one)
+one_least program start log held b c l k = no_more_both b c (l.least c k.one) (k.least b l.one)
 
 pub bounds_are_told : BoundsAreTold
 bounds_are_told program start log figures other a b e n m =
@@ -36,7 +31,7 @@ only_root program start bound number node e =
     let among = node_of_among (first_node program start ∷ []) number node e in
     elim (contains_cons (first_node program start) node [] among.0) [
       | inl same ↦ sym among.1 ∙ sym (ap (λ (n : Node). n.number) same)
-      | inr more ↦ absurd (none_in node more)
+      | inr more ↦ absurd (none_of_nothing node more)
     ]
 
 none_open : (program : Program) (start bound : Option ℚ) (point : List ℚ) → ¬ IsInOpen program start (root_closed bound) point
@@ -46,7 +41,7 @@ none_open program start bound point o =
 not_parked : (bound : Option ℚ) (entry : Entry) → Contains (root_closed bound) entry → entry.end ≡ Parked → ⊥
 not_parked bound entry c p = elim (contains_cons _ entry [] c) [
   | inl same ↦ apart (ap (λ (e : Entry). e.end) same ∙ p)
-  | inr more ↦ absurd (none_in entry more)
+  | inr more ↦ absurd (none_of_nothing entry more)
 ]
   where
     apart : Closed ≡ Parked → ⊥

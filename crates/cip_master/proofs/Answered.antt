@@ -1,10 +1,9 @@
 -- What an end of the simplex method on the master program comes to.
-use Rattle.std.proofs.Common.{◌≡◌, ℕ, zero, suc, ◌-◌, ◌≤◌, true, List, [], ◌∷◌, length, map, take, drop, replicate, Result, Ok, Err, IfOk, refl, sym, ap, ap₂, ◌∙◌, subst, arith}
+use Rattle.std.proofs.Common.{◌≡◌, ℕ, ◌-◌, ◌≤◌, true, List, [], length, map, take, drop, replicate, Result, Ok, Err, IfOk, refl, sym, ap, ap₂, ◌∙◌, subst, arith}
 use Rattle.std.proofs.lemmas.List.{length-map}
 use Rattle.cip_rational.specs.Rational.{ℚ, ◌+ℚ◌, zeroℚ, ◌<ℚ◌}
 use Rattle.cip_rational.specs.Range.{sum_overflows}
 use Rattle.cip_rational.specs.Sums.{dot}
-use Rattle.cip_rational.proofs.Rational.Ring.{zero-+ℚ, zero-*ℚ}
 use Rattle.cip_problem.proofs.Points.AtPlaces.{IsInBox-long}
 use Rattle.cip_problem.specs.WellFormed.{columns}
 use Rattle.cip_problem.specs.LinearProgram.{LinearProgram}
@@ -12,6 +11,7 @@ use Rattle.cip_bland.specs.EndAnswers as list
 use Rattle.cip_bland.specs.EndAnswers.{Answer, answer}
 use Rattle.cip_bland.specs.Statements.{IsRight}
 use Rattle.cip_bland.specs.ProgramState.{first_of_program}
+use Rattle.cip_bland.proofs.Emptiness.{dot-replicate}
 use Rattle.cip_lin.specs.declared.combos.Combo.{Combo}
 use Rattle.cip_simplex.specs.LpAnswers.{IsAnswer}
 use Rattle.cip_simplex.specs.Reached.{IsOptimumBy, IsEmptyBy}
@@ -159,12 +159,6 @@ ids_fit task master point combo cost m o =
 
 -- ---- that there is no point
 
-dot-zeros : (n : ℕ) (xs : List ℚ) → dot (replicate n zeroℚ) xs ≡ zeroℚ
-dot-zeros zero xs = refl
-dot-zeros (suc n) [] = refl
-dot-zeros (suc n) (x ∷ xs) =
-    ap₂ (λ a b. a +ℚ b) (zero-*ℚ x) (dot-zeros n xs) ∙ zero-+ℚ zeroℚ
-
 pub is_farkas : (task : Task) (sum start : ℚ) (shown : Shown) (first : List ℚ) → zeroℚ <ℚ sum → start ≡ zeroℚ
     → first ≡ replicate (columns task.program) zeroℚ → ShowsFrom task first start shown sum
     → IsFarkas task shown
@@ -173,5 +167,5 @@ is_farkas task sum start shown first p g h s = record {
   positive = p;
   shows =
       subst (λ q. IsShown task [] shown q sum) g
-      (s [] (λ xs. ap (λ cs. dot cs xs) h ∙ dot-zeros (columns task.program) xs));
+      (s [] (λ xs. ap (λ cs. dot cs xs) h ∙ dot-replicate (columns task.program) xs));
 }

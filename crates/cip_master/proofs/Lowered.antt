@@ -1,5 +1,5 @@
 -- Prices that are lowered to what is left of the costs at held points.
-use Rattle.std.proofs.Common.{◌≡◌, ℕ, ◌<◌, ◌==◌, Bool, true, false, cond, List, [], ◌∷◌, length, map, Some, Result, Ok, Err, IfOk, refl, sym, ap, ◌∙◌, subst}
+use Rattle.std.proofs.Common.{◌≡◌, ℕ, ◌<◌, ◌==◌, Bool, true, false, cond, List, [], ◌∷◌, length, map, Some, Ok, IfOk, refl, sym, ap, ◌∙◌, subst}
 use Rattle.std.specs.List.{AllByRecursion, filter}
 use Rattle.std.proofs.lemmas.Bool.{eqb-true, eqb-false}
 use Rattle.std.proofs.lemmas.List.{length-set, get_or-set_same, get_or-set_other}
@@ -10,7 +10,6 @@ use Rattle.cip_rational.specs.Sums.{dot}
 use Rattle.cip_rational.proofs.Rational.Order.{≤ℚ_refl, ≤ℚ_of_eq, ≤ℚ_trans}
 use Rattle.cip_rational.proofs.Rational.Extremes.{minimum_le}
 use Rattle.cip_rational.proofs.Rational.Ring.{+ℚ-zero, zero-+ℚ, +ℚ_assoc}
-use Rattle.cip_frac.specs.declared.operations.Wide.{Wide as Overflow}
 use Rattle.cip_frac.specs.Outcomes.{sum_outcome, dot_from}
 use Rattle.cip_frac.proofs.Outcomes.{dot_from-value}
 use Rattle.cip_problem.specs.Program.{Sides, Program}
@@ -22,28 +21,21 @@ use Rattle.cip_columns.specs.PoolPoints.{PoolPoint, held_of}
 use Rattle.cip_lagrange.specs.declared.parts.Decomposed.{Decomposed}
 use Rattle.cip_lagrange.specs.Decompositions.{owners_in}
 use Rattle.cip_lagrange.specs.LagrangeOutcomes.{chain, in_range}
-use Rattle.cip_lagrange.proofs.Multiplied.{ok_chain, ok_weaker}
+use Rattle.cip_lagrange.proofs.Multiplied.{ok_chain, ok_weaker, in_range_value}
+use Rattle.cip_lagrange.proofs.BlocksAdded.{sum_cases}
 use Rattle.cip_master.specs.KeptMasters.{is_held_in, held_in}
 use Rattle.cip_master.specs.ShownSums.{rest_at, lowered_to, lowered_by, lowered, prices_added}
 
 -- ---- operations
 
-range_value : (q : ℚ) (r : Result ℚ Overflow) → IfOk r (λ v. v ≡ q) → IfOk (in_range r) (λ v. v ≡ q)
-range_value q (Ok v) h = h
-range_value q (Err overflow) h = tt
-
-sum_cases : (t : Bool) (o : Overflow) (v : ℚ) → IfOk (cond t (Err o) (Ok v)) (λ w. w ≡ v)
-sum_cases true o v = tt
-sum_cases false o v = refl
-
 sum_value : (a b : ℚ) → IfOk (in_range (sum_outcome a b)) (λ v. v ≡ a +ℚ b)
-sum_value a b = range_value (a +ℚ b) (sum_outcome a b) (sum_cases (sum_overflows a b) _ (a +ℚ b))
+sum_value a b = in_range_value (a +ℚ b) (sum_outcome a b) (sum_cases (sum_overflows a b) _ (a +ℚ b))
 
 rest_value : (kept : Decomposed) (rests : List ℚ) (held : PoolPoint) → IfOk (rest_at kept rests held)
     (λ v. v ≡ dot (picked (Some held.block) kept.column_owners.items rests) held.point)
 rest_value kept rests held =
     let us : List ℚ = picked (Some held.block) kept.column_owners.items rests in
-    range_value (dot us held.point) (dot_from zeroℚ us held.point)
+    in_range_value (dot us held.point) (dot_from zeroℚ us held.point)
     (subst (λ q. IfOk (dot_from zeroℚ us held.point) (λ v. v ≡ q)) (zero-+ℚ (dot us held.point))
     (dot_from-value zeroℚ us held.point))
 

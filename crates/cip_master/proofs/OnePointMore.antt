@@ -2,8 +2,9 @@
 use Rattle.std.proofs.Common.{◌≡◌, ℕ, zero, suc, ◌+◌, ◌<◌, ◌≤◌, ◌^◌, Bool, true, false, cond, List, [], ◌∷◌, ◌++◌, length, map, take, get_or, None, Some, Result, Ok, IfOk, refl, sym, ap, ap₂, ◌∙◌, subst, arith}
 use Rattle.std.specs.Prelude.{slice_index_or, slice_set, All}
 use Rattle.std.specs.List.{AllZip, filter, Contains}
-use Rattle.std.proofs.lemmas.List.{map_push, append_assoc, append-nil, length-append, length-map, length-set, length-take-le, length_push, take_more}
-use Rattle.std.proofs.lemmas.List.Elements.{recursion_from_All, All-from_recursion, All-set, filter-append}
+use Rattle.std.proofs.lemmas.List.{map_push, append_assoc, length-append, length-map, length-set, length-take-le, length_push, take_more}
+use Rattle.std.proofs.lemmas.List.Elements.{recursion_from_All, All-from_recursion, All-set}
+use Rattle.std.proofs.lemmas.Slice.Zip.{AllZip-long}
 use Rattle.cip_rational.specs.Rational.{ℚ, oneℚ}
 use Rattle.cip_rational.specs.Sums.{dot}
 use Rattle.cip_frac.specs.declared.operations.Wide.{Wide}
@@ -160,45 +161,13 @@ pub puts_point : (program : Program) (kept : Decomposed) (held : PoolPoint) (cos
 puts_point program kept held cost before after well made block put = λ box points wide m.
     put_master program kept held cost before after well made block put box points wide m
 
--- ---- points of a list, one after another
-
-pub filter_push : (p : PoolPoint → Bool) (points : List PoolPoint) (held : PoolPoint) (t : Bool) → p held ≡ t
-    → filter p (points ++ held ∷ []) ≡ cond t (filter p points ++ held ∷ []) (filter p points)
-filter_push p points held true e =
-    filter-append p points (held ∷ []) ∙ ap (λ b. filter p points ++ cond b (held ∷ []) []) e
-filter_push p points held false e =
-    filter-append p points (held ∷ []) ∙ ap (λ b. filter p points ++ cond b (held ∷ []) []) e
-    ∙ append-nil (filter p points)
-
-pub taken_inside : (program : Program) (kept : Decomposed) (box : List Sides) (held : PoolPoint)
-    (before after : MasterProgram) → length box ≡ length kept.column_owners.items
-    → is_held_in kept.column_owners.items box held ≡ true → PutsPoint program kept held before after
-    → TakesPoint program kept box held before after
-taken_inside program kept box held before after wide e put = λ points m.
-    subst (λ (ps : List PoolPoint). IsMasterOf program kept box ps after)
-    (sym (filter_push (is_held_in kept.column_owners.items box) points held true e))
-    (put box (held_in kept.column_owners.items box points) wide m)
-
-pub taken_outside : (program : Program) (kept : Decomposed) (box : List Sides) (held : PoolPoint)
-    (master : MasterProgram) → is_held_in kept.column_owners.items box held ≡ false
-    → TakesPoint program kept box held master master
-taken_outside program kept box held master e = λ points m.
-    subst (λ (ps : List PoolPoint). IsMasterOf program kept box ps master)
-    (sym (filter_push (is_held_in kept.column_owners.items box) points held false e)) m
-
 -- ---- sizes
-
-zip_long : {A B : Type 0} (R : A → B → Type 0) (xs : List A) (ys : List B) → AllZip R xs ys → length ys ≡ length xs
-zip_long R [] [] h = refl
-zip_long R [] (y ∷ ys) h = absurd h
-zip_long R (x ∷ xs) [] h = absurd h
-zip_long R (x ∷ xs) (y ∷ ys) h = ap suc (zip_long R xs ys h.1)
 
 pub masters_long : (program : Program) (kept : Decomposed) (box : List Sides) (points : List PoolPoint)
     (master : MasterProgram) → IsDecompositionOf program kept → IsMasterOf program kept box points master
     → length master.masters.items ≡ length kept.blocks.master_rows
 masters_long program kept box points master made m =
-    zip_long (IsMasterRow (length kept.column_owners.items) kept.column_owners.items (map held_of points))
+    AllZip-long (IsMasterRow (length kept.column_owners.items) kept.column_owners.items (map held_of points))
     (master_rows program (owners_in kept)) master.masters.items m.masters
     ∙ ap length (sym (rows_at program kept made))
     ∙ length-map kept.blocks.master_rows (row_of program.rows)

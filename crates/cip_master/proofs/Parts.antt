@@ -1,22 +1,15 @@
 -- What a decomposition keeps of a block can be asked of, and gives the block's verdict.
-use Rattle.std.proofs.Common.{◌≡◌, ℕ, ◌<◌, ◌≤◌, List, [], ◌∷◌, length, Some, sym, ap, ◌∙◌, subst, arith, slice_get}
-use Rattle.std.specs.Prelude.{slice_index_or}
+use Rattle.std.proofs.Common.{◌≡◌, ℕ, ◌≤◌, List, length, Some, sym, ap, ◌∙◌, subst, arith, slice_get}
 use Rattle.std.proofs.lemmas.List.{length-map}
-use Rattle.std.proofs.lemmas.List.Elements.{All-append}
 use Rattle.cip_rational.specs.Rational.{ℚ}
 use Rattle.cip_problem.specs.Program.{Sides, Row, Program}
 use Rattle.cip_problem.specs.Limits.{most_rows, most_columns}
 use Rattle.cip_problem.specs.WellFormed.{columns, IsWellFormed}
-use Rattle.cip_pricing.specs.Decomposition.{Conditions, conditions_of, picked, renumbered, IsBlockPoint}
+use Rattle.cip_pricing.specs.Decomposition.{Conditions, conditions_of, picked, renumbered}
 use Rattle.cip_pricing.proofs.Picked.{length_picked}
-use Rattle.cip_columns.specs.PoolPoints.{PoolPoint}
-use Rattle.cip_columns.specs.ColumnPools.{IsAdded}
-use Rattle.cip_columns.specs.declared.pools.Added.{Added}
-use Rattle.cip_columns.specs.declared.pools.Added.TheVariants.{New, Known, Full}
 use Rattle.cip_lagrange.specs.declared.parts.Subproblem.{Subproblem}
 use Rattle.cip_lagrange.specs.declared.parts.Decomposed.{Decomposed}
 use Rattle.cip_lagrange.specs.Decompositions.{owners_in, IsSubproblem, IsDecompositionOf}
-use Rattle.cip_master.specs.KeptMasters.{ArePoolPoints}
 use Rattle.cip_master.proofs.OnePointMore.{picked_few}
 use Rattle.cip_master.specs.declared.verdicts.PointVerdict.{PointVerdict}
 use Rattle.cip_master.specs.BlockVerdicts.{verdict_on, block_verdict, BlockVerdictSays}
@@ -82,31 +75,3 @@ block_says program kept block point verdict well e =
     (well.integral ∙ sym well.bounds)))
 
 -- ---- pools
-
-abbrev IsItsPoint : Program → Decomposed → PoolPoint → Type 0
-IsItsPoint program kept held =
-    (held.block < length kept.subproblems.items)
-    × IsBlockPoint program (owners_in kept) program.bounds held.block held.point
-
--- each point of a pool is one of its block after a point of a block was added
-pub points_after : (program : Program) (kept : Decomposed) (block : ℕ) (values : List ℚ)
-    (before after : List PoolPoint) (added : Added) → block < length kept.subproblems.items
-    → IsBlockPoint program (owners_in kept) program.bounds block values → ArePoolPoints program kept before
-    → IsAdded before block values after added → ArePoolPoints program kept after
-points_after program kept block values before after (New id) l is_point h a =
-    subst (ArePoolPoints program kept) (sym a.3)
-    (All-append (IsItsPoint program kept) before
-    (record { id = length before; block = block; point = values } ∷ []) h
-    (λ k d inside. single k d inside))
-  where
-    one : PoolPoint
-    one = record { id = length before; block = block; point = values }
-
-    single : (k : ℕ) (d : PoolPoint) → k < length (one ∷ []) → IsItsPoint program kept (slice_index_or (one ∷ []) k d)
-    single k d inside =
-        let e : 0 ≡ k = omega (arith, inside) in
-        subst (λ n. IsItsPoint program kept (slice_index_or (one ∷ []) n d)) e (l, is_point)
-points_after program kept block values before after (Known id) l is_point h a =
-    subst (ArePoolPoints program kept) (sym a.1) h
-points_after program kept block values before after Full l is_point h a =
-    subst (ArePoolPoints program kept) (sym a.2) h

@@ -1,37 +1,28 @@
 -- The verdict on a point of a block holds.
 use Rattle.std.proofs.Common.{◌≡◌, ℕ, zero, suc, ◌+◌, ◌<◌, ◌==◌, Bool, true, false, cond, not, ◌&&◌, List, [], ◌∷◌, Option, None, Some, Result, Ok, Err, length, slice_get, refl, sym, ◌∙◌, subst, arith, true≢false}
 use Rattle.std.specs.List.{AllByRecursion}
-use Rattle.std.proofs.lemmas.Bool.{and_parts, and_from, eqb-true, eqb-false}
+use Rattle.std.proofs.lemmas.Bool.{eqb-true, eqb-false}
 use Rattle.cip_rational.specs.Rational.{ℚ, zeroℚ, IsWhole, is_whole}
-use Rattle.cip_rational.proofs.Rational.Whole.{IsWhole_of_test, test_of_IsWhole}
+use Rattle.cip_rational.proofs.Rational.Whole.{IsWhole_of_test}
 use Rattle.cip_frac.specs.declared.operations.Wide.{Wide as Overflow}
 use Rattle.cip_problem.specs.Program.{Sides, Row, Choice}
 use Rattle.cip_problem.specs.Activity.{activity, value_at}
 use Rattle.cip_problem.specs.Box.{Between, IsInBox, sides_at, is_between}
-use Rattle.cip_problem.proofs.Box.SideTests.{between_of_test, test_of_between, not_between_of_test}
+use Rattle.cip_problem.proofs.Box.SideTests.{between_of_test, not_between_of_test}
 use Rattle.cip_problem.specs.Choices.{choice_at, Allows, KeepsChoices}
 use Rattle.cip_problem.specs.Points.{IsSatisfied, AreWhole}
-use Rattle.cip_lin.specs.ChoiceParts.{is_allowed}
-use Rattle.cip_lin.proofs.AllowedValues.{allowed_says, allowed_from, zero_allowed}
+use Rattle.cip_problem.proofs.Choices.Decided.{zero_allowed}
 use Rattle.cip_lin.specs.RowSums.{activity_from}
 use Rattle.cip_lin.proofs.RowSums.ActivityValue.{activity_from-zero}
 use Rattle.cip_model.specs.Verdicts.{is_kept, first_outside, first_not_whole}
 use Rattle.cip_model.specs.Meaning.{IsKept, IsBroken, RowOverflows}
+use Rattle.cip_model.proofs.Meaning.Point.{not_kept_says, kept_says, not_IsWhole_of_test, later_broken, later_overflows}
 use Rattle.cip_pricing.specs.Decomposition.{Conditions}
 use Rattle.cip_master.specs.declared.verdicts.PointVerdict.{PointVerdict}
 use Rattle.cip_master.specs.declared.verdicts.PointVerdict.TheVariants.{Good, WrongCount, BreaksBound, BreaksWhole, BreaksRow, Wide}
 use Rattle.cip_master.specs.BlockVerdicts.{row_fault, or_else, first_faulty, from_rows, from_wholes, from_bounds, verdict_of, verdict_on, VerdictSays}
 
 -- ---- bounds and choices
-
-kept_says : (sides : Sides) (choice : Choice) (value : ℚ) → is_kept sides choice value ≡ true → IsKept sides choice value
-kept_says sides choice value e =
-    let parts = and_parts (is_between sides.low sides.high value) (is_allowed choice value) e in
-    record { between = between_of_test sides.low sides.high value parts.0; allowed = allowed_says choice value parts.1 }
-
-not_kept_says : (sides : Sides) (choice : Choice) (value : ℚ) → is_kept sides choice value ≡ false → ¬ IsKept sides choice value
-not_kept_says sides choice value e h =
-    true≢false (sym (and_from (is_between sides.low sides.high value) (is_allowed choice value) (test_of_between sides.low sides.high value h.between) (allowed_from choice value h.allowed)) ∙ e)
 
 -- a place, counted from `at`, whose value is outside its sides or isn't allowed
 record OutsideFrom (at : ℕ) (box : List Sides) (choices : List Choice) (point : List ℚ) (column : ℕ) : Type 0 where
@@ -81,9 +72,6 @@ abbrev FirstFractionalSays : ℕ → List Bool → List ℚ → Option ℕ → T
 FirstFractionalSays at integral point None = AreWhole integral point
 FirstFractionalSays at integral point (Some column) = FractionalFrom at integral point column
 
-not_IsWhole_of_test : (v : ℚ) → is_whole v ≡ false → ¬ IsWhole v
-not_IsWhole_of_test v e h = true≢false (sym (test_of_IsWhole v h) ∙ e)
-
 wholes_cons : (at : ℕ) (w : Bool) (integral : List Bool) (v : ℚ) (point : List ℚ) (rest : Option ℕ) (t : Bool) → is_whole v ≡ t → FirstFractionalSays (at + 1) integral point rest → FirstFractionalSays at (w ∷ integral) (v ∷ point) (cond (w && not t) (Some at) rest)
 wholes_cons at false integral v point None t e h = (λ f. absurd (true≢false (sym f)), h)
 wholes_cons at false integral v point (Some column) t e h = record { place = suc h.place; is = omega (arith, h.is); integral_there = h.integral_there; not_whole = h.not_whole }
@@ -113,12 +101,6 @@ RowVerdictSays at rows point (Wide number) = (place : ℕ) × (number ≡ at + p
 abbrev FirstBrokenSays : ℕ → List Row → List ℚ → Option PointVerdict → Type 0
 FirstBrokenSays at rows point None = AllByRecursion (λ row. IsSatisfied row point) rows
 FirstBrokenSays at rows point (Some verdict) = RowVerdictSays at rows point verdict
-
-later_broken : {row : Row} {rows : List Row} {point : List ℚ} {number : ℕ} {value : ℚ} → IsBroken rows point number value → IsBroken (row ∷ rows) point (suc number) value
-later_broken h = record { row = h.row; is_row = h.is_row; is_activity = h.is_activity; broken = h.broken }
-
-later_overflows : {row : Row} {rows : List Row} {point : List ℚ} {number : ℕ} → RowOverflows rows point number → RowOverflows (row ∷ rows) point (suc number)
-later_overflows h = record { row = h.row; is_row = h.is_row; overflows = h.overflows }
 
 later_say : (at : ℕ) (row : Row) (rows : List Row) (point : List ℚ) (verdict : PointVerdict) → RowVerdictSays (at + 1) rows point verdict → RowVerdictSays at (row ∷ rows) point verdict
 later_say at row rows point Good h = h

@@ -3,9 +3,9 @@ use Rattle.std.proofs.Common.{◌≡◌, ℕ, ◌<◌, List, [], ◌∷◌, leng
 use Rattle.std.specs.Prelude.{slice_index_or, MatchResult}
 use Rattle.std.specs.List.{AllByRecursion}
 use Rattle.std.proofs.lemmas.List.Elements.{recursion_from_All}
-use Rattle.cip_rational.specs.Rational.{ℚ, ◌+ℚ◌, ◌-ℚ◌, zeroℚ, ◌≤ℚ◌}
+use Rattle.cip_rational.specs.Rational.{ℚ, ◌+ℚ◌, ◌-ℚ◌, zeroℚ}
 use Rattle.cip_rational.specs.Sums.{dot}
-use Rattle.cip_rational.proofs.Linear.{linear_le, linear_same}
+use Rattle.cip_rational.proofs.Linear.{linear_same}
 use Rattle.cip_problem.specs.Program.{Row}
 use Rattle.cip_problem.specs.Activity.{value_at}
 use Rattle.cip_problem.specs.Box.{sides_at, no_sides}
@@ -16,22 +16,20 @@ use Rattle.cip_pricing.specs.Decomposition.{Decomposition, picked, master_rows}
 use Rattle.cip_pricing.specs.Mixtures.{total}
 use Rattle.cip_pricing.specs.LeastCosts.{side_total, row_total, AreRests, sum_below, price_total, ShowsLeast}
 use Rattle.cip_pricing.proofs.Picked.{length_picked}
+use Rattle.cip_pricing.proofs.Multiplied.{sum_total}
+use Rattle.cip_pricing.proofs.Shown.{free_part}
 use Rattle.cip_columns.specs.PoolPoints.{PoolPoint}
 use Rattle.cip_lagrange.specs.Decompositions.{owners_in}
 use Rattle.cip_lagrange.proofs.Numbered.{found_all}
 use Rattle.cip_lagrange.specs.declared.answers.LagrangeFault.{LagrangeFault}
 use Rattle.cip_lagrange.specs.LagrangeOutcomes.{chain, Reduced, multipliers_used, free_added}
-use Rattle.cip_lagrange.proofs.BlocksAdded.{sum_total}
-use Rattle.cip_lagrange.proofs.Multiplied.{ok_chain, AreUsed, multipliers_mean, IsLeast, free_mean}
+use Rattle.cip_lagrange.proofs.Multiplied.{ok_chain, AreUsed, multipliers_mean, IsLeast, free_mean, ok_weaker}
 use Rattle.cip_lagrange.proofs.Shown.{rows_stand}
 use Rattle.cip_master.proofs.Numbers.{rows_at, free_inside, free_found}
 use Rattle.cip_master.specs.declared.tasks.Shown.{Shown}
 use Rattle.cip_master.specs.MasterTasks.{Task, IsTask, held_by}
 use Rattle.cip_master.specs.ShownSums.{lowered, prices_added, Worked, reduced_by, priced_out, worked_out, IsShown, ShowsFrom}
 use Rattle.cip_master.proofs.Lowered.{AllLowered, points_lowered, are_prices, prices_sum}
-
-free_part : (sides free rest prices : ℚ) → free ≤ℚ rest → (sides +ℚ free) +ℚ prices ≤ℚ (sides +ℚ rest) +ℚ prices
-free_part sides free rest prices h = linear_le (sides ∷ free ∷ rest ∷ prices ∷ []) (λ s w. omega (arith, s.le_out))
 
 added_up : (start sides free prices before after : ℚ) → before ≡ (start +ℚ sides) +ℚ free → after ≡ before +ℚ prices
     → after ≡ start +ℚ ((sides +ℚ free) +ℚ prices)
@@ -173,10 +171,6 @@ answered : (P : Worked → Type 0) (result : Result ℚ LagrangeFault) (outcome 
 answered P (Ok sum) outcome w e h = subst (λ (o : Result Worked LagrangeFault). IfOk o P) e h
 answered P (Err fault) outcome w e h = tt
 
-if_ok : {A : Type 0} (P Q : A → Type 0) (r : Result A LagrangeFault) → ((a : A) → P a → Q a) → IfOk r P → IfOk r Q
-if_ok P Q (Ok a) f h = f a h
-if_ok P Q (Err fault) f h = tt
-
 ok_all : {A : Type 0} {I : Type 0} (C : I → Type 0) (P : (i : I) → C i → A → Type 0) (r : Result A LagrangeFault)
     → ((i : I) (c : C i) → IfOk r (P i c)) → IfOk r (λ a. (i : I) (c : C i) → P i c a)
 ok_all C P (Ok a) h = h
@@ -196,7 +190,7 @@ shows_from task start first prices shown result well ok long many each steps =
     ok_all {A = ℚ} {I = List ℚ} (λ costs. (point : List ℚ) → dot first point ≡ dot costs point)
     (λ costs same sum. IsShown task costs shown start sum) result
     (λ costs same.
-    if_ok
+    ok_weaker
     (λ sum. IsWorked task start costs shown.multipliers.items
     (record { rests = shown.rests.items; prices = shown.prices.items; sum = sum }))
     (λ sum. IsShown task costs shown start sum) result

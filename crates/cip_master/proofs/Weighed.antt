@@ -1,9 +1,9 @@
 -- One more weight in the rows of the master program.
-use Rattle.std.proofs.Common.{◌≡◌, ℕ, zero, suc, ◌+◌, ◌<◌, ◌≤◌, ◌==◌, ◌||◌, Bool, true, false, cond, List, [], ◌∷◌, ◌++◌, length, map, drop, get_or, replicate, None, Some, Result, Ok, Err, IfOk, refl, sym, ap, ap₂, ◌∙◌, subst, arith, add-one, true≢false}
+use Rattle.std.proofs.Common.{◌≡◌, ℕ, zero, suc, ◌+◌, ◌<◌, ◌≤◌, ◌==◌, ◌||◌, Bool, true, false, cond, List, [], ◌∷◌, ◌++◌, length, map, replicate, None, Some, Result, Ok, Err, IfOk, refl, sym, ap, ap₂, ◌∙◌, subst, arith, add-one}
 use Rattle.std.specs.Prelude.{slice_index_or, slice_set}
 use Rattle.std.specs.List.{AllZip, AllByRecursion}
-use Rattle.std.proofs.lemmas.Bool.{ne_eqb, eq-eqb}
-use Rattle.std.proofs.lemmas.List.{drop_more, drop_all, map_push, append_assoc, length-append, length-map, length-replicate, length_push, get_or_at, set_at}
+use Rattle.std.proofs.lemmas.Bool.{ne_eqb, eq-eqb, or_parts}
+use Rattle.std.proofs.lemmas.List.{map_push, append_assoc, length-append, length-map, length-replicate, length_push, get_or_at, set_at}
 use Rattle.std.proofs.lemmas.List.Elements.{All-push}
 use Rattle.cip_rational.specs.Rational.{ℚ, ◌+ℚ◌, ◌*ℚ◌, zeroℚ, oneℚ, lt_test}
 use Rattle.cip_rational.specs.Sums.{dot}
@@ -48,15 +48,11 @@ put_value false column q own point f =
     sym (ap (λ s. activity own.terms point +ℚ s *ℚ value_at point column) (f refl)
     ∙ ap (λ s. activity own.terms point +ℚ s) (zero-*ℚ (value_at point column)) ∙ +ℚ-zero (activity own.terms point))
 
-neither : (s t : Bool) → (s || t) ≡ false → (s ≡ false) × (t ≡ false)
-neither true t e = absurd (true≢false e)
-neither false t e = (refl, e)
-
 pub weight_value : (column : ℕ) (q : ℚ) (own : Row) (point : List ℚ)
     → activity (with_weight column q own).terms point ≡ activity own.terms point +ℚ q *ℚ value_at point column
 weight_value column q own point =
     put_value (lt_test zeroℚ q || lt_test q zeroℚ) column q own point
-    (λ e. let k = neither (lt_test zeroℚ q) (lt_test q zeroℚ) e in
+    (λ e. let k = or_parts (lt_test zeroℚ q) (lt_test q zeroℚ) e in
     ≤ℚ_antisymm (le_of_lt_test k.0) (le_of_lt_test k.1))
 
 put_low : (t : Bool) (ts : List Term) (own : Row) → (cond t (record own { terms = ts }) own).low ≡ own.low
@@ -215,38 +211,6 @@ module _ (n : ℕ) (owners : List Owner) (points : List Held) (h : Held) (column
       (λ all w.
       subst (AreWeighed n owners (points ++ h ∷ []) column rows numbers) (sym w.is) w.are)
       (weighed_to numbers [] owns z s)
-
--- the rows from one on are that one and those behind it
-pub weighted_opened : (coefficient : List Term → Result ℚ Wide) (column : ℕ) (rows : List Row) (at : ℕ)
-    (numbers : List ℕ) (owns : List Row) → at < length numbers
-    → weighted coefficient column rows at (drop at numbers) owns
-    ≡ rows_then (coefficient (slice_index_or rows (get_or numbers at 0) no_row).terms)
-    (λ q. weighted coefficient column rows (at + 1) (drop (at + 1) numbers)
-    (slice_set owns at (with_weight column q (slice_index_or owns at no_row))))
-weighted_opened coefficient column rows at numbers owns l =
-    ap (λ ns. weighted coefficient column rows at ns owns) (drop_more numbers at 0 l)
-    ∙ ap (λ n. rows_then (coefficient (slice_index_or rows (get_or numbers at 0) no_row).terms)
-    (λ q. weighted coefficient column rows n (drop (at + 1) numbers)
-    (slice_set owns at (with_weight column q (slice_index_or owns at no_row))))) (sym (add-one at))
-
--- a step of the loop over them
-pub weighted_next : (coefficient : List Term → Result ℚ Wide) (column : ℕ) (rows : List Row) (at : ℕ)
-    (numbers : List ℕ) (owns new : List Row) (q : ℚ) (total : Result (List Row) Wide) → at < length numbers
-    → Ok q ≡ coefficient (slice_index_or rows (get_or numbers at 0) no_row).terms
-    → new ≡ slice_set owns at (with_weight column q (slice_index_or owns at no_row))
-    → weighted coefficient column rows at (drop at numbers) owns ≡ total
-    → weighted coefficient column rows (at + 1) (drop (at + 1) numbers) new ≡ total
-weighted_next coefficient column rows at numbers owns new q total l c e h =
-    ap (weighted coefficient column rows (at + 1) (drop (at + 1) numbers)) e
-    ∙ ap (λ o. rows_then o (λ p. weighted coefficient column rows (at + 1) (drop (at + 1) numbers)
-    (slice_set owns at (with_weight column p (slice_index_or owns at no_row))))) c
-    ∙ sym (weighted_opened coefficient column rows at numbers owns l) ∙ h
-
-pub weighted_ended : (coefficient : List Term → Result ℚ Wide) (column : ℕ) (rows : List Row) (at : ℕ)
-    (numbers : List ℕ) (owns : List Row) (total : Result (List Row) Wide) → length numbers ≤ at
-    → weighted coefficient column rows at (drop at numbers) owns ≡ total → total ≡ Ok owns
-weighted_ended coefficient column rows at numbers owns total l h =
-    sym h ∙ ap (λ ns. weighted coefficient column rows at ns owns) (drop_all at numbers l)
 
 -- ---- rows of sums
 

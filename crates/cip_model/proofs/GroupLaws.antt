@@ -130,7 +130,7 @@ grouped_first count = go 0 count
 
 -- ---- steps
 
-length_front : {X : Type 0} (xs : List X) (n : ℕ) → n ≤ length xs → length (take n xs) ≡ n
+pub length_front : {X : Type 0} (xs : List X) (n : ℕ) → n ≤ length xs → length (take n xs) ≡ n
 length_front xs n l = length-take-le n xs l
 
 pub step_none : (count : ℕ) (owners : List (Option ℕ)) (n : ℕ) (lists new_lists : List (List ℕ)) (rest new_rest : List ℕ) → n < length owners → get_or owners n None ≡ None → lists ≡ grouped count (take n owners) → rest ≡ rows_where is_none 0 (take n owners)

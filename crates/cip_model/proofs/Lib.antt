@@ -4,4 +4,3 @@ pub mod NamePlaces
 pub mod NameKeys
 pub mod SmallPrograms
 pub mod GroupLaws
-pub mod PassedOn

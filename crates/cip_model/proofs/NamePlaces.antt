@@ -111,7 +111,7 @@ is_eq-nat_cmp j k = go (nat_lt j k) (j == k) refl refl
 
 -- ---- names stay apart
 
-get_push : (names : List (List ℕ)) (new name : List ℕ) (k : ℕ) → slice_get (names ++ new ∷ []) k ≡ Some name → (slice_get names k ≡ Some name) ⊎ ((k ≡ length names) × (name ≡ new))
+pub get_push : (names : List (List ℕ)) (new name : List ℕ) (k : ℕ) → slice_get (names ++ new ∷ []) k ≡ Some name → (slice_get names k ≡ Some name) ⊎ ((k ≡ length names) × (name ≡ new))
 get_push [] new name zero e = inr (refl, let q : new ≡ name = cc in sym q)
 get_push [] new name (suc k) e = absurd (cc)
 get_push (x ∷ xs) new name zero e = inl e

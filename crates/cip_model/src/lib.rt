@@ -12,6 +12,7 @@ mod parts;
 mod programs;
 mod rays;
 mod verdicts;
+mod whole_costs;
 
 pub use blocks::{Blocks, MOST_BLOCKS};
 pub use cip_frac::Frac;
@@ -22,3 +23,4 @@ pub use parts::{Parts, Sense};
 pub use programs::Program;
 pub use rays::shown_rays_fall;
 pub use verdicts::{Place, Verdict};
+pub use whole_costs::are_costs_whole;

@@ -1,19 +1,20 @@
 -- What a line of COLUMNS without fault finds: its rows have no number on its column or behind it.
-use Rattle.std.proofs.Common.{◌≡◌, ◌≢◌, ℕ, ◌+◌, ◌==◌, ◌<◌, ◌≤◌, true, false, not, ◌&&◌, List, [], ◌∷◌, length, Option, None, Some, refl, sym, ap, ◌∙◌, arith}
+use Rattle.std.proofs.Common.{◌≡◌, ◌≢◌, ℕ, ◌+◌, true, false, not, ◌&&◌, List, ◌∷◌, length, Option, None, Some, refl, sym, ap, ◌∙◌}
 use Rattle.std.specs.Prelude.{nat_lt, nat_le, slice_index_or, unwrap_or, IfSome}
 use Rattle.std.specs.Str.{bytes_eq}
 use Rattle.std.specs.List.{list_all, list_any}
 use Rattle.std.proofs.lemmas.List.{get_or-set_other}
-use Rattle.std.proofs.lemmas.Bool.{and_from, and_parts, lt-ltb, ltb-true, ltb-false, eq-eqb}
+use Rattle.std.proofs.lemmas.Bool.{ltb-false}
 use Rattle.cip_problem.specs.Limits.{most_columns, most_entries}
 use Rattle.cip_text_rules.specs.MpsWords.{number_in, is_in}
 use Rattle.cip_text_rules.specs.MpsSayings.{Value}
 use Rattle.cip_text_rules.specs.MpsRules.{least, has_twins, is_before_last}
 use Rattle.cip_text_rules.proofs.Quiet.{kept as passes, left_false, right_false}
 use Rattle.cip_text_rules.proofs.MpsNames.{same_bytes, number_same}
-use Rattle.cip_text_rules.specs.MpsState.{Held, RowRead, State, no_row, item_at, row_at}
+use Rattle.cip_text_rules.specs.MpsState.{RowRead, State, no_row, item_at, row_at}
 use Rattle.cip_text_rules.specs.MpsSteps.{changed, holds, number_or_next}
 use Rattle.cip_text_rules.specs.MpsSoundState.{held_below}
+use Rattle.cip_text_rules.proofs.SoundState.{below_last}
 use Rattle.cip_mps_lines.specs.MpsLines.{second_in}
 use Rattle.cip_mps_lines.specs.declared.line.Pair.{Pair}
 use Rattle.cip_mps.specs.FoundRows.{second_number}
@@ -62,16 +63,6 @@ passes_column state column values e =
       room = left_false _ (nat_lt most_entries (state.entries + entries_in values)) over;
       few = right_false (not (is_in state.column_names column) && nat_le most_columns (length state.column_names)) _ over;
     }
-
--- the last column that a row may have, and hasn't
-below_last : (n c : ℕ) (held : List Held) → n ≤ c + 1 → held_below n held ≡ true → list_any (λ h. h.column == c) held ≡ false → held_below c held ≡ true
-below_last n c [] l b e = refl
-below_last n c (h ∷ hs) l b e =
-    let a = and_parts (nat_lt h.column n) (held_below n hs) b in
-    let less : h.column < n = ltb-true h.column n a.0 in
-    let no : (h.column == c) ≡ false = left_false _ (list_any (λ x. x.column == c) hs) e in
-    let other : ¬ (h.column ≡ c) = λ p. let yes : (h.column == c) ≡ true = eq-eqb h.column c p in cc in
-    and_from (nat_lt h.column c) (held_below c hs) (lt-ltb h.column c (omega (arith, less, l, other))) (below_last n c hs l a.1 (right_false _ _ e))
 
 open_with : (n : ℕ) (o : Option ℕ) (row : RowRead) → held_below n row.held ≡ true → holds o (Some row) ≡ false → is_before_last o n ≡ false → held_below (unwrap_or o n) row.held ≡ true
 open_with n None row b h l = b

@@ -7,19 +7,14 @@ use Rattle.std.proofs.lemmas.Bool.{ltb-true, ne_eqb, eq-eqb, eqb-false}
 use Rattle.cip_problem.specs.Program.{Term, Row}
 use Rattle.cip_problem.specs.Program as problem
 use Rattle.cip_text_rules.specs.MpsProgram.{is_free, row_with}
-use Rattle.cip_text_rules.specs.MpsState.{Held, RowRead, is_zero_value, is_kept, terms_from, finished_row, sides_with, right_side_of}
+use Rattle.cip_text_rules.specs.MpsState.{Held, RowRead, is_kept, terms_from, finished_row, sides_with, right_side_of}
+use Rattle.cip_text_rules.proofs.ProgramSame.{terms_from-append}
 use Rattle.cip_mps.specs.Entries.{Entry, numbers_of}
 use Rattle.cip_mps.specs.Tables.{map_at, numbers_at, with_numbers, rows_of}
 use Rattle.cip_mps.specs.GroupedRows.{with_terms, put_number, put_numbers, empty_row, kept_rows}
 use Rattle.cip_mps.proofs.Places.{at_same, at_append}
 
 -- ---- terms
-
-terms_append : (xs ys : List Held) → terms_from (xs ++ ys) ≡ terms_from xs ++ terms_from ys
-terms_append [] ys = refl
-terms_append (h ∷ hs) ys =
-    let one : List Term = cond (is_zero_value h.value) [] (record { column = h.column; coefficient = h.value } ∷ []) in
-    ap (λ ts. one ++ ts) (terms_append hs ys) ∙ sym (append_assoc one (terms_from hs) (terms_from ys))
 
 twice : (a b : List Term) (row : Row) → with_terms b (with_terms a row) ≡ with_terms (a ++ b) row
 twice a b row = ap (λ ts. let r : Row = record { terms = ts; low = row.low; high = row.high } in r) (append_assoc row.terms a b)
@@ -63,7 +58,7 @@ put_all (e ∷ es) rows =
     own =
         let same : (e.row == e.row) ≡ true = eq-eqb e.row e.row refl in
         ap (λ b. terms_from (cond b (e.held ∷ numbers_of e.row es) (numbers_of e.row es))) same
-        ∙ terms_append (e.held ∷ []) (numbers_of e.row es)
+        ∙ terms_from-append (e.held ∷ []) (numbers_of e.row es)
 
     else_ : (k : ℕ) → (e.row == k) ≡ false → terms_from (numbers_of k (e ∷ es)) ≡ terms_from (numbers_of k es)
     else_ k n = ap (λ b. terms_from (cond b (e.held ∷ numbers_of k es) (numbers_of k es))) n

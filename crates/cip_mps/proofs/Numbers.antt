@@ -3,19 +3,16 @@ use Rattle.std.proofs.Common.{◌≡◌, ◌↔◌, IsTrue, rules, ℤ, ℕ, ◌
 use Rattle.std.specs.Prelude.{nat_lt}
 use Rattle.std.specs.List.{list_all, list_any}
 use Rattle.std.proofs.lemmas.List.{append-nil}
-use Rattle.std.proofs.lemmas.List.Folds.{list_all-append}
 use Rattle.std.proofs.lemmas.Bool.{and_from, and_parts, ltb-true, ne_eqb, eq-eqb, eqb-true}
 use Rattle.cip_rational.specs.Rational.{ℚ, IsWhole, integer, numerator}
 use Rattle.cip_rational.proofs.Rational.Whole.{whole_is}
 use Rattle.cip_text_rules.specs.MpsState.{Held}
 use Rattle.cip_text_rules.specs.MpsSoundState.{held_below, rises}
+use Rattle.cip_text_rules.proofs.SoundState.{all_push}
 use Rattle.cip_mps.specs.Entries.{Entry, numbers_of, AreRising}
 use Rattle.cip_mps.specs.GroupEntries.{near_entry, far_entry, entries_of}
 use Rattle.cip_mps.specs.declared.groups.Near.{Near}
 use Rattle.cip_mps.specs.declared.groups.Far.{Far}
-
-pub all_push : {X : Type 0} (p : X → Bool) (xs : List X) (v : X) → list_all p xs ≡ true → p v ≡ true → list_all p (xs ++ v ∷ []) ≡ true
-all_push p xs v h e = list_all-append p xs (v ∷ []) ∙ and_from (list_all p xs) (p v && true) h (and_from (p v) true e refl)
 
 -- a number behind all others
 rises_push : (held : List Held) (h : Held) → held_below h.column held ≡ true → rises held ≡ true → rises (held ++ h ∷ []) ≡ true

@@ -1,11 +1,11 @@
 -- The objective, the names of the rows that are kept, and that the program is well-formed.
-use Rattle.std.proofs.Common.{◌≡◌, ℕ, zero, suc, ◌+◌, ◌<◌, ◌≤◌, Bool, true, false, not, cond, ◌||◌, List, [], ◌∷◌, ◌++◌, length, map, take, drop, Option, None, Some, refl, sym, ap, subst, ◌∙◌, arith, All}
+use Rattle.std.proofs.Common.{◌≡◌, ℕ, zero, suc, ◌+◌, ◌<◌, ◌≤◌, Bool, true, false, not, cond, ◌||◌, List, [], ◌∷◌, ◌++◌, length, map, take, Option, Some, refl, sym, ap, subst, ◌∙◌, arith, All}
 use Rattle.std.specs.Prelude.{slice_get, slice_index_or, nat_lt, unwrap_or}
 use Rattle.std.specs.List.{AllByRecursion, filter, list_all, list_any}
 use Rattle.std.specs.Str.{bytes_eq}
 use Rattle.std.proofs.lemmas.List.{length-map}
 use Rattle.std.proofs.lemmas.List.Elements.{All-from_recursion}
-use Rattle.std.proofs.lemmas.Bool.{and_parts, ltb-true}
+use Rattle.std.proofs.lemmas.Bool.{and_parts, ltb-true, or_from}
 use Rattle.cip_rational.specs.Rational.{ℚ, negate}
 use Rattle.cip_problem.specs.Limits.{most_rows, most_columns}
 use Rattle.cip_problem.specs.Program.{Term, Sides, Row, Choice, Program}
@@ -14,29 +14,13 @@ use Rattle.cip_problem.specs.WellFormed.{IsWellFormed}
 use Rattle.cip_text_rules.specs.MpsWords.{next, number_in, is_in}
 use Rattle.cip_text_rules.specs.MpsBounds.{Bounded, settled, is_semi, column_sides, choice_of, choices_of}
 use Rattle.cip_text_rules.specs.MpsProgram.{is_free}
-use Rattle.cip_text_rules.proofs.Quiet.{left_false, right_false, or_false}
+use Rattle.cip_text_rules.proofs.Quiet.{left_false, right_false}
 use Rattle.cip_text_rules.specs.MpsState.{Held, RowRead, State, no_row, is_zero_value, is_kept, kept_names, objective_row, right_side_of, minimized_by, costs_from, terms_from, finished_row, program_from}
 use Rattle.cip_text_rules.specs.MpsSoundState.{held_below}
 use Rattle.cip_text_rules.proofs.SemiColumns.{choices_formed}
 use Rattle.cip_text_rules.proofs.LookUps.{is_in-cons}
+use Rattle.cip_text_rules.proofs.MpsNames.{next_some}
 use Rattle.cip_mps.proofs.ListLaws.{list_any_map}
-
--- ---- the objective
-
--- a row at its number, and those behind it
-pub objective_behind : (rows : List RowRead) (k : ℕ) (row : RowRead) → k < length rows → row ≡ slice_index_or rows k row → objective_row (drop k rows) ≡ cond (is_free row.kind) row (objective_row (drop (suc k) rows))
-objective_behind [] k row l e = absurd (omega (arith, l))
-objective_behind (r ∷ rs) zero row l e = ap (λ (x : RowRead). cond (is_free x.kind) x (objective_row rs)) (sym e)
-objective_behind (r ∷ rs) (suc k) row l e = objective_behind rs k row (omega (arith, l)) e
-
-pub at_default : (rows : List RowRead) (k : ℕ) (row : RowRead) → k < length rows → row ≡ slice_index_or rows k row → row ≡ slice_index_or rows k no_row
-at_default [] k row l e = absurd (omega (arith, l))
-at_default (r ∷ rs) zero row l e = e
-at_default (r ∷ rs) (suc k) row l e = at_default rs k row (omega (arith, l)) e
-
-pub drop_all : (rows : List RowRead) → drop (length rows) rows ≡ []
-drop_all [] = refl
-drop_all (r ∷ rs) = drop_all rs
 
 -- ---- names of rows
 
@@ -46,15 +30,11 @@ kept_absent (x ∷ xs) [] name e = refl
 kept_absent (x ∷ xs) (r ∷ rs) name e =
     let both : (bytes_eq name x || is_in xs name) ≡ false = sym (is_in-cons x xs name) ∙ e in
     let rest : is_in (kept_names xs rs) name ≡ false = kept_absent xs rs name (right_false _ _ both) in
-    go (is_kept r) (is_in-cons x (kept_names xs rs) name ∙ or_false _ _ (left_false _ _ both) rest) rest
+    go (is_kept r) (is_in-cons x (kept_names xs rs) name ∙ or_from _ _ (left_false _ _ both) rest) rest
   where
     go : (b : Bool) → is_in (x ∷ kept_names xs rs) name ≡ false → is_in (kept_names xs rs) name ≡ false → is_in (cond b (x ∷ kept_names xs rs) (kept_names xs rs)) name ≡ false
     go true h k = h
     go false h k = k
-
-next_inside : (o : Option ℕ) (k : ℕ) → next o ≡ Some (suc k) → o ≡ Some k
-next_inside None k e = absurd (cc)
-next_inside (Some j) k e = let p : suc j ≡ suc k = cc in let q : j ≡ k = cc in ap Some q
 
 pub take_absent : (names : List (List ℕ)) (name : List ℕ) (k : ℕ) → number_in names name ≡ Some k → is_in (take k names) name ≡ false
 take_absent [] name k e = absurd (cc)
@@ -63,7 +43,7 @@ take_absent (x ∷ xs) name (suc k) e = go (bytes_eq name x) refl e (take_absent
   where
     go : (b : Bool) → bytes_eq name x ≡ b → cond b (Some 0) (next (number_in xs name)) ≡ Some (suc k) → (number_in xs name ≡ Some k → is_in (take k xs) name ≡ false) → is_in (x ∷ take k xs) name ≡ false
     go true p q h = let z : ◌≡◌ {A = ℕ} 0 (suc k) = cc in absurd (cc)
-    go false p q h = is_in-cons x (take k xs) name ∙ or_false _ _ p (h (next_inside _ k q))
+    go false p q h = is_in-cons x (take k xs) name ∙ or_from _ _ p (h (next_some _ k q))
 
 -- one row more
 pub kept_more : (names : List (List ℕ)) (rows : List RowRead) (k : ℕ) (name : List ℕ) (row : RowRead) → slice_get names k ≡ Some name → k < length rows → row ≡ slice_index_or rows k no_row

@@ -2,20 +2,16 @@
 use Rattle.std.proofs.Common.{◌≡◌, ℕ, zero, suc, ◌+◌, add-one, ◌<◌, ◌≤◌, Bool, true, false, cond, ◌&&◌, List, [], ◌∷◌, ◌++◌, length, Some, subst, refl, sym, ap, ◌∙◌, arith}
 use Rattle.std.specs.Prelude.{nat_lt, nat_le, slice_index_or, slice_set, not, Result, Ok, Err, OnOk, OnErr}
 use Rattle.std.specs.List.{filter, list_all}
-use Rattle.std.proofs.lemmas.Bool.{and_from, and_parts, lt-ltb, ltb-true, leb-false}
+use Rattle.std.proofs.lemmas.Bool.{lt-ltb, ltb-true, leb-false}
 use Rattle.std.proofs.lemmas.List.{length_push}
 use Rattle.cip_rational.specs.Rational.{ℚ}
 use Rattle.cip_text_rules.specs.MpsState.{RowRead, no_row, is_kept}
 use Rattle.cip_text_rules.specs.MpsProgram.{is_free}
 use Rattle.cip_text_rules.specs.MpsSteps.{changed, with_held}
 use Rattle.cip_text_rules.specs.MpsSoundState.{held_below}
-use Rattle.cip_mps.proofs.Numbers.{all_push}
+use Rattle.cip_text_rules.proofs.SoundState.{all_set, all_at, all_push, all_more}
 
 -- ---- rows of a draft
-
-pub all_more : {X : Type 0} (p q : X → Bool) → ((x : X) → p x ≡ true → q x ≡ true) → (xs : List X) → list_all p xs ≡ true → list_all q xs ≡ true
-all_more p q f [] h = refl
-all_more p q f (x ∷ xs) h = let a = and_parts (p x) (list_all p xs) h in and_from (q x) (list_all q xs) (f x a.0) (all_more p q f xs a.1)
 
 -- a row's numbers stand on the first n columns
 abbrev pub below : ℕ → RowRead → Bool
@@ -24,18 +20,6 @@ below n row = held_below n row.held
 pub more_below : (m n : ℕ) (rows : List RowRead) → m ≤ n → list_all (λ row. held_below m row.held) rows ≡ true → list_all (λ row. held_below n row.held) rows ≡ true
 more_below m n rows l h =
     all_more (below m) (below n) (λ row e. all_more (λ h. nat_lt h.column m) (λ h. nat_lt h.column n) (λ h e. let d : h.column < m = ltb-true h.column m e in lt-ltb h.column n (omega (arith, d, l))) row.held e) rows h
-
-all_set : {X : Type 0} (p : X → Bool) (xs : List X) (k : ℕ) (v : X) → list_all p xs ≡ true → p v ≡ true → list_all p (slice_set xs k v) ≡ true
-all_set p [] k v h e = refl
-all_set p (x ∷ xs) zero v h e = and_from (p v) (list_all p xs) e (and_parts (p x) (list_all p xs) h).1
-all_set p (x ∷ xs) (suc k) v h e =
-    let a = and_parts (p x) (list_all p xs) h in
-    and_from (p x) (list_all p (slice_set xs k v)) a.0 (all_set p xs k v a.1 e)
-
-all_at : {X : Type 0} (p : X → Bool) (xs : List X) (k : ℕ) (d : X) → list_all p xs ≡ true → p d ≡ true → p (slice_index_or xs k d) ≡ true
-all_at p [] k d h e = e
-all_at p (x ∷ xs) zero d h e = (and_parts (p x) (list_all p xs) h).0
-all_at p (x ∷ xs) (suc k) d h e = all_at p xs k d (and_parts (p x) (list_all p xs) h).1 e
 
 pub below_at : (n : ℕ) (rows : List RowRead) (k : ℕ) → list_all (λ row. held_below n row.held) rows ≡ true → held_below n (slice_index_or rows k no_row).held ≡ true
 below_at n rows k h = all_at (below n) rows k no_row h refl

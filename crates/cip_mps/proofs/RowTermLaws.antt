@@ -1,32 +1,19 @@
 -- The test of 0, and numbers that are put one after another.
-use Rattle.std.proofs.Common.{◌≡◌, ◌↔◌, ℕ, suc, ◌+◌, ◌==◌, Bool, true, false, cond, not, ◌&&◌, IsTrue, List, [], ◌∷◌, ◌++◌, map, drop, add-one, refl, sym, ap, ◌∙◌, append_assoc, rules}
+use Rattle.std.proofs.Common.{◌≡◌, ◌↔◌, ℕ, suc, ◌+◌, ◌==◌, Bool, true, false, cond, IsTrue, List, [], ◌∷◌, ◌++◌, map, drop, add-one, refl, sym, ap, ◌∙◌, append_assoc}
 use Rattle.std.specs.Prelude.{nat_lt, slice_index_or}
 use Rattle.std.specs.List.{list_all}
 use Rattle.std.proofs.lemmas.Bool.{and_parts}
-use Rattle.cip_rational.specs.Rational.{ℚ, zeroℚ, lt_test}
-use Rattle.cip_rational.proofs.Rational.Order.{≤ℚ_antisymm, le_of_lt_test}
+use Rattle.cip_rational.specs.Rational.{ℚ, zeroℚ}
 use Rattle.cip_problem.specs.Program.{Row, no_row}
 use Rattle.cip_text_rules.specs.MpsState.{Held, is_zero_value}
-use Rattle.cip_text_rules.proofs.Told.{zero_is_zero}
 use Rattle.cip_mps.specs.Entries.{Entry, numbers_of}
 use Rattle.cip_mps.specs.GroupedRows.{follow, put_number, put_numbers}
+use Rattle.cip_mps_lines.proofs.ValuesRead.{zero_test_is}
 
 -- ---- 0
 
-zero_of_tests : (value : ℚ) (below above : Bool) → lt_test value zeroℚ ≡ below → lt_test zeroℚ value ≡ above → (not below && not above) ≡ true → value ≡ zeroℚ
-zero_of_tests value false false p q h = ≤ℚ_antisymm (le_of_lt_test q) (le_of_lt_test p)
-zero_of_tests value true above p q h = cc
-zero_of_tests value false true p q h = cc
-
-zero_with : (value : ℚ) (answer test : Bool) → is_zero_value value ≡ test → IsTrue answer ↔ (value ≡ zeroℚ) → answer ≡ test
-zero_with value true true e h = refl
-zero_with value false false e h = refl
-zero_with value true false e h = search (rules, zero_is_zero, e, h)
-zero_with value false true e h =
-    let zero = zero_of_tests value (lt_test value zeroℚ) (lt_test zeroℚ value) refl refl e in search (rules, zero, h)
-
 pub zero_is : (value : ℚ) (answer : Bool) → IsTrue answer ↔ (value ≡ zeroℚ) → answer ≡ is_zero_value value
-zero_is value answer h = zero_with value answer (is_zero_value value) refl h
+zero_is value answer h = zero_test_is value answer (is_zero_value value) refl h
 
 -- ---- one number of a list that is gone through
 

@@ -13,6 +13,7 @@ use Rattle.cip_mps.specs.Entries.{Entry, numbers_of}
 use Rattle.cip_mps.specs.Tables.{numbers_at, with_numbers, rows_of, IsSoundTable}
 use Rattle.cip_mps.proofs.Places.{at_length, at_same, at_index, at_change, at_other, at_push, at_take}
 use Rattle.cip_mps.proofs.Numbers.{numbers_own, numbers_other}
+use Rattle.cip_model.proofs.GroupLaws.{length_front}
 
 -- ---- reads
 
@@ -56,16 +57,6 @@ numbers_are heads groups rows number v l =
     ap (λ (r : RowRead). r.held) (sym (ap (λ rs. slice_index_or rs number no_row) v) ∙ at_index (λ number. with_numbers (numbers_at groups number)) heads number no_row no_row (within heads groups rows number v l))
 
 -- ---- a group more
-
--- a group without numbers
-pub group_more : (groups : List (List Entry)) (row : ℕ) → numbers_at (groups ++ [] ∷ []) row ≡ numbers_at groups row
-group_more groups row = ap (numbers_of (row % 64)) (go groups (row / 64))
-  where
-    go : (gs : List (List Entry)) (k : ℕ) → slice_index_or (gs ++ [] ∷ []) k [] ≡ slice_index_or gs k []
-    go [] zero = refl
-    go [] (suc k) = refl
-    go (g ∷ gs) zero = refl
-    go (g ∷ gs) (suc k) = go gs k
 
 pub same_rows : (heads : List RowRead) (groups others : List (List Entry)) → ((row : ℕ) → numbers_at others row ≡ numbers_at groups row) → rows_of heads others ≡ rows_of heads groups
 same_rows heads groups others h =
@@ -198,11 +189,6 @@ sound_held number column value held_to heads groups s l b = record {
 pub rows_popped : (heads : List RowRead) (groups : List (List Entry)) (n : ℕ) → rows_of (take n heads) groups ≡ take n (rows_of heads groups)
 rows_popped heads groups n = at_take (λ number. with_numbers (numbers_at groups number)) heads n
 
-length_take : {X : Type 0} (xs : List X) (n : ℕ) → n ≤ length xs → length (take n xs) ≡ n
-length_take xs zero l = refl
-length_take [] (suc n) l = absurd (omega (arith, l))
-length_take (x ∷ xs) (suc n) l = ap suc (length_take xs n (omega (arith, l)))
-
 take_index : (xs : List ℕ) (n row : ℕ) → row < n → slice_index_or (take n xs) row 0 ≡ slice_index_or xs row 0
 take_index xs zero row l = absurd (omega (arith, l))
 take_index [] (suc n) row l = refl
@@ -216,8 +202,8 @@ last_is_empty heads groups n l e =
 
 pub sound_popped : (held_to : List ℕ) (heads : List RowRead) (groups : List (List Entry)) (n : ℕ) → IsSoundTable held_to heads groups → n + 1 ≡ length heads → numbers_at groups n ≡ [] → IsSoundTable (take n held_to) (take n heads) groups
 sound_popped held_to heads groups n s l e = record {
-  as_many = length_take held_to n (let m = s.as_many in omega (arith, l, m)) ∙ sym (length_take heads n (omega (arith, l)));
-  enough = let m = length_take heads n (omega (arith, l)) in let h = s.enough in omega (arith, l, m, h);
+  as_many = length_front held_to n (let m = s.as_many in omega (arith, l, m)) ∙ sym (length_front heads n (omega (arith, l)));
+  enough = let m = length_front heads n (omega (arith, l)) in let h = s.enough in omega (arith, l, m, h);
   below = λ row. go row (nat_lt row n) refl;
 }
   where
@@ -241,10 +227,3 @@ rows_changed heads groups number head f l e =
     let g : ℕ → RowRead → RowRead = λ row. with_numbers (numbers_at groups row) in
     at_change g heads number head
     ∙ ap (slice_set (rows_of heads groups) number) (e ∙ ap f (sym (at_index g heads number no_row no_row l)))
-
-pub sound_changed : (held_to : List ℕ) (heads : List RowRead) (groups : List (List Entry)) (number : ℕ) (head : RowRead) → IsSoundTable held_to heads groups → IsSoundTable held_to (slice_set heads number head) groups
-sound_changed held_to heads groups number head s = record {
-  as_many = s.as_many ∙ sym (length-set heads number head);
-  enough = subst (λ (n : ℕ). n ≤ 64 * length groups) (sym (length-set heads number head)) s.enough;
-  below = s.below;
-}

@@ -1,16 +1,10 @@
 -- Names that stand once: each has its place as its number.
-use Rattle.std.proofs.Common.{◌≡◌, ℕ, zero, suc, true, false, List, [], ◌∷◌, ◌++◌, length, Option, Some, refl, sym, ap, inl, inr, ◌⊎◌, ◌∙◌}
-use Rattle.std.specs.Prelude.{slice_get, is_some}
+use Rattle.std.proofs.Common.{◌≡◌, ℕ, true, false, List, [], ◌∷◌, ◌++◌, Option, Some, sym, ap, inl, inr, ◌∙◌}
+use Rattle.std.specs.Prelude.{is_some}
 use Rattle.cip_text_rules.specs.MpsWords.{number_in, is_in}
 use Rattle.cip_mps_lines.specs.NamesApart.{AreApart}
 use Rattle.cip_text_rules.proofs.LookUps.{number_in-left, number_in-push}
-
--- a name of the list, or the new one
-get_push : (names : List (List ℕ)) (new name : List ℕ) (k : ℕ) → slice_get (names ++ new ∷ []) k ≡ Some name → (slice_get names k ≡ Some name) ⊎ ((k ≡ length names) × (name ≡ new))
-get_push [] new name zero e = inr (refl, let q : new ≡ name = cc in sym q)
-get_push [] new name (suc k) e = absurd (cc)
-get_push (x ∷ xs) new name zero e = inl e
-get_push (x ∷ xs) new name (suc k) e = elim (get_push xs new name k e) [ inl h ↦ inl h | inr h ↦ inr (ap suc h.0, h.1) ]
+use Rattle.cip_model.proofs.NamePlaces.{get_push}
 
 in_from : (o : Option ℕ) (k : ℕ) → o ≡ Some k → is_some o ≡ true
 in_from o k e = ap is_some e

@@ -17,11 +17,11 @@ zero_of_tests value false false p q h = ≤ℚ_antisymm (le_of_lt_test q) (le_of
 zero_of_tests value true above p q h = cc
 zero_of_tests value false true p q h = cc
 
-zero_of_test : (value : ℚ) → is_zero_value value ≡ true → value ≡ zeroℚ
+pub zero_of_test : (value : ℚ) → is_zero_value value ≡ true → value ≡ zeroℚ
 zero_of_test value h = zero_of_tests value (lt_test value zeroℚ) (lt_test zeroℚ value) refl refl h
 
 -- the test of 0
-zero_test_is : (value : ℚ) (answer test : Bool) → is_zero_value value ≡ test → IsTrue answer ↔ (value ≡ zeroℚ) → answer ≡ test
+pub zero_test_is : (value : ℚ) (answer test : Bool) → is_zero_value value ≡ test → IsTrue answer ↔ (value ≡ zeroℚ) → answer ≡ test
 zero_test_is value true true e h = refl
 zero_test_is value false false e h = refl
 zero_test_is value true false e h = search (rules, zero_is_zero, e, h)

@@ -10,7 +10,7 @@ use Rattle.cip_domain.specs.Changes.{Region}
 use Rattle.cip_search.specs.Leaf.{Leaf, IsPointOfLeaf}
 use Rattle.cip_leaf.specs.LeafAnswers.{shown_as}
 use Rattle.cip_leaf.specs.declared.answers.Shown.{Shown}
-use Rattle.cip_core.specs.declared.relaxed.Mark.{Mark}
+use Rattle.cip_relax.specs.declared.relaxed.Mark.{Mark}
 use Rattle.cip_tree.specs.Nodes.{TakenNode, Nodes, region_of, box_of, shown}
 use Rattle.cip_core.specs.CoreStates.{CoreState, reduced_of, way_of, held_of, IsTakenUp}
 use Rattle.cip_core.specs.Later.{IsLater, IsNarrower, IsLaterAt}
@@ -174,7 +174,7 @@ emptied_after old mid new node has l h e = ended_after old mid new node has None
 
 -- ---- nodes that are open
 
-met_of : (core : CoreState) (box : List Sides) (bound : Option ℚ) (mark : Option Mark) → IsAsGood core box bound mark → IfSome mark (IsMarkOf core box)
+pub met_of : (core : CoreState) (box : List Sides) (bound : Option ℚ) (mark : Option Mark) → IsAsGood core box bound mark → IfSome mark (IsMarkOf core box)
 met_of core box bound None h = tt
 met_of core box bound (Some mark) h = h
 

@@ -1,9 +1,8 @@
 -- A point of the reduced program with a fractional value on a whole column isn't found feasible where it comes back.
-use Rattle.std.proofs.Common.{◌≡◌, ℕ, suc, ◌<◌, Bool, List, [], ◌∷◌, length, true, Some, slice_get, sym, ap, ◌∙◌, subst, arith}
+use Rattle.std.proofs.Common.{◌≡◌, ℕ, ◌<◌, List, length, true, sym, ◌∙◌, subst}
 use Rattle.std.proofs.lemmas.Option.{slice_get_within}
 use Rattle.cip_rational.specs.Rational.{ℚ, IsWhole}
 use Rattle.cip_problem.specs.Program.{Program}
-use Rattle.cip_problem.specs.Activity.{value_at}
 use Rattle.cip_problem.specs.Points.{AreWhole}
 use Rattle.cip_problem.specs.WellFormed.{IsWellFormed, columns}
 use Rattle.cip_problem.proofs.Points.AtPlaces.{whole_at}
@@ -13,12 +12,7 @@ use Rattle.cip_core.specs.Pairs.{IsLong, IsPair}
 use Rattle.cip_core.specs.StepsBack.{point_back}
 use Rattle.cip_core.specs.CoreStates.{CoreState, reduced_of, IsSound}
 use Rattle.cip_core.specs.Steps.{IsTriedBack}
-
-all_whole : (integral : List Bool) (point : List ℚ) → length point ≡ length integral → ((column : ℕ) → slice_get integral column ≡ Some true → IsWhole (value_at point column)) → AreWhole integral point
-all_whole [] [] e f = tt
-all_whole [] (v ∷ vs) e f = absurd (omega (arith, e))
-all_whole (w ∷ ws) [] e f = absurd (omega (arith, e))
-all_whole (w ∷ ws) (v ∷ vs) e f = ((λ h. f 0 (ap Some h)), all_whole ws vs (omega (arith, e)) (λ column. f (suc column)))
+use Rattle.cip_search.proofs.Returning.{all_whole}
 
 -- a point that comes back as one with whole values on whole columns has such values
 whole_there : (program reduced : Program) (post : List ℚ → List ℚ) (kept : ℕ → ℕ) (point : List ℚ) → IsPair program reduced post kept → IsLong reduced point → length point ≡ length reduced.integral → AreWhole program.integral (post point) → AreWhole reduced.integral point

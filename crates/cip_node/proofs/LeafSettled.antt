@@ -12,6 +12,7 @@ use Rattle.cip_problem.specs.Statements.{IsNodeOf}
 use Rattle.cip_problem.specs.WellFormed.{columns, IsWellFormed}
 use Rattle.cip_problem.proofs.Choices.Decided.{feasible}
 use Rattle.cip_problem.proofs.Points.AtPlaces.{IsInBox-long}
+use Rattle.cip_problem.proofs.Log.Entering.{contains_here}
 use Rattle.cip_search.specs.Leaf.{Leaf, IsLeafOf, IsPointOfLeaf}
 use Rattle.cip_search.proofs.Points.{only_leaf_of}
 use Rattle.cip_search.specs.WideLeaf.{Shown, IsWideBy, IsWideLeaf}
@@ -22,7 +23,6 @@ use Rattle.cip_incumbent.specs.HeldPoint.{HeldPoint, Holding, is_cheaper, taken_
 use Rattle.cip_incumbent.specs.declared.offers.Offered.{Offered}
 use Rattle.cip_search.specs.SearchState.{IsWayBack, IsStuck, IsWideBack}
 use Rattle.cip_core.specs.StepsBack.{StepsTaken, point_back, leaf_back, way_back}
-use Rattle.cip_search.proofs.Members.{here}
 use Rattle.cip_search.proofs.Told.{given_node_of}
 use Rattle.cip_tree.specs.Nodes.{TakenNode, region_in, node_changes, box_of, shown}
 use Rattle.cip_tree.specs.Tracked.{IsWithin}
@@ -85,7 +85,7 @@ pub work_node_of : (core : CoreState) (node : TakenNode) → IsTakenUp core node
 work_node_of core node up =
     let state = state_of core.tree (held_of core) (shown core.tree node ∷ []) in
     given_node_of (reduced_of core) core.tree.root.bound state.log state.held (shown core.tree node) up.nodes.kept.searched.logged
-    (up.nodes.kept.searched.given (shown core.tree node) (here (shown core.tree node) (core.tree.open_ ++ core.tree.parked)))
+    (up.nodes.kept.searched.given (shown core.tree node) (contains_here (shown core.tree node) (core.tree.open_ ++ core.tree.parked)))
 
 -- its box lies within the program's
 pub work_within : (core : CoreState) (node : TakenNode) → IsTakenUp core node → IsWithin (box_of core.tree node) (reduced_of core).bounds

@@ -14,6 +14,7 @@ use Rattle.cip_problem.specs.Choices.{AreMade, open_count, made_on}
 use Rattle.cip_problem.specs.WellFormed.{IsWellFormed}
 use Rattle.cip_problem.proofs.Choices.Decided.{length-made_on}
 use Rattle.cip_search.specs.Leaf.{at_wholes, IsWholeBetween, IsLeafIn, IsLeaf, IsOnlyLeaf, Leaf, IsLeafOf}
+use Rattle.cip_search.proofs.Returning.{length-with_wholes}
 use Rattle.cip_core.specs.Pairs.{IsWholeIn, IsAssignment, own_sides}
 use Rattle.cip_core.specs.WholeParts.{with_wholes}
 use Rattle.cip_core.specs.StepsBack.{StepsTaken, point_back, whole_point, leaf_back}
@@ -26,12 +27,6 @@ use Rattle.cip_node.proofs.MadeChoices.{all_made, wholes_stay, only_there}
 use Rattle.cip_node.proofs.OneLeaf.{only_leaf_of, wider_leaf}
 
 -- ---- whole values that are put at their places
-
-length-placed : (integral : List Bool) (values : List ℚ) → length (with_wholes integral values) ≡ length integral
-length-placed [] values = refl
-length-placed (false ∷ ws) values = ap (λ n. suc n) (length-placed ws values)
-length-placed (true ∷ ws) [] = ap (λ n. suc n) (length-placed ws [])
-length-placed (true ∷ ws) (v ∷ values) = ap (λ n. suc n) (length-placed ws values)
 
 placed_in : (integral : List Bool) (box : List Sides) (values : List ℚ) (column : ℕ) → length box ≡ length integral → IsLeafIn integral box values → All (λ (v : ℚ). fits_range v ≡ true) values → slice_get integral column ≡ Some true → IsWholeIn (sides_at box column) (value_at (with_wholes integral values) column)
 placed_in [] box values column e l f h = absurd (none-some true h)
@@ -46,7 +41,7 @@ placed_in (false ∷ ws) (s ∷ ss) values (suc column) e l f h = placed_in ws s
 pub leaf_assigned : (reduced : Program) (wholes : List Bool) (values : List ℚ) → IsWellFormed reduced → wholes ≡ reduced.integral → IsLeaf reduced values → All (λ (v : ℚ). fits_range v ≡ true) values → IsAssignment reduced (with_wholes wholes values)
 leaf_assigned reduced wholes values formed e l f =
     subst (λ (ws : List Bool). IsAssignment reduced (with_wholes ws values)) (sym e) (record {
-      long = length-placed reduced.integral values ∙ formed.integral ∙ sym formed.bounds;
+      long = length-with_wholes reduced.integral values ∙ formed.integral ∙ sym formed.bounds;
       values = λ column h. placed_in reduced.integral reduced.bounds values column (formed.bounds ∙ sym formed.integral) l f h;
     })
 

@@ -8,4 +8,3 @@ pub mod NodeBound
 pub mod OneLeaf
 pub mod Ruled
 pub mod Fractional
-pub mod PassedOn

@@ -8,6 +8,7 @@ use Rattle.cip_problem.specs.Choices.{choice_at, is_open, is_on, AreMade, AreSti
 use Rattle.cip_problem.specs.Log.{Node}
 use Rattle.cip_problem.specs.WellFormed.{IsChoice, IsWellFormed}
 use Rattle.cip_search.specs.Leaf.{at_wholes, IsOnlyLeaf, Leaf, IsOnlyLeafOf}
+use Rattle.cip_search.proofs.Fitting.{open_continuous}
 use Rattle.cip_node_rules.specs.OpenColumns.{PassesNowhere}
 use Rattle.cip_node_rules.specs.OpenChoices.{is_choice_open}
 
@@ -58,13 +59,6 @@ made_other own now n d l e =
     ∙ ap (λ (t : Bool). if t then made_on (take n own) now ++ is_on (choice_at now n) ∷ [] else made_on (take n own) now) e
 
 -- ---- columns whose choice is open
-
--- a choice that is open is one of a continuous column
-pub open_continuous : (choice : Choice) (whole : Option Bool) (sides : Sides) → IsChoice choice whole sides → is_open choice ≡ true → whole ≡ Some false
-open_continuous Plain whole sides h e = absurd (true≢false (sym e))
-open_continuous (Open own) whole sides h e = h.continuous
-open_continuous Off whole sides h e = absurd (true≢false (sym e))
-open_continuous On whole sides h e = absurd (true≢false (sym e))
 
 -- a whole column is plain
 pub whole_plain : (choice : Choice) (whole : Option Bool) (sides : Sides) → IsChoice choice whole sides → whole ≡ Some true → choice ≡ Plain

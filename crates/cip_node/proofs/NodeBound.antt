@@ -18,18 +18,18 @@ use Rattle.cip_rows.specs.RowPools.{IsSoundPool}
 use Rattle.cip_incumbent.specs.HeldPoint.{Holding}
 use Rattle.cip_domain.specs.Changes.{Region}
 use Rattle.cip_tree.specs.Nodes.{TakenNode, Nodes, region_of, box_of}
-use Rattle.cip_core.specs.NodeRows.{usable_rows}
-use Rattle.cip_core.specs.Relaxing.{node_program, ShowsLeast, ShowsBound, ShowsNear, ShowsFalling}
-use Rattle.cip_core.specs.Telling.{IsValidPool, NodeProgramsTell}
-use Rattle.cip_core.proofs.PassedOn.{told}
-use Rattle.cip_core.specs.declared.relaxed.Mark.{Mark}
+use Rattle.cip_relax.specs.NodeRows.{usable_rows}
+use Rattle.cip_relax.specs.Relaxing.{node_program, ShowsLeast, ShowsBound, ShowsNear, ShowsFalling}
+use Rattle.cip_relax.specs.Telling.{IsValidPool, NodeProgramsTell}
+use Rattle.cip_relax.proofs.Told.{told}
+use Rattle.cip_relax.specs.declared.relaxed.Mark.{Mark}
 use Rattle.cip_core.specs.Offered.{Offered}
 use Rattle.cip_core.specs.PostsolveFault.{PostsolveFault}
 use Rattle.cip_core.specs.CoreStates.{CoreState, reduced_of, held_of, rows_lent, IsSound, IsAtWork}
 use Rattle.cip_core.proofs.CoreSteps.{work_long, trimmed_is}
 use Rattle.cip_core.specs.Steps.{IsTriedBack, IsOfferedBack, IsNotBack, IsRaisedTo}
-use Rattle.cip_core.specs.declared.relaxed.Relaxed.{Relaxed}
-use Rattle.cip_core.specs.declared.relaxed.Relaxed.TheVariants as came
+use Rattle.cip_relax.specs.declared.relaxed.Relaxed.{Relaxed}
+use Rattle.cip_relax.specs.declared.relaxed.Relaxed.TheVariants as came
 use Rattle.cip_node.specs.Bounding.{IsRelaxedOf, IsMarkOf, IsAsGood, HasTried, point_of, IsFound, told_of}
 use Rattle.cip_node.specs.declared.bounding.Found.{Found}
 

@@ -13,10 +13,10 @@ use Rattle.cip_problem.specs.WellFormed.{IsWellFormed}
 use Rattle.cip_lin.specs.ChoiceParts.{is_allowed}
 use Rattle.cip_domain.specs.Changes.{Region}
 use Rattle.cip_problem.specs.Log.{Node}
-use Rattle.cip_search.proofs.Members.{here}
+use Rattle.cip_problem.proofs.Log.Entering.{contains_here}
 use Rattle.cip_tree.specs.Nodes.{TakenNode, region_in, region_of, node_changes, shown}
 use Rattle.cip_tree.proofs.Halving.{plain_stays}
-use Rattle.cip_node_rules.specs.OpenChoices.{IsSettledBox, IsOpenBox}
+use Rattle.cip_node_rules.specs.OpenChoices.{IsSettledBox}
 use Rattle.cip_node_rules.specs.OpenColumns.{is_whole_at, is_open_at, is_fractional}
 use Rattle.cip_node_rules.specs.SplitRules.{IsSplitRule, IsChoiceRule, IsNodeRule}
 use Rattle.cip_node_rules.proofs.BothSides.{leave_both}
@@ -90,14 +90,8 @@ core_place core node point column at formed up e r =
     rule_place (reduced_of core) core.tree.ids (region_of core.tree node) formed
     (λ k h. plain_stays (region_in core.tree.root) (node_changes core.tree node) k (ap (λ (n : Node). choice_at n.choices k) up.nodes.kept.root ∙ h))
     (work_node_of core node up).still_open
-    (up.nodes.kept.near (shown core.tree node) (here (shown core.tree node) core.tree.open_))
+    (up.nodes.kept.near (shown core.tree node) (contains_here (shown core.tree node) core.tree.open_))
     point column at (subst (λ (r : Region). IsSplitBy (reduced_of core).integral r point column at) e r)
-
--- ---- a box that is open isn't settled
-
-pub settled_not_open : (integral : List Bool) (box : List Sides) (choices : List Choice) → IsSettledBox integral box choices → ¬ IsOpenBox integral box choices
-settled_not_open integral box choices s (inl (column, first)) = true≢false (sym first.passes ∙ s.no_two column first.within)
-settled_not_open integral box choices s (inr (column, first)) = true≢false (sym first.passes ∙ s.made column first.within)
 
 -- ---- the place that was chosen
 

@@ -10,11 +10,11 @@ use Rattle.cip_search.specs.Relaxation.{IsRelaxedBound}
 use Rattle.cip_domain.specs.Changes.{Region}
 use Rattle.cip_tree.specs.Nodes.{TakenNode, box_of}
 use Rattle.cip_node_rules.specs.SplitRules.{IsNodeRule}
-use Rattle.cip_core.specs.NodeRows.{usable_rows}
-use Rattle.cip_core.specs.Relaxing.{node_program, IsMark, IsRelaxed}
-use Rattle.cip_core.specs.declared.relaxed.Mark.{Mark}
-use Rattle.cip_core.specs.declared.relaxed.Relaxed.{Relaxed}
-use Rattle.cip_core.specs.declared.relaxed.Relaxed.TheVariants as came
+use Rattle.cip_relax.specs.NodeRows.{usable_rows}
+use Rattle.cip_relax.specs.Relaxing.{node_program, IsMark, IsRelaxed}
+use Rattle.cip_relax.specs.declared.relaxed.Mark.{Mark}
+use Rattle.cip_relax.specs.declared.relaxed.Relaxed.{Relaxed}
+use Rattle.cip_relax.specs.declared.relaxed.Relaxed.TheVariants as came
 use Rattle.cip_core.specs.CoreStates.{CoreState, reduced_of, held_of, rows_lent}
 use Rattle.cip_core.specs.Steps.{IsTriedBack}
 use Rattle.cip_node.specs.declared.bounding.Found.{Found}

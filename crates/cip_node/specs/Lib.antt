@@ -8,8 +8,8 @@ pub mod SolvedLeaves
 pub use Rattle.cip_core.specs.KeptNodes
 pub use Rattle.cip_core.specs.Later
 pub use Rattle.cip_leaf.specs.LeafAnswers
-pub use Rattle.cip_core.specs.declared.relaxed.Mark
-pub use Rattle.cip_core.specs.NodeRows
-pub use Rattle.cip_core.specs.Relaxing
+pub use Rattle.cip_relax.specs.declared.relaxed.Mark
+pub use Rattle.cip_relax.specs.NodeRows
+pub use Rattle.cip_relax.specs.Relaxing
 pub use Rattle.cip_leaf.specs.declared.answers.Shown
 pub use Rattle.cip_core.specs.Steps

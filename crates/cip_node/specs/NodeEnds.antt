@@ -12,7 +12,7 @@ use Rattle.cip_search.specs.WideLeaf.{Shown}
 use Rattle.cip_leaf.specs.LeafAnswers.{shown_as}
 use Rattle.cip_search.specs.SearchState.{IsWideBack}
 use Rattle.cip_model.specs.Rays.{IsShownRay}
-use Rattle.cip_core.specs.declared.relaxed.Mark.{Mark}
+use Rattle.cip_relax.specs.declared.relaxed.Mark.{Mark}
 use Rattle.cip_tree.specs.Nodes.{TakenNode, region_in, box_of, shown}
 use Rattle.cip_core.specs.CoreStates.{CoreState, reduced_of, way_of, held_of, IsKeptIn}
 use Rattle.cip_core.specs.Later.{IsLater, IsNarrower}

@@ -11,11 +11,12 @@ ghost use Rattle.cip_node.specs.Bounding.{IsRelaxedOf, IsBounded, told_of};
 ghost use Rattle.cip_node.specs.SameRows.{HasSameRows};
 
 use crate::works::NodeWork;
-use cip_core::{Core, Mark, PostsolveFault, Relaxed};
+use cip_core::{Core, PostsolveFault};
 use cip_frac::Frac;
 use cip_incumbent::Offered;
 use cip_lin::Combo;
 use cip_node_rules::are_whole;
+use cip_relax::{Mark, Relaxed, relax_from};
 use cip_tree::Node;
 use std::alloc::{AllocError, Global};
 
@@ -202,8 +203,18 @@ impl<'a> NodeWork<'a> {
         ensures relaxed { IfOk result (IsRelaxedOf self.new.core) }
         ensures core { self.new.core ≡ self.old.core }
     {
+        let core = &self.core;
+        core.is_sound();
         let start = self.starts.given();
-        let (relaxed, last) = self.core.relax(alloc, node, &mut self.solver, start)?;
+        let solver = &mut self.solver;
+        let (relaxed, last) = relax_from(
+            alloc,
+            core.reduced(),
+            core.pool(),
+            core.bounds(),
+            start,
+            solver,
+        )?;
         self.starts.hold(last);
         Ok(relaxed)
     }

@@ -1,5 +1,5 @@
 //! How the node in work ends, once its box was looked at.
-ghost use Rattle.std.specs.Prelude.{◌≡◌, None, IfOk, MatchResult};
+ghost use Rattle.std.specs.Prelude.{None, IfOk, MatchResult};
 ghost use Rattle.cip_core.specs.CoreStates.{IsTakenUp, IsGivenBound};
 ghost use Rattle.cip_core.specs.Steps.{IsBack};
 ghost use Rattle.cip_node.specs.Looking.{CanWorkOn, IsLeafNode, IsOpenNode};

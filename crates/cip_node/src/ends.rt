@@ -1,7 +1,7 @@
 //! How the work on a node ends.
-use cip_core::Mark;
 use cip_frac::Frac;
 use cip_leaf::Shown;
+use cip_relax::Mark;
 
 /// How a node ended.
 #[derive(Drop)]

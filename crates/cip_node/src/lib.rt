@@ -14,7 +14,8 @@ mod starts;
 mod works;
 
 pub use bounding::{Bounded, Found};
-pub use cip_core::{Asked, Mark, cost_of, root_bound};
+pub use cip_core::{Asked, cost_of, root_bound};
+pub use cip_relax::Mark;
 pub use ending::end_leaf;
 pub use ends::{NodeEnd, NodeRecord};
 pub use starts::Starts;

@@ -1,5 +1,5 @@
 //! A node that is a leaf ends.
-ghost use Rattle.std.specs.Prelude.{◌≡◌, None};
+ghost use Rattle.std.specs.Prelude.{None};
 ghost use Rattle.cip_core.specs.CoreStates.{IsAtWork};
 ghost use Rattle.cip_node.specs.NodeEnds.{HasEnded, IsLeafEnd};
 ghost use Rattle.cip_node.specs.SameRows.{HasSameRows};

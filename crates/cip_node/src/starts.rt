@@ -1,9 +1,9 @@
 //! What nodes leave to those after them: where their linear programs start, and the last linear values.
 ghost use Rattle.std.specs.Prelude.{◌≡◌, length, IfSome};
 
-use cip_core::Start;
 use cip_frac::Frac;
 use cip_lin::Combo;
+use cip_relax::Start;
 use std::alloc::Global;
 
 /// How many variables the starts that are kept may have together: each costs a byte or two.

@@ -4,8 +4,9 @@ ghost use Rattle.cip_core.specs.PresolvedPrograms.{IsPresolved};
 ghost use Rattle.cip_core.specs.Beginning.{AreNearColumns, HasNotBegun};
 
 use crate::starts::Starts;
-use cip_core::{Core, NodeSolver, Presolved};
+use cip_core::{Core, Presolved};
 use cip_model::Program;
+use cip_relax::NodeSolver;
 use std::alloc::{AllocError, Global};
 
 /// What works on nodes: the core of a search, and what solves the linear programs of its nodes, with where they start.

@@ -18,11 +18,11 @@ use Rattle.cip_node_rules.specs.SplitRules.{raised_to, lowered_to, IsHalf, IsMid
 
 -- ---- sizes
 
-abs_parts : (z : ℤ) → unsigned_abs z ≡ up z + down z
+pub abs_parts : (z : ℤ) → unsigned_abs z ≡ up z + down z
 abs_parts (pos n) = omega arith
 abs_parts (negsuc n) = omega arith
 
-one_side : (z : ℤ) → (up z ≡ 0) ⊎ (down z ≡ 0)
+pub one_side : (z : ℤ) → (up z ≡ 0) ⊎ (down z ≡ 0)
 one_side (pos n) = inr refl
 one_side (negsuc n) = inl refl
 
@@ -33,7 +33,7 @@ near_between n a z b h k l m = elim (one_side z) [
   | inr e ↦ omega (arith, e, h, k, abs_parts a, abs_parts b, abs_parts z, le_out a z l, le_out z b m)
 ]
 
-near_next : (n : ℕ) (z : ℤ) → unsigned_abs z ≤ n → unsigned_abs (z +ℤ pos 1) ≤ n + 1
+pub near_next : (n : ℕ) (z : ℤ) → unsigned_abs z ≤ n → unsigned_abs (z +ℤ pos 1) ≤ n + 1
 near_next n (pos m) h = omega (arith, h, abs_parts (pos m +ℤ pos 1), sum_is_lem (pos m) (pos 1))
 near_next n (negsuc m) h = elim (one_side (negsuc m +ℤ pos 1)) [
   | inl e ↦ omega (arith, e, h, abs_parts (negsuc m +ℤ pos 1), sum_is_lem (negsuc m) (pos 1))
@@ -131,7 +131,7 @@ middle_placed None high n at h e m = subst (IsPlaced None high n) (sym m) (moved
 
 -- ---- the floor of a value
 
-negate_le_back : (a b : ℚ) → negate a ≤ℚ b → negate b ≤ℚ a
+pub negate_le_back : (a b : ℚ) → negate a ≤ℚ b → negate b ≤ℚ a
 negate_le_back a b h = linear_le (a ∷ b ∷ []) (λ s w. omega (arith, s.le_out))
 
 floor_near : (value : ℚ) (size : ℕ) → absolute value ≤ℚ integer (pos size) → unsigned_abs (floor value) ≤ size

@@ -1,8 +1,7 @@
--- Facts of two lists place by place, and whole numbers between sides.
+-- Whole numbers between sides.
 use borrow.Author.Differences.{true_is_le, le_out}
 use lib.Dec.{T}
-use Rattle.std.proofs.Common.{◌≡◌, ℕ, zero, suc, ◌<◌, pos, ◌≤ℤ◌, true, false, not, ◌&&◌, ◌^◌, List, [], ◌∷◌, length, get_or, Option, None, Some, refl, sym, ap, ◌∙◌, subst, arith}
-use Rattle.std.specs.List.{AllZip}
+use Rattle.std.proofs.Common.{◌≡◌, pos, ◌≤ℤ◌, true, false, not, ◌&&◌, ◌^◌, Option, None, Some, refl, sym, ap, ◌∙◌, subst, arith}
 use Rattle.std.proofs.lemmas.Int.{ints}
 use Rattle.cip_rational.specs.Rational.{ℚ, integer, floor, ceil, absolute, le_test, IsWhole, is_whole}
 use Rattle.cip_rational.proofs.Rational.Rounding.{floor_le, le_ceil}
@@ -11,18 +10,6 @@ use Rattle.std.proofs.lemmas.Bool.{false_from_ne_true}
 use Rattle.cip_problem.specs.Wholes.{HasWhole}
 use Rattle.cip_node_rules.specs.OpenColumns.{whole_between, is_fractional}
 use Rattle.cip_problem.proofs.Wholes.Counts.{above_ceil, below_floor, between_rounded}
-
-pub zip_from : {A B : Type 0} (R : A → B → Type 0) (xs : List A) (ys : List B) (d : A) (e : B) → length xs ≡ length ys → ((k : ℕ) → k < length xs → R (get_or xs k d) (get_or ys k e)) → AllZip R xs ys
-zip_from R [] [] d e l h = tt
-zip_from R [] (y ∷ ys) d e l h = absurd (omega (arith, l))
-zip_from R (x ∷ xs) [] d e l h = absurd (omega (arith, l))
-zip_from R (x ∷ xs) (y ∷ ys) d e l h = (h 0 (omega arith), zip_from R xs ys d e (omega (arith, l)) (λ k i. h (suc k) (omega (arith, i))))
-
-pub zip_at : {A B : Type 0} (R : A → B → Type 0) (xs : List A) (ys : List B) (d : A) (e : B) (k : ℕ) → AllZip R xs ys → k < length xs → R (get_or xs k d) (get_or ys k e)
-zip_at R [] ys d e k h i = absurd (omega (arith, i))
-zip_at R (x ∷ xs) [] d e k h i = absurd h
-zip_at R (x ∷ xs) (y ∷ ys) d e zero h i = h.0
-zip_at R (x ∷ xs) (y ∷ ys) d e (suc k) h i = zip_at R xs ys d e k h.1 (omega (arith, i))
 
 pub whole_below : (high : ℚ) → HasWhole (record { low = None; high = Some high })
 whole_below high = record { number = floor high; between = record { above = tt; below = floor_le high } }

@@ -4,4 +4,3 @@ pub mod OpenColumns
 pub mod RootBounds
 pub mod RowRules
 pub mod SplitRules
-pub use Rattle.cip_problem.specs.Cuts

@@ -21,4 +21,4 @@ pub use pruning::matters;
 pub use roots::rounded_least;
 pub use rounding::stops;
 pub use splits::{SplitPlace, chosen_place, middle, moved, splits_leave_both};
-pub use values::{are_whole, has_whole_costs, rounded_bound};
+pub use values::{are_whole, rounded_bound};

@@ -1,8 +1,7 @@
-//! Values and costs that are whole.
+//! Values that are whole, and bounds that are rounded.
 ghost use Rattle.std.specs.Prelude.{◌≡◌, true, length, MatchBool, if◌then◌else◌};
 ghost use Rattle.cip_rational.specs.Rational.{integer, ceil, IsWhole};
 ghost use Rattle.cip_problem.specs.Points.{AreWhole};
-ghost use Rattle.cip_problem.specs.Cuts.{CanRound, CanRoundAt};
 
 use cip_lin::Frac;
 
@@ -13,16 +12,6 @@ fn is_right(whole: bool, value: Frac) -> bool
     if whole { value.is_whole() } else { true }
 }
 
-/// Whether a cost is whole and, unless it is 0, stands on a whole column.
-fn can_round(whole: bool, cost: Frac) -> bool
-    ensures { MatchBool result (CanRoundAt whole cost) (¬ CanRoundAt whole cost) }
-{
-    if cost.is_zero() {
-        return true;
-    }
-    whole && cost.is_whole()
-}
-
 /// Whether a point has whole values on all whole columns.
 pub fn are_whole(whole: &[bool], point: &[Frac]) -> bool
     requires { length whole.now ≡ length point.now }
@@ -30,19 +19,6 @@ pub fn are_whole(whole: &[bool], point: &[Frac]) -> bool
 {
     for at in 0..whole.len() {
         if !is_right(whole[at], point[at]) {
-            return false;
-        }
-    }
-    true
-}
-
-/// Whether costs are whole and, unless they are 0, stand on whole columns.
-pub fn has_whole_costs(whole: &[bool], costs: &[Frac]) -> bool
-    requires { length whole.now ≡ length costs.now }
-    ensures { MatchBool result (CanRound whole.now costs.now) (¬ CanRound whole.now costs.now) }
-{
-    for at in 0..whole.len() {
-        if !can_round(whole[at], costs[at]) {
             return false;
         }
     }

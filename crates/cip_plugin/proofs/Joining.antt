@@ -1,38 +1,18 @@
 -- Runs of one step and of two, from what changed at a seat and what was written.
-use Rattle.std.proofs.Common.{◌≡◌, ℕ, List, [], ◌∷◌, ◌++◌, Some, Bool, true, false, cond, set, map, append-nil, sym, ◌∙◌, refl}
+use Rattle.std.proofs.Common.{◌≡◌, ℕ, List, [], ◌∷◌, ◌++◌, Some, Bool, true, false, cond, append-nil, sym, ◌∙◌, refl}
 use Rattle.std.specs.Prelude.{slice_get, ℤ}
-use Rattle.std.proofs.lemmas.Option.{slice_get-map}
-use Rattle.std.proofs.lemmas.List.{map-set}
 use Rattle.cip_plugin.specs.Calls.{Call}
 use Rattle.cip_plugin.specs.Seats.{Seat, State}
 use Rattle.cip_plugin.specs.Lives.{word_of}
 use Rattle.cip_plugin.specs.Steps.{Step, Calls, Notes, Turns, Ranks, Steps, Runs, Sat, IsCalled, IsTurned, line, switch_word, is_note}
 use Rattle.cip_events.specs.declared.words.Word.{Word}
 use Rattle.cip_events.specs.declared.traces.TraceLine.{TraceLine}
-use Rattle.cip_plugin.proofs.Lists.{get_set_same, set_self}
-
--- the lines of a call and a note
-noted_lines : (kept later : Bool) (lines : List TraceLine) (first second : TraceLine) → later ≡ kept
-    → cond kept ((lines ++ first ∷ []) ++ second ∷ []) lines
-    ≡ cond later (cond kept (lines ++ first ∷ []) lines ++ second ∷ []) (cond kept (lines ++ first ∷ []) lines)
-noted_lines true later lines first second same = rw same refl
-noted_lines false later lines first second same = rw same refl
+use Rattle.cip_plugin.proofs.Lists.{set_self}
 
 -- no line is written, kept or not
-unwritten_lines : (kept : Bool) (lines : List TraceLine) → lines ≡ cond kept (lines ++ []) lines
+pub unwritten_lines : (kept : Bool) (lines : List TraceLine) → lines ≡ cond kept (lines ++ []) lines
 unwritten_lines true lines = sym (append-nil lines)
 unwritten_lines false lines = refl
-
--- a seat changed, by the list of what sits there
-pub sat_by : {A : Type 0} (seat : A → Seat) (How : Seat → Seat → Type 0) (xs ys : List A) (id : ℕ) (x y : A)
-    → slice_get xs id ≡ Some x → ys ≡ set xs id y → How (seat x) (seat y) → Sat id How (map seat xs) (map seat ys)
-sat_by seat How xs ys id x y was is how = record {
-  old = seat x;
-  new = seat y;
-  was = slice_get-map seat xs id ∙ rw was refl;
-  is = rw is (map-set seat xs id y);
-  how = how;
-}
 
 -- one step
 pub stepped : (step : Step) (a b : State) → Steps step a b → Runs a (step ∷ []) b
@@ -75,34 +55,3 @@ pub called_once : (a b : State) (id : ℕ) (call : Call) → Sat id (IsCalled ca
     → Runs a (Calls id call ∷ []) b
 called_once a b id call sat places names kept lines =
     (b, record { moves = (sat, places, names); kept = kept; lines = lines }, refl)
-
--- one call, and a note
-pub called_noted : (a b : State) (id : ℕ) (call : Call) (word : Word) → is_note word ≡ true
-    → Sat id (IsCalled call) a.seats b.seats → b.places ≡ a.places → b.names ≡ a.names → b.kept ≡ a.kept
-    → b.lines ≡ cond a.kept ((a.lines ++ line id (word_of call) ∷ []) ++ line id word ∷ []) a.lines
-    → Runs a (Calls id call ∷ Notes id word ∷ []) b
-called_noted a b id call word note sat places names kept lines =
-    let between : State = record {
-      seats = b.seats;
-      places = b.places;
-      names = b.names;
-      lines = cond a.kept (a.lines ++ line id (word_of call) ∷ []) a.lines;
-      kept = b.kept;
-    } in
-    let stands : slice_get b.seats id ≡ Some sat.new = rw sat.is (get_set_same a.seats id sat.old sat.new sat.was) in
-    let noted : Steps (Notes id word) between b = record {
-      moves = (
-        record {
-          old = sat.new;
-          new = sat.new;
-          was = stands;
-          is = sym (set_self b.seats id sat.new stands);
-          how = (refl, note);
-        },
-        refl,
-        refl,
-      );
-      kept = refl;
-      lines = lines ∙ noted_lines a.kept b.kept a.lines (line id (word_of call)) (line id word) kept;
-    } in
-    (between, record { moves = (sat, places, names); kept = kept; lines = refl }, (b, noted, refl))

@@ -1,7 +1,7 @@
 -- How a seat goes on: who was closed stays so, and who is on and wasn't disabled is on still.
 use Rattle.std.proofs.Common.{◌≡◌, ◌+◌, ◌-◌, ◌^◌, ◌<◌, ◌≤◌, min, max, Some, Bool, true, false, sym, ◌∙◌, ap, refl, arith}
 use Rattle.std.specs.Prelude.{◌&&◌, not, ℤ}
-use Rattle.std.proofs.lemmas.Bool.{false≢true}
+use Rattle.std.proofs.lemmas.Bool.{false≢true, and_parts}
 use Rattle.std.proofs.lemmas.Option.{cond_some}
 use Rattle.cip_plugin.specs.declared.kinds.Kind.{Kind}
 use Rattle.cip_plugin.specs.Calls.{Ask, Separate, Propagate, Price, Search, Branch, Enforce, OnEvent, Call, Init, InitSolve, Asked, ExitSolve, Exit}
@@ -40,11 +40,6 @@ Later-trans s t u first second = record {
       second.on (first.on on still few) (omega arith) (omega arith);
   gone = λ gone. second.gone (first.gone gone);
 }
-
--- both of two tests
-and_parts : (a b : Bool) → (a && b) ≡ true → (a ≡ true) × (b ≡ true)
-and_parts true b both = (refl, both)
-and_parts false b both = cc
 
 -- who is asked may be asked, and stands as before
 pub asked_stands : (fits : Bool) (now later : Standing) → asked_at fits now ≡ Some later

@@ -1,6 +1,5 @@
 -- Names that stand once.
 use Rattle.std.proofs.Common.{◌≡◌, ℕ, zero, suc, ◌+◌, ◌<◌, ◌≤◌, true, false, Bool, List, [], ◌∷◌, ◌++◌, length, Option, None, Some, cond, take, slice_get, refl, sym, ap, ◌∙◌, subst, arith, true≢false, add-one}
-use Rattle.std.specs.Prelude.{◌||◌}
 use Rattle.std.specs.List.{list_any, position_from}
 use Rattle.std.specs.Str.{bytes_eq}
 use Rattle.std.specs.Cmp.Lexicographic.{bytes_decides}
@@ -8,11 +7,9 @@ use Rattle.std.proofs.lemmas.Option.{none-some, same_Some}
 use Rattle.cip_problem.specs.Names.{number_of}
 use Rattle.cip_problem.specs.NamesOnce.{StandOnce}
 use Rattle.std.proofs.Math.ListN.{get_or}
+use Rattle.std.proofs.lemmas.Bool.{or_parts}
 use Rattle.cip_presolve.specs.EntriesLeft.{entries_left}
-
-or_parts : (a b : Bool) → (a || b) ≡ false → (a ≡ false) × (b ≡ false)
-or_parts true b h = absurd (true≢false h)
-or_parts false b h = (refl, h)
+use Rattle.cip_presolve.proofs.Free.{take_whole}
 
 -- a name that stands in a list is another than one that doesn't
 not_among : (x : List ℕ) (names : List (List ℕ)) (n : ℕ) (name : List ℕ) → list_any (bytes_eq x) names ≡ false → slice_get names n ≡ Some name → bytes_eq x name ≡ false
@@ -90,14 +87,8 @@ names_take gone names left new n name m i h e k = record { is = k ∙ ap (λ t. 
 pub new_name : (gone : List Bool) (names left : List (List ℕ)) (n : ℕ) (name : List ℕ) → NamesTo gone names left n → StandOnce names → slice_get names n ≡ Some name → number_of left name ≡ None
 new_name gone names left n name m h e = ap (λ ns. number_of ns name) m.is ∙ left_none gone names n name h e
 
-take_all : {X : Type 0} (xs : List X) (n : ℕ) → length xs ≤ n → take n xs ≡ xs
-take_all [] zero e = refl
-take_all [] (suc n) e = refl
-take_all (x ∷ xs) zero e = absurd (omega (arith, e))
-take_all (x ∷ xs) (suc n) e = ap (λ t. x ∷ t) (take_all xs n (omega (arith, e)))
-
 pub all_names : (gone : List Bool) (names left : List (List ℕ)) (n : ℕ) → NamesTo gone names left n → length gone ≤ n → length gone ≡ length names → left ≡ entries_left gone names
-all_names gone names left n m e l = m.is ∙ ap (λ t. entries_left t (take n names)) (take_all gone n e) ∙ ap (λ t. entries_left gone t) (take_all names n (omega (arith, e, l)))
+all_names gone names left n m e l = m.is ∙ ap (λ t. entries_left t (take n names)) (take_whole gone n e) ∙ ap (λ t. entries_left gone t) (take_whole names n (omega (arith, e, l)))
 
 -- ---- all names
 
@@ -119,7 +110,7 @@ pub one_copied : (names copy new : List (List ℕ)) (n : ℕ) (name : List ℕ) 
 one_copied names copy new n name c e k = record { is = k ∙ ap (λ t. t ++ name ∷ []) c.is ∙ take_one names n name e ∙ rw add-one refl }
 
 pub all_copied : (names copy : List (List ℕ)) (n : ℕ) → CopiedTo names copy n → length names ≤ n → copy ≡ names
-all_copied names copy n c e = c.is ∙ take_all names n e
+all_copied names copy n c e = c.is ∙ take_whole names n e
 
 pub ruleset names_stand = (no_names, names_skip, names_take, new_name, all_names)
 

@@ -1,8 +1,9 @@
 -- Rows without the columns whose sides are equal.
 use Rattle.std.proofs.Common.{◌≡◌, ℕ, zero, suc, ◌<◌, true, false, Bool, List, [], ◌∷◌, length, Option, None, Some, refl, sym, ap, ◌∙◌, subst, arith, true≢false}
-use Rattle.std.specs.Prelude.{All, ◌&&◌, if◌then◌else◌}
+use Rattle.std.specs.Prelude.{All, if◌then◌else◌}
 use Rattle.std.specs.List.{AllByRecursion}
 use Rattle.std.proofs.lemmas.Option.{none-some, same_Some}
+use Rattle.std.proofs.lemmas.Bool.{and_parts}
 use Rattle.cip_rational.specs.Rational.{ℚ, ◌+ℚ◌, ◌-ℚ◌, ◌*ℚ◌, zeroℚ, le_test}
 use Rattle.cip_rational.proofs.Rational.Order.{≤ℚ_trans, ≤ℚ_antisymm, le_of_test}
 use Rattle.cip_rational.proofs.Linear.{linear_same}
@@ -12,10 +13,6 @@ use Rattle.cip_problem.specs.Box.{Between, IsInBox, sides_at, sides_equal}
 use Rattle.cip_problem.proofs.Points.AtPlaces.{in_box_at}
 use Rattle.cip_search.specs.RowSteps.{side_less}
 use Rattle.cip_presolve.specs.RowReading.{only_value, with_value, fixed_from, before_others, free_terms, IsLeftRow}
-
-pub and_parts : (a b : Bool) → (a && b) ≡ true → (a ≡ true) × (b ≡ true)
-and_parts true b h = (refl, h)
-and_parts false b h = absurd (true≢false (sym h))
 
 -- the only value between sides is that of each point
 only_of : (low high : Option ℚ) (value v : ℚ) (t : Bool) → sides_equal low high ≡ t → (if t then low else None) ≡ Some value → Between low high v → v ≡ value

@@ -62,7 +62,7 @@ inside_keeps form own extent outer k i v b = sides_inside_holds extent outer (fo
 pub ruleset kept = (inside_keeps)
 
 -- a number whose parts are small is in range
-fits_by : (q : ℚ) (n d : ℤ) → n ≡ numerator q → magnitude n ≤ largest → d ≡ pos (denominator q) → magnitude d ≤ largest → fits_range q ≡ true
+pub fits_by : (q : ℚ) (n d : ℤ) → n ≡ numerator q → magnitude n ≤ largest → d ≡ pos (denominator q) → magnitude d ≤ largest → fits_range q ≡ true
 fits_by q n d e h k l = fits_in q (record { top = subst (λ t. magnitude t ≤ largest) e h; bottom = subst (λ t. magnitude t ≤ largest) k l })
 
 pub end_fits : (constant factor value sum : ℚ) (n d : ℤ) → product_added constant factor value ≡ Ok sum → n ≡ numerator sum → magnitude n ≤ largest → d ≡ pos (denominator sum) → magnitude d ≤ largest → fits_range (constant +ℚ factor *ℚ value) ≡ true

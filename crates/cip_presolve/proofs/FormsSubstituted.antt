@@ -9,7 +9,7 @@ use Rattle.cip_rational.proofs.Linear.{linear_same}
 use Rattle.cip_problem.specs.Program.{Row, Program}
 use Rattle.cip_problem.specs.Activity.{activity, value_at, StandsBelow}
 use Rattle.cip_problem.specs.Box.{Between}
-use Rattle.cip_problem.specs.Points.{IsSatisfied, IsFeasible}
+use Rattle.cip_problem.specs.Points.{IsSatisfied}
 use Rattle.cip_problem.proofs.Points.AtPlaces.{satisfied_at}
 use Rattle.cip_frac.specs.Outcomes.{product_added}
 use Rattle.cip_frac.proofs.Outcomes.{product_added-value}
@@ -20,14 +20,11 @@ use Rattle.cip_presolve.specs.RowSteps.{side_less}
 use Rattle.cip_search.proofs.Inside.{all_self}
 use Rattle.cip_search.proofs.Replacing.{row_replaced}
 use Rattle.cip_search.proofs.RowSteps.{less_above, less_below, above_less, below_less, get_set, get_other}
-use Rattle.cip_presolve.proofs.Singled.{count_same}
+use Rattle.cip_search.proofs.Apart.{long_set}
+use Rattle.cip_search.proofs.Pairing.{feasible_relaxed, exact_self}
+use Rattle.cip_presolve.proofs.Merged.{count_same}
 use Rattle.cip_presolve.specs.ColumnForms.{RowGives, IsSubstitute, IsReplaced, IsReplacedIn}
-use Rattle.cip_presolve.proofs.ImpliedSides.{stays}
-
-some_row : (rows : List Row) (number : ℕ) → number < length rows → (row : Row) × (slice_get rows number ≡ Some row)
-some_row [] number h = absurd (omega (arith, h))
-some_row (r ∷ rs) zero h = (r, refl)
-some_row (r ∷ rs) (suc number) h = some_row rs number (omega (arith, h))
+use Rattle.cip_presolve.proofs.Ruled.{some_row}
 
 -- ---- a row
 
@@ -66,9 +63,6 @@ value_given program place column form x i g h =
     let e = some_row program.rows place i in
     (g e.0 e.1).follows x (satisfied_at program.rows x place e.0 h.rows e.1)
 
-pub relaxed_of : (program : Program) (x : List ℚ) → IsFeasible program x → IsRelaxed program x
-relaxed_of program x h = record { within = h.within; rows = h.rows }
-
 place_kept : (program : Program) (number place : ℕ) (new row : Row) → number ≢ place → place < length program.rows → slice_get (slice_set program.rows number new) place ≡ Some row → slice_get program.rows place ≡ Some row
 place_kept program number place new row n i e =
     let s = some_row program.rows place i in
@@ -84,7 +78,7 @@ replaced_by program changed number place column form old new n i e g r k =
     (λ x h. old_holds old new column form r.replaced x
     (value_given (with_row program number new) place column form x (let c = count_same program.rows number new in omega (arith, i, c)) (gives_there program number place column form new n i g) h)
     (satisfied_at (slice_set program.rows number new) x number new h.rows (get_set program.rows number old new e)))
-    (λ y h. new_holds old new column form r.replaced y (value_given program place column form y i g (relaxed_of program y h)) (satisfied_at program.rows y number old h.rows e)))
+    (λ y h. new_holds old new column form r.replaced y (value_given program place column form y i g (feasible_relaxed program y h)) (satisfied_at program.rows y number old h.rows e)))
 
 pub still_gives : (program changed : Program) (number place column : ℕ) (form : Form) (new : Row) → number ≢ place → place < length program.rows → RowGives program place column form → changed ≡ with_row program number new → RowGives changed place column form
 still_gives program changed number place column form new n i g k = subst (λ p. RowGives p place column form) (sym k) (gives_there program number place column form new n i g)
@@ -104,7 +98,7 @@ new_stands program column form old new r h s = r.stands (length program.bounds) 
 pub rows_same : (program changed : Program) (number : ℕ) (new : Row) → changed ≡ with_row program number new → length changed.rows ≡ length program.rows
 rows_same program changed number new k = ap (λ (p : Program). length p.rows) k ∙ count_same program.rows number new
 
-pub ruleset row_steps = (stays, replaced_by, still_gives, still_substitute, new_stands, rows_same)
+pub ruleset row_steps = (exact_self, replaced_by, still_gives, still_substitute, new_stands, rows_same)
 
 -- ---- the cost
 
@@ -133,11 +127,6 @@ value_other (c ∷ costs) zero (suc n) v h = refl
 value_other (c ∷ costs) (suc k) zero v h = refl
 value_other (c ∷ costs) (suc k) (suc n) v h = value_other costs k n v (λ e. h (ap (λ m. suc m) e))
 
-length_set : (costs : List ℚ) (k : ℕ) (v : ℚ) → length (slice_set costs k v) ≡ length costs
-length_set [] k v = refl
-length_set (c ∷ costs) zero v = refl
-length_set (c ∷ costs) (suc k) v = ap (λ n. suc n) (length_set costs k v)
-
 module _ (costs x : List ℚ) (i s : ℕ) (c f : ℚ) (within : i < length costs) (source : s < length costs) (apart : i ≢ s) (is : value_at x i ≡ c +ℚ f *ℚ value_at x s) where
   abbrev own : ℚ
   own = value_at costs i
@@ -152,7 +141,7 @@ module _ (costs x : List ℚ) (i s : ℕ) (c f : ℚ) (within : i < length costs
   rest = dot (slice_set without s zeroℚ) x
 
   s_within : s < length without
-  s_within = let l = length_set costs i zeroℚ in omega (arith, source, l)
+  s_within = let l = long_set costs i zeroℚ in omega (arith, source, l)
 
   old_dot : dot costs x ≡ own *ℚ value_at x i +ℚ (other *ℚ value_at x s +ℚ rest)
   old_dot =
@@ -197,4 +186,4 @@ cost_moved_by program first changed place column form cost none constant given m
     ∙ ap (λ t. with_cost (with_cost program column zeroℚ (program.constant +ℚ value_at program.costs column *ℚ form.constant)) form.source t (program.constant +ℚ value_at program.costs column *ℚ form.constant)) sum))
     (cost_moved program place column form i l g s)
 
-pub ruleset cost_steps = (stays, cost_moved_by)
+pub ruleset cost_steps = (exact_self, cost_moved_by)

@@ -54,12 +54,12 @@ rows_stay : (rising : Bool) (old new : List Bool) (forms : List (Option Form)) (
 rows_stay rising old new forms [] f h = tt
 rows_stay rising old new forms (r ∷ rs) f h = (row_stays rising old new forms r f h.0, rows_stay rising old new forms rs f h.1)
 
-all_more : {X : Type 0} (P : X → Type 0) (xs : List X) (n : ℕ) (x : X) → slice_get xs n ≡ Some x → AllByRecursion P (take n xs) → P x → AllByRecursion P (take (suc n) xs)
+pub all_more : {X : Type 0} (P : X → Type 0) (xs : List X) (n : ℕ) (x : X) → slice_get xs n ≡ Some x → AllByRecursion P (take n xs) → P x → AllByRecursion P (take (suc n) xs)
 all_more P [] n x e h p = absurd (none-some x e)
 all_more P (y ∷ xs) zero x e h p = (subst P (sym (same_Some y x e)) p, tt)
 all_more P (y ∷ xs) (suc n) x e h p = (h.0, all_more P xs n x e h.1 p)
 
-all_more_one : {X : Type 0} (P : X → Type 0) (xs : List X) (n : ℕ) (x : X) → slice_get xs n ≡ Some x → AllByRecursion P (take n xs) → P x → AllByRecursion P (take (n + 1) xs)
+pub all_more_one : {X : Type 0} (P : X → Type 0) (xs : List X) (n : ℕ) (x : X) → slice_get xs n ≡ Some x → AllByRecursion P (take n xs) → P x → AllByRecursion P (take (n + 1) xs)
 all_more_one P xs n x e h p =
     let one : suc n ≡ n + 1 = omega arith in
     subst (λ m. AllByRecursion P (take m xs)) one (all_more P xs n x e h p)
@@ -125,9 +125,6 @@ pub ruleset locked_term = (fewer_self, term_lets, term_locks, lock_fewer)
 
 pub row_spent : (rising : Bool) (free : List Bool) (forms : List (Option Form)) (row : Row) → IsSpent forms row → RowFree rising free forms row
 row_spent rising free forms row s = inl s
-
-pub row_free : (rising : Bool) (free : List Bool) (forms : List (Option Form)) (row : Row) → TermsFree rising free row.low row.high row.terms → RowFree rising free forms row
-row_free rising free forms row h = inr h
 
 pub ruleset locked_row = (fewer_self, row_spent)
 

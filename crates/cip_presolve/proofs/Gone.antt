@@ -18,7 +18,7 @@ use Rattle.cip_presolve.specs.Pairs.{IsWholeIn, IsAssignment}
 use Rattle.cip_presolve.specs.Compacting.{Stays, IsGone, HoldsBack}
 use Rattle.cip_search.proofs.Spreading.{placed_value, spread_value, spread_gone, same_form, gathered_at}
 use Rattle.cip_search.proofs.CompactPairs.{sides_number}
-use Rattle.cip_presolve.specs.ColumnsOut.{IsPlainAndFree, GoesAtValue, GoesByForm, MayGo, MayAllGo, IsIn, TermsIn, SourcesStay}
+use Rattle.cip_presolve.specs.ColumnsOut.{GoesAtValue, GoesByForm, MayGo, MayAllGo, IsIn, TermsIn, SourcesStay}
 use Rattle.cip_presolve.specs.SpentRows.{IsSpent}
 use Rattle.cip_presolve.specs.EntriesLeft.{gone_of, entries_left, old_numbers, new_numbers}
 use Rattle.cip_presolve.specs.LeftProgram.{moved_term}
@@ -65,10 +65,6 @@ flag_of_in (Some f ∷ forms) (suc column) h = flag_of_in forms column h
 
 pub constant_value : (v : ℚ) (at : List ℚ) → form_value (constant_form v) at ≡ v
 constant_value v at = ap (λ t. v +ℚ t) (zero-*ℚ (value_at at 0)) ∙ +ℚ-zero v
-
-pub free_of : (program : Program) (column : ℕ) (form : Form) → MayGo program column form → IsPlainAndFree program column
-free_of program column form (inl g) = g.free
-free_of program column form (inr g) = g.free
 
 value_is : (program : Program) (column : ℕ) (form : Form) (g : GoesAtValue program column form) (point : List ℚ) → IsRelaxed program point → value_at point column ≡ g.value
 value_is program column form g point r =

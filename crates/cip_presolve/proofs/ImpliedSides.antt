@@ -16,13 +16,13 @@ use Rattle.cip_presolve.specs.NarrowedPrograms.{IsExactStep, with_sides}
 use Rattle.cip_presolve.specs.RowSteps.{divided_sides}
 use Rattle.cip_search.proofs.RowSteps.{divided}
 use Rattle.cip_search.proofs.Replacing.{sides_replaced}
-use Rattle.cip_search.proofs.Pairing.{exact_self}
 use Rattle.cip_presolve.specs.SingleRows.{single_sides}
 use Rattle.cip_presolve.proofs.Enclosing.{past_below}
 use Rattle.cip_presolve.proofs.Singled.{met_inside, inward_onward}
 use Rattle.cip_presolve.specs.Rests.{product_at, IsRestBelow, IsRestAbove, AreRests, IsDifference, Implies}
 use Rattle.cip_presolve.specs.RowReading.{Encloses}
 use Rattle.cip_search.proofs.Inside.{all_hold}
+use Rattle.cip_search.proofs.Pairing.{exact_self}
 use Rattle.cip_presolve.specs.Taken.{IsEnclosed, IsImplied}
 
 -- ---- the product at a place
@@ -102,13 +102,10 @@ enclosed_by program number row box extent g e h other k =
 
 pub ruleset enclosing = (enclosed_by)
 
--- it stays between the sides as bounds get stronger
+-- it exact_self between the sides as bounds get stronger
 pub stays_enclosed : (program changed : Program) (number : ℕ) (extent : Sides) → IsExactStep program changed → changed.rows ≡ program.rows → IsEnclosed program number extent → IsEnclosed changed number extent
 stays_enclosed program changed number extent s e h row g x w =
     h row (ap (λ (rows : List Row). slice_get rows number) (sym e) ∙ g) x (all_hold changed.bounds program.bounds x s.narrowed.inside w)
-
-pub stays : (program : Program) → IsExactStep program program
-stays program = exact_self program
 
 pub taken_by : (program changed : Program) (column : ℕ) (sides : Sides) → IsImplied program column sides → changed ≡ with_sides program column sides → IsExactStep program changed
 taken_by program changed column sides i e = subst (λ p. IsExactStep program p) (sym e) i.step
@@ -118,4 +115,4 @@ columns_same [] column sides = refl
 columns_same (s ∷ ss) zero sides = refl
 columns_same (s ∷ ss) (suc column) sides = ap (λ n. suc n) (columns_same ss column sides)
 
-pub ruleset taking = (stays, taken_by, columns_same)
+pub ruleset taking = (exact_self, taken_by, columns_same)

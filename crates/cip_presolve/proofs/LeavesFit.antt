@@ -1,14 +1,12 @@
 -- Whole values come back without overflow.
 use Rattle.std.proofs.Common.{◌≡◌, ◌⊎◌, ℕ, ◌/◌, ◌≤◌, ℤ, Bool, true, false, cond, List, Option, Some, Result, Ok, Err, slice_get, refl, sym, ap, ◌∙◌, subst, arith, inl, inr, true≢false}
 use Rattle.std.specs.Prelude.{pos, ◌+ℤ◌, ◌*ℤ◌, IsOk}
-use Rattle.std.proofs.lemmas.Nat.Gcd.{IsGcd-swap}
 use Rattle.cip_rational.specs.Gcd.{gcd}
-use Rattle.cip_rational.proofs.Gcd.{gcd_unique}
-use Rattle.cip_rational.proofs.Integers.{gcd_one, times_one}
+use Rattle.cip_rational.proofs.Integers.{times_one}
 use Rattle.cip_rational.specs.Rational.{ℚ, ◌+ℚ◌, ◌*ℚ◌, zeroℚ, IsWhole, integer, numerator, denominator}
 use Rattle.cip_rational.specs.Range.{largest, magnitude, fits_range, raised, sum_overflows, product_overflows}
 use Rattle.cip_rational.proofs.Range.InRange.{fits_out, least_common, sum_in, fits_product}
-use Rattle.cip_rational.proofs.WithZero.{sum_overflows-zero, zero-product_overflows}
+use Rattle.cip_rational.proofs.WithZero.{sum_overflows-zero, zero-product_overflows, gcd_left}
 use Rattle.cip_rational.proofs.Rational.Lowest.{numerator-integer}
 use Rattle.cip_rational.proofs.Rational.Ring.{zero-*ℚ}
 use Rattle.cip_rational.proofs.Rational.Rounding.{integer-add}
@@ -41,9 +39,6 @@ added_ok : (constant factor value : ℚ) → product_overflows factor value ≡ 
 added_ok constant factor value p s =
     product_then (product_overflows factor value) _ (factor *ℚ value) (λ product. sum_outcome constant product) p
     (sum_ok (sum_overflows constant (factor *ℚ value)) _ (constant +ℚ factor *ℚ value) s)
-
-gcd_left : (d : ℕ) → gcd 1 d ≡ 1
-gcd_left d = gcd_unique 1 d 1 (IsGcd-swap d 1 1 (gcd_one d))
 
 whole_gcd : (a b : ℚ) → IsWhole a → gcd (denominator a) (denominator b) ≡ 1
 whole_gcd a b w = ap (λ d. gcd d (denominator b)) (is_whole-denominator a w) ∙ gcd_left (denominator b)

@@ -3,6 +3,7 @@ use Rattle.std.proofs.Common.{◌≡◌, ◌⊎◌, ℕ, zero, suc, ◌<◌, ◌
 use Rattle.std.specs.Prelude.{map, not, ◌&&◌, ◌||◌, All, ⊤, slice_index_or}
 use Rattle.std.specs.List.{AllByRecursion}
 use Rattle.std.proofs.lemmas.Option.{slice_get_within}
+use Rattle.std.proofs.lemmas.Bool.{or_parts, or_cases}
 use Rattle.cip_rational.specs.Rational.{ℚ, ◌≤ℚ◌}
 use Rattle.cip_problem.specs.Program.{Choice, Term, Sides, Row, Program}
 use Rattle.cip_problem.specs.WellFormed.{IsWellFormed, IsChoice, columns}
@@ -55,19 +56,11 @@ abbrev stay_flags : List Bool → List Row → List Bool
 stay_flags gone [] = []
 stay_flags gone (r ∷ rs) = not (is_dropped gone r) ∷ stay_flags gone rs
 
-either : (a b : Bool) → (a || b) ≡ true → (a ≡ true) ⊎ (b ≡ true)
-either true b h = inl refl
-either false b h = inr h
-
-neither : (a b : Bool) → (a || b) ≡ false → (a ≡ false) × (b ≡ false)
-neither true b h = absurd (true≢false h)
-neither false b h = (refl, h)
-
 -- terms on columns that aren't gone stand on columns that stay
 terms_in : (forms : List (Option Form)) (terms : List Term) → AllByRecursion (λ t. t.column < length forms) terms → stands_on_gone (gone_of forms) terms ≡ false → TermsIn forms terms
 terms_in forms [] below e = tt
 terms_in forms (t ∷ ts) below e =
-    let p = neither (slice_index_or (gone_of forms) t.column false) (stands_on_gone (gone_of forms) ts) e in
+    let p = or_parts (slice_index_or (gone_of forms) t.column false) (stands_on_gone (gone_of forms) ts) e in
     (in_by_flag forms t.column below.0 p.0, terms_in forms ts below.1 p.1)
 
 none_gone : (forms : List (Option Form)) (terms : List Term) → TermsIn forms terms → stands_on_gone (gone_of forms) terms ≡ false
@@ -75,7 +68,7 @@ none_gone forms [] h = refl
 none_gone forms (t ∷ ts) h = ap (λ b. b || stands_on_gone (gone_of forms) ts) (flag_of_in forms t.column h.0) ∙ none_gone forms ts h.1
 
 row_in : (forms : List (Option Form)) (row : Row) → AllByRecursion (λ t. t.column < length forms) row.terms → is_dropped (gone_of forms) row ≡ false → TermsIn forms row.terms
-row_in forms row below e = terms_in forms row.terms below (neither (says_nothing row) (stands_on_gone (gone_of forms) row.terms) e).1
+row_in forms row below e = terms_in forms row.terms below (or_parts (says_nothing row) (stands_on_gone (gone_of forms) row.terms) e).1
 
 -- rows that aren't dropped stand on columns that stay
 abbrev KeptIn : List (Option Form) → List Bool → List Row → Type 0
@@ -120,7 +113,7 @@ module _ (forms : List (Option Form)) where
   moved_rows (r ∷ rs) h = one_row (is_dropped (gone_of forms) r) r rs h.0 refl (moved_rows rs h.1)
 
   one_left : (compacted : Program) (sources : SourcesStay forms) (t : Bool) (r : Row) (rs : List Row) → AllByRecursion (λ t. t.column < length forms) r.terms → is_dropped (gone_of forms) r ≡ t → RowGoes forms r → AreLeft compacted forms (stay_flags (gone_of forms) rs) rs → AreLeft compacted forms (not t ∷ stay_flags (gone_of forms) rs) (r ∷ rs)
-  one_left compacted sources true r rs below e g k = (dropped_holds compacted forms r sources g (either (says_nothing r) (stands_on_gone (gone_of forms) r.terms) e), k)
+  one_left compacted sources true r rs below e g k = (dropped_holds compacted forms r sources g (or_cases (says_nothing r) (stands_on_gone (gone_of forms) r.terms) e), k)
   one_left compacted sources false r rs below e g k = (row_in forms r below e, k)
 
   are_left : (compacted : Program) (sources : SourcesStay forms) (rows : List Row) → RowsBelow (length forms) rows → RowsGo forms rows → AreLeft compacted forms (stay_flags (gone_of forms) rows) rows

@@ -1,11 +1,10 @@
 -- Which columns may be left out.
-use Rattle.std.proofs.Common.{◌≡◌, ◌⊎◌, ℕ, zero, suc, ◌+◌, ◌<◌, ◌≤◌, Bool, true, List, [], ◌∷◌, ◌++◌, length, Option, None, Some, IfSome, slice_get, refl, sym, ap, ◌∙◌, subst, arith, inl, inr}
-use Rattle.std.specs.Prelude.{slice_set, ℤ, pos}
+use Rattle.std.proofs.Common.{◌≡◌, ◌⊎◌, ℕ, zero, suc, ◌+◌, ◌<◌, Bool, true, List, [], ◌∷◌, ◌++◌, length, Option, None, Some, IfSome, slice_get, refl, sym, ap, ◌∙◌, subst, arith, inl, inr}
+use Rattle.std.specs.Prelude.{slice_set}
 use Rattle.std.proofs.Math.ListN.{get_or}
 use Rattle.std.proofs.lemmas.Option.{none-some, same_Some, slice_get-get_or}
-use Rattle.cip_rational.specs.Rational.{ℚ, zeroℚ, IsWhole, numerator, denominator}
-use Rattle.cip_rational.specs.Range.{fits_range, magnitude, largest}
-use Rattle.cip_rational.proofs.Range.InRange.{fits_in}
+use Rattle.cip_rational.specs.Rational.{ℚ, zeroℚ, IsWhole}
+use Rattle.cip_rational.specs.Range.{fits_range}
 use Rattle.cip_problem.specs.Program.{Program, no_row}
 use Rattle.cip_problem.specs.Box.{sides_at}
 use Rattle.cip_problem.proofs.Points.AtPlaces.{satisfied_at}
@@ -24,10 +23,6 @@ goes_at_value program column value form only is free whole w f in_range =
     record { value = value; is = is; free = free; fixed = record { low = both.0; high = both.1 }; whole = λ h. f (same_Some whole true (sym w ∙ h)); in_range = in_range }
 
 pub ruleset at_value = (goes_at_value)
-
--- a number whose parts are small is in range
-pub fits_by : (q : ℚ) (n d : ℤ) → n ≡ numerator q → magnitude n ≤ largest → d ≡ pos (denominator q) → magnitude d ≤ largest → fits_range q ≡ true
-fits_by q n d e h k l = fits_in q (record { top = subst (λ t. magnitude t ≤ largest) e h; bottom = subst (λ t. magnitude t ≤ largest) k l })
 
 -- ---- one more
 
@@ -88,7 +83,7 @@ pub ruleset by_form = (goes_by_form)
 
 -- ---- a form that is added
 
-set_long : {X : Type 0} (xs : List X) (n : ℕ) (x : X) → length (slice_set xs n x) ≡ length xs
+pub set_long : {X : Type 0} (xs : List X) (n : ℕ) (x : X) → length (slice_set xs n x) ≡ length xs
 set_long [] n x = refl
 set_long (y ∷ xs) zero x = refl
 set_long (y ∷ xs) (suc n) x = ap (λ k. suc k) (set_long xs n x)

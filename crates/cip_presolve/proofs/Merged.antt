@@ -14,9 +14,9 @@ use Rattle.cip_lin.specs.MetSides.{is_past}
 use Rattle.cip_search.specs.NarrowedPrograms.{IsExactStep, IsInfeasible, with_row}
 use Rattle.cip_search.specs.RowSteps.{merged_row}
 use Rattle.cip_search.proofs.RowSteps.{merged}
+use Rattle.cip_search.proofs.Pairing.{exact_self}
 use Rattle.cip_presolve.proofs.Enclosing.{past_below}
 use Rattle.cip_presolve.specs.RowsMet.{sides_of}
-use Rattle.cip_presolve.proofs.Chained.{stays}
 use Rattle.cip_presolve.proofs.Free.{take_whole}
 
 pub same_term : (one other : Term) → one.column ≡ other.column → one.coefficient ≡ other.coefficient → one ≡ other
@@ -76,4 +76,4 @@ count_same (r ∷ rs) (suc number) row = ap (λ n. suc n) (count_same rs number 
 pub terms_stand : (columns : ℕ) (row new : Row) (low high : Option ℚ) → StandsBelow columns row.terms → new ≡ record { terms = row.terms; low = low; high = high } → StandsBelow columns new.terms
 terms_stand columns row new low high h e = subst (λ (r : Row). StandsBelow columns r.terms) (sym e) h
 
-pub ruleset merging = (stays, merged_by, never_met, count_same, terms_stand)
+pub ruleset merging = (exact_self, merged_by, never_met, count_same, terms_stand)

@@ -5,6 +5,7 @@ use Rattle.std.proofs.lemmas.Option.{none-some, same_Some, slice_get_read}
 use Rattle.std.proofs.Math.ListN.{get_or}
 use Rattle.cip_problem.specs.Program.{Term, Row}
 use Rattle.cip_presolve.specs.LeftProgram.{moved_row, CanMove, AllMove, stands_on_gone, is_dropped, staying_rows}
+use Rattle.cip_presolve.proofs.Merged.{count_same}
 
 -- the first rows are moved, the others as they were
 pub record MovedTo (numbers : List ℕ) (old rows : List Row) (n : ℕ) : Type 0 where
@@ -37,15 +38,10 @@ set_next numbers [] n row g = absurd (none-some row g)
 set_next numbers (r ∷ rs) zero row g = ap (λ t. moved_row numbers t ∷ rs) (sym (same_Some r row g))
 set_next numbers (r ∷ rs) (suc n) row g = ap (λ t. moved_row numbers r ∷ t) (set_next numbers rs n row g)
 
-set_long : (rows : List Row) (n : ℕ) (row : Row) → length (slice_set rows n row) ≡ length rows
-set_long [] n row = refl
-set_long (r ∷ rs) zero row = refl
-set_long (r ∷ rs) (suc n) row = ap (λ k. suc k) (set_long rs n row)
-
 pub next_moved : (numbers : List ℕ) (old rows changed : List Row) (n : ℕ) (row new : Row) → MovedTo numbers old rows n → n < length rows → row ≡ get_or rows n row → new ≡ moved_row numbers row → changed ≡ slice_set rows n new → MovedTo numbers old changed (n + 1)
 next_moved numbers old rows changed n row new m below is e k = record {
   are = k ∙ ap (λ (rs : List Row). slice_set rs n new) m.are ∙ ap (λ t. slice_set (map (moved_row numbers) (take n old) ++ drop n old) n t) e ∙ set_next numbers old n row (old_row numbers old rows n row m (slice_get_read rows (length rows) n row refl below is)) ∙ rw add-one refl;
-  long = ap (λ (rs : List Row). length rs) k ∙ set_long rows n new ∙ m.long;
+  long = ap (λ (rs : List Row). length rs) k ∙ count_same rows n new ∙ m.long;
 }
 
 end_of : (numbers : List ℕ) (old : List Row) (n : ℕ) → length old ≤ n → map (moved_row numbers) (take n old) ++ drop n old ≡ map (moved_row numbers) old

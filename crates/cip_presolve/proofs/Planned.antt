@@ -1,16 +1,16 @@
 -- Columns that go where they cost least, with those that follow them, all at once: a step.
 use Rattle.std.proofs.Common.{◌≡◌, ◌⊎◌, ℕ, zero, suc, ◌<◌, ◌≤◌, Bool, true, false, List, [], ◌∷◌, length, Option, None, Some, IfSome, slice_get, refl, sym, ap, ◌∙◌, subst, arith, inl, inr, true≢false}
-use Rattle.std.specs.Prelude.{◌&&◌}
 use Rattle.std.proofs.lemmas.Option.{none-some, same_Some}
+use Rattle.std.proofs.lemmas.Bool.{and_from}
 use Rattle.cip_rational.specs.Rational.{ℚ, ◌+ℚ◌, ◌*ℚ◌, negate, zeroℚ, ◌≤ℚ◌, IsWhole}
 use Rattle.cip_rational.specs.Sums.{dot}
 use Rattle.cip_rational.proofs.Rational.Order.{≤ℚ_refl, ≤ℚ_trans, ≤ℚ_of_eq, test_of_le}
-use Rattle.cip_rational.proofs.Rational.Ring.{negate_negate, negate-*ℚ, *ℚ-negate, zero-*ℚ}
+use Rattle.cip_rational.proofs.Rational.Ring.{negate_negate, negate-*ℚ, *ℚ-negate}
 use Rattle.cip_rational.proofs.Rational.Monotone.{+ℚ_mono, *ℚ_mono}
 use Rattle.cip_rational.proofs.Rational.Inverse.{*ℚ_antitone}
-use Rattle.cip_problem.specs.Program.{Term, Sides, Row, Choice, Plain, Open, Off, On, Program}
+use Rattle.cip_problem.specs.Program.{Term, Sides, Row, Program}
 use Rattle.cip_problem.specs.Activity.{value_at, activity}
-use Rattle.cip_problem.specs.Box.{Between, IsInBox, sides_at, low_inside, high_inside, sides_inside}
+use Rattle.cip_problem.specs.Box.{Between, sides_at, low_inside, high_inside, sides_inside}
 use Rattle.cip_problem.specs.Choices.{choice_at, Allows, is_open}
 use Rattle.cip_problem.specs.Points.{AreWhole, IsSatisfied, IsFeasible, cost_of}
 use Rattle.cip_problem.proofs.Box.SideTests.{sides_inside_holds}
@@ -20,7 +20,9 @@ use Rattle.cip_search.specs.Forms.{Form, form_value}
 use Rattle.cip_search.specs.Moving.{LetsFall, fixed_sides}
 use Rattle.cip_search.specs.Pairs.{IsHeldFast, HasNear}
 use Rattle.cip_search.proofs.Inside.{AllInside, inside_self}
-use Rattle.cip_search.proofs.Pairing.{exact_self, exact_step}
+use Rattle.cip_search.proofs.Pairing.{exact_self, exact_step, no_factor}
+use Rattle.cip_search.proofs.SeenColumns.{in_box}
+use Rattle.cip_search.proofs.Moving.{not_open_allows}
 use Rattle.cip_presolve.specs.ColumnsOut.{IsIn, GoesByForm, MayGo, MayAllGo, TermsIn, SourcesStay}
 use Rattle.cip_presolve.specs.SpentRows.{IsSpent, RowGoes, RowsGo}
 use Rattle.cip_presolve.specs.FreeColumns.{turned, TermsFree, RowFree, RowsFree}
@@ -61,12 +63,6 @@ target_within (p ∷ plan) zero v e = omega arith
 target_within (p ∷ plan) (suc column) v e = let k = target_within plan column v e in omega (arith, k)
 
 -- ---- columnwise
-
-box_of : (box : List Sides) (y : List ℚ) → length y ≡ length box → ((column : ℕ) → column < length box → Between (sides_at box column).low (sides_at box column).high (value_at y column)) → IsInBox box y
-box_of [] [] e f = tt
-box_of [] (v ∷ y) e f = absurd (omega (arith, e))
-box_of (s ∷ ss) [] e f = absurd (omega (arith, e))
-box_of (s ∷ ss) (v ∷ y) e f = (f 0 (omega arith), box_of ss y (omega (arith, e)) (λ column h. f (suc column) (omega (arith, h))))
 
 inside_of : (inner outer : List Sides) → length inner ≡ length outer → ((column : ℕ) → column < length outer → sides_inside (sides_at inner column) (sides_at outer column) ≡ true) → AllInside inner outer
 inside_of [] [] e f = tt
@@ -118,24 +114,11 @@ high_fixed : (high : Option ℚ) (v : ℚ) → IfSome high (λ side. v ≤ℚ si
 high_fixed None v h = refl
 high_fixed (Some high) v h = test_of_le h
 
-and_both : (a b : Bool) → a ≡ true → b ≡ true → (a && b) ≡ true
-and_both true b h k = k
-and_both false b h k = h
-
 fixed_inside : (sides : Sides) (v : ℚ) → Between sides.low sides.high v → sides_inside (fixed_sides v) sides ≡ true
-fixed_inside sides v h = and_both _ _ (low_fixed sides.low v h.above) (high_fixed sides.high v h.below)
+fixed_inside sides v h = and_from _ _ (low_fixed sides.low v h.above) (high_fixed sides.high v h.below)
 
 fixed_holds : (v : ℚ) → Between (fixed_sides v).low (fixed_sides v).high v
 fixed_holds v = record { above = ≤ℚ_refl v; below = ≤ℚ_refl v }
-
-not_open_allows : (choice : Choice) (v : ℚ) → is_open choice ≡ false → Allows choice v
-not_open_allows Plain v e = tt
-not_open_allows (Open own) v e = absurd (true≢false e)
-not_open_allows Off v e = tt
-not_open_allows On v e = tt
-
-no_factor : (factor v w : ℚ) → factor ≡ zeroℚ → factor *ℚ v ≡ factor *ℚ w
-no_factor factor v w e = ap (λ t. t *ℚ v) e ∙ zero-*ℚ v ∙ sym (ap (λ t. t *ℚ w) e ∙ zero-*ℚ w)
 
 -- ---- cases
 
@@ -345,7 +328,7 @@ module _ (rising : Bool) (free : List Bool) (program : Program) (forms : List (O
 
   feasible_new : (changed : Program) → RowsGo forms program.rows → RowsFree rising free forms program.rows → IsTaken plan program changed → IsFeasible (record program { bounds = changed.bounds }) new
   feasible_new changed rows lets k = record {
-    within = box_of changed.bounds new (length-moved plan y ∙ y_long ∙ sym k.long)
+    within = in_box changed.bounds new (length-moved plan y ∙ y_long ∙ sym k.long)
         (λ column l. in_changed changed column (omega (arith, l, k.long)) k (target_of plan column (target_at plan column) refl));
     whole = wholes_of program.integral y new h.whole (length-moved plan y) (λ column l w. whole_new column w (target_of plan column (target_at plan column) refl));
     choices = λ column. allowed_new column (target_of plan column (target_at plan column) refl);

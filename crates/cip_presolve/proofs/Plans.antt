@@ -11,10 +11,12 @@ use Rattle.cip_problem.specs.Choices.{choice_at, is_open}
 use Rattle.cip_search.specs.NarrowedPrograms.{with_sides}
 use Rattle.cip_search.specs.Forms.{Form}
 use Rattle.cip_search.specs.Moving.{fixed_sides}
+use Rattle.cip_search.proofs.Moving.{sides_set}
 use Rattle.cip_presolve.specs.DraftParts.{IsDraft}
 use Rattle.cip_presolve.specs.ColumnsOut.{IsIn, MayAllGo, SourcesStay}
 use Rattle.cip_presolve.specs.FreeColumns.{RowsFree}
 use Rattle.cip_presolve.specs.Moves.{MovesTo, target_at, Follows, AreTargets, IsEntry, AreEntries, IsPlan, IsPlanned, with_target, IsTaken}
+use Rattle.cip_presolve.proofs.ImpliedSides.{columns_same}
 
 -- ---- one entry more
 
@@ -178,16 +180,6 @@ pub record TakenTo (plan : List (Option ℚ)) (old new : Program) (count : ℕ) 
 pub none_taken : (plan : List (Option ℚ)) (program : Program) → TakenTo plan program program 0
 none_taken plan program = record { same = refl; long = refl; moved = λ column value l h e. absurd (omega (arith, h)); stays = λ column e. refl }
 
-long_set : (box : List Sides) (n : ℕ) (sides : Sides) → length (slice_set box n sides) ≡ length box
-long_set [] n sides = refl
-long_set (s ∷ ss) zero sides = refl
-long_set (s ∷ ss) (suc n) sides = ap (λ k. suc k) (long_set ss n sides)
-
-sides_set : (box : List Sides) (n : ℕ) (sides : Sides) → n < length box → sides_at (slice_set box n sides) n ≡ sides
-sides_set [] n sides h = absurd (omega (arith, h))
-sides_set (s ∷ ss) zero sides h = refl
-sides_set (s ∷ ss) (suc n) sides h = sides_set ss n sides (omega (arith, h))
-
 sides_other : (box : List Sides) (n column : ℕ) (sides : Sides) → ¬ (column ≡ n) → sides_at (slice_set box n sides) column ≡ sides_at box column
 sides_other [] n column sides h = refl
 sides_other (s ∷ ss) zero zero sides h = absurd (h refl)
@@ -207,7 +199,7 @@ module _ (plan : List (Option ℚ)) (old mid : Program) (count : ℕ) (t : Taken
   some_next : (v : ℚ) → count < length old.bounds → target_at plan count ≡ Some v → TakenTo plan old (with_sides mid count (fixed_sides v)) (count + 1)
   some_next v inside e = record {
     same = ap (λ (p : Program). record p { bounds = slice_set mid.bounds count (fixed_sides v) }) t.same;
-    long = long_set mid.bounds count (fixed_sides v) ∙ t.long;
+    long = columns_same mid.bounds count (fixed_sides v) ∙ t.long;
     moved = λ column value l h k. go column value l k (spot_of count column) h;
     stays = λ column k. sides_other mid.bounds count column (fixed_sides v) (λ h. none-some v (sym k ∙ ap (target_at plan) h ∙ e)) ∙ t.stays column k;
   }

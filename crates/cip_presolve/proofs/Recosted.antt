@@ -2,6 +2,7 @@
 use Rattle.std.proofs.Common.{◌≡◌, ℕ, true, false, Bool, Option, None, Some, Ok, slice_get, refl, sym, ap, ◌∙◌, subst, true≢false}
 use Rattle.std.specs.Prelude.{if◌then◌else◌}
 use Rattle.std.proofs.lemmas.Option.{none-some}
+use Rattle.std.proofs.lemmas.Bool.{and_parts}
 use Rattle.cip_rational.specs.Rational.{ℚ, ◌+ℚ◌, ◌*ℚ◌, zeroℚ, IsWhole, le_test}
 use Rattle.cip_rational.proofs.Rational.Order.{≤ℚ_antisymm, le_of_test}
 use Rattle.cip_problem.specs.Program.{Sides, Program}
@@ -11,9 +12,8 @@ use Rattle.cip_presolve.specs.Outcomes.{product_added}
 use Rattle.cip_lin.proofs.PassedOn.{product_added-value}
 use Rattle.cip_presolve.specs.NarrowedPrograms.{IsExactStep, IsInfeasible, with_cost}
 use Rattle.cip_search.proofs.RowSteps.{recosted, not_whole}
+use Rattle.cip_search.proofs.Pairing.{exact_self}
 use Rattle.cip_presolve.specs.RowReading.{only_value}
-use Rattle.cip_presolve.proofs.Ruled.{stays}
-use Rattle.cip_presolve.proofs.FixedColumns.{and_parts}
 
 both_of : (low high : Option ℚ) (value : ℚ) (t : Bool) → sides_equal low high ≡ t → (if t then low else None) ≡ Some value → (low ≡ Some value) × (high ≡ Some value)
 both_of None high value true e k = absurd (none-some value k)
@@ -38,4 +38,4 @@ fractional_by program column value e w n =
     let both = both_sides (sides_at program.bounds column) value (sym e) in
     not_whole program column value w both.0 both.1 n
 
-pub ruleset fixed_columns = (stays, recosted_by, fractional_by)
+pub ruleset fixed_columns = (exact_self, recosted_by, fractional_by)

@@ -20,6 +20,7 @@ use Rattle.cip_presolve.specs.RowSums.{least_side, least_of, least_at, least_add
 use Rattle.cip_presolve.specs.RowReading.{Encloses}
 use Rattle.cip_presolve.proofs.FixedColumns.{from_rec, to_rec}
 use Rattle.cip_presolve.specs.Rests.{IsLeastProduct, IsGreatestProduct, product_at, IsDifference, IsRestBelow, IsRestAbove, AreRests}
+use Rattle.cip_search.proofs.Moving.{set_same, set_other}
 
 -- ---- products at one side
 
@@ -51,18 +52,6 @@ pub difference_is : (minuend subtrahend difference : ℚ) → difference ≡ min
 difference_is minuend subtrahend difference h = record { minuend = minuend; subtrahend = subtrahend; is_side = refl; is_rest = refl; value = h }
 
 -- ---- a point with the value of one column replaced by a side
-
-value_same : (x : List ℚ) (column : ℕ) (v : ℚ) → column < length x → value_at (slice_set x column v) column ≡ v
-value_same [] column v h = absurd (omega (arith, h))
-value_same (w ∷ x) zero v h = refl
-value_same (w ∷ x) (suc column) v h = value_same x column v (omega (arith, h))
-
-pub value_other : (x : List ℚ) (column place : ℕ) (v : ℚ) → place ≢ column → value_at (slice_set x column v) place ≡ value_at x place
-value_other [] column place v h = refl
-value_other (w ∷ x) zero zero v h = absurd (h refl)
-value_other (w ∷ x) zero (suc place) v h = refl
-value_other (w ∷ x) (suc column) zero v h = refl
-value_other (w ∷ x) (suc column) (suc place) v h = value_other x column place v (λ e. h (ap (λ n. suc n) e))
 
 box_with : (box : List Sides) (x : List ℚ) (column : ℕ) (v : ℚ) → IsInBox box x → Between (sides_at box column).low (sides_at box column).high v → IsInBox box (slice_set x column v)
 box_with [] [] column v h b = tt
@@ -140,17 +129,17 @@ only_at (t ∷ ts) (suc k) a l =
 absent : (ts : List Term) (x : List ℚ) (column : ℕ) (v : ℚ) → AllByRecursion (λ u. u.column ≢ column) ts → activity ts (slice_set x column v) ≡ activity ts x
 absent [] x column v h = refl
 absent (t ∷ ts) x column v h =
-    ap (λ w. t.coefficient *ℚ w +ℚ activity ts (slice_set x column v)) (value_other x column t.column v h.0)
+    ap (λ w. t.coefficient *ℚ w +ℚ activity ts (slice_set x column v)) (set_other x column t.column v h.0)
     ∙ ap (λ w. t.coefficient *ℚ value_at x t.column +ℚ w) (absent ts x column v h.1)
 
 replaced : (ts : List Term) (k : ℕ) (x : List ℚ) (column : ℕ) (v : ℚ) → column < length x → k < length ts → OnlyAt column k ts → activity ts (slice_set x column v) +ℚ product_at ts k x ≡ activity ts x +ℚ coefficient_at ts k *ℚ v
 replaced [] k x column v i l o = absurd (omega (arith, l))
 replaced (t ∷ ts) zero x column v i l o =
-    let p : t.coefficient *ℚ value_at (slice_set x column v) t.column ≡ t.coefficient *ℚ v = ap (λ w. t.coefficient *ℚ w) (ap (value_at (slice_set x column v)) o.0 ∙ value_same x column v i) in
+    let p : t.coefficient *ℚ value_at (slice_set x column v) t.column ≡ t.coefficient *ℚ v = ap (λ w. t.coefficient *ℚ w) (ap (value_at (slice_set x column v)) o.0 ∙ set_same x column v i) in
     let q = absent ts x column v o.1 in
     linear_same ((t.coefficient *ℚ value_at (slice_set x column v) t.column) ∷ (t.coefficient *ℚ v) ∷ (t.coefficient *ℚ value_at x t.column) ∷ activity ts (slice_set x column v) ∷ activity ts x ∷ []) (λ s w. omega (arith, s.same_out))
 replaced (t ∷ ts) (suc k) x column v i l o =
-    let p : t.coefficient *ℚ value_at (slice_set x column v) t.column ≡ t.coefficient *ℚ value_at x t.column = ap (λ w. t.coefficient *ℚ w) (value_other x column t.column v o.0) in
+    let p : t.coefficient *ℚ value_at (slice_set x column v) t.column ≡ t.coefficient *ℚ value_at x t.column = ap (λ w. t.coefficient *ℚ w) (set_other x column t.column v o.0) in
     let q : activity ts (slice_set x column v) +ℚ product_at ts k x ≡ activity ts x +ℚ coefficient_at ts k *ℚ v = replaced ts k x column v i (omega (arith, l)) o.1 in
     linear_same ((t.coefficient *ℚ value_at (slice_set x column v) t.column) ∷ (t.coefficient *ℚ value_at x t.column) ∷ activity ts (slice_set x column v) ∷ activity ts x ∷ product_at ts k x ∷ (coefficient_at ts k *ℚ v) ∷ []) (λ s w. omega (arith, s.same_out))
 

@@ -10,7 +10,7 @@ use Rattle.cip_search.proofs.RowSteps.{dropped, broken, shifted}
 use Rattle.cip_presolve.specs.RowReading.{IsLeftRow}
 use Rattle.cip_presolve.specs.RuleEnds.{IsCleaned}
 
-some_row : (rows : List Row) (number : ℕ) → number < length rows → (row : Row) × (slice_get rows number ≡ Some row)
+pub some_row : (rows : List Row) (number : ℕ) → number < length rows → (row : Row) × (slice_get rows number ≡ Some row)
 some_row [] number h = absurd (omega (arith, h))
 some_row (r ∷ rs) zero h = (r, refl)
 some_row (r ∷ rs) (suc number) h = some_row rs number (omega (arith, h))
@@ -23,9 +23,6 @@ dropped_by program changed number i f e =
 pub broken_by : (program : Program) (number : ℕ) → number < length program.rows → ((row : Row) → slice_get program.rows number ≡ Some row → HoldsNowhere program.bounds row) → IsInfeasible program
 broken_by program number i f = let r = some_row program.rows number i in broken program number r.0 r.1 (f r.0 r.1)
 
-pub stays : (program : Program) → IsExactStep program program
-stays program = exact_self program
-
 pub left_over : {E : Type 0} (program : Program) (number : ℕ) (old : Row) (box : List Sides) (found : Result (Option Row) E) → slice_get program.rows number ≡ Some old → box ≡ program.bounds → IfOk found (λ o. IfSome o (λ new. IsLeftRow box old new)) → IfOk found (λ o. IfSome o (IsCleaned program number))
 left_over program number old box (Ok (Some new)) h e l =
     let left : IsLeftRow program.bounds old new = subst (λ (b : List Sides). IsLeftRow b old new) e l in
@@ -36,10 +33,7 @@ left_over program number old box (Err error) h e l = tt
 pub cleaned_by : (program changed : Program) (number : ℕ) (new : Row) → IsCleaned program number new → changed ≡ with_row program number new → IsExactStep program changed
 cleaned_by program changed number new c e = subst (λ p. IsExactStep program p) (sym e) c.step
 
-pub follows : (first second third : Program) → IsExactStep first second → IsExactStep second third → IsExactStep first third
-follows first second third a b = exact_after first second third a b
-
 -- what rows come to by their extents, and steps one after another
-pub ruleset by_extent = (dropped_by, broken_by, stays)
+pub ruleset by_extent = (dropped_by, broken_by, exact_self)
 
-pub ruleset chains = (stays, follows)
+pub ruleset chains = (exact_self, exact_after)

@@ -1,6 +1,6 @@
 -- Rows of one term.
-use Rattle.std.proofs.Common.{◌≡◌, ℕ, zero, suc, ◌<◌, true, false, Bool, List, [], ◌∷◌, length, Option, None, Some, IfSome, slice_get, refl, sym, ap, ◌∙◌, subst, lit<}
-use Rattle.std.specs.Prelude.{slice_set, ◌&&◌}
+use Rattle.std.proofs.Common.{◌≡◌, ℕ, ◌<◌, true, false, Bool, List, [], ◌∷◌, length, Option, None, Some, IfSome, slice_get, refl, sym, ap, ◌∙◌, subst, lit<}
+use Rattle.std.proofs.lemmas.Bool.{and_from}
 use Rattle.cip_rational.specs.Rational.{ℚ, ◌*ℚ◌, zeroℚ, ◌≤ℚ◌, IsWhole}
 use Rattle.cip_rational.proofs.Rational.Order.{≤ℚ_refl, ≤ℚ_trans, test_of_le}
 use Rattle.cip_rational.proofs.Rational.Ring.{+ℚ-zero}
@@ -20,10 +20,12 @@ use Rattle.cip_presolve.specs.NarrowedPrograms.{IsExactStep, IsInfeasible, with_
 use Rattle.cip_presolve.specs.RowSteps.{divided_sides}
 use Rattle.cip_problem.specs.Program.{no_row}
 use Rattle.cip_search.proofs.RowSteps.{single_taken, divided, multiplied}
+use Rattle.cip_search.proofs.Pairing.{exact_self}
 use Rattle.cip_presolve.specs.SingleRows.{HasOneTerm, inward_if, single_sides}
 use Rattle.cip_presolve.specs.RuleEnds.{IsSingled}
 use Rattle.cip_presolve.proofs.Enclosing.{past_below}
-use Rattle.cip_presolve.proofs.Ruled.{stays, cleaned_by}
+use Rattle.cip_presolve.proofs.Ruled.{cleaned_by}
+use Rattle.cip_presolve.proofs.Merged.{count_same}
 
 -- ---- met sides
 
@@ -37,12 +39,8 @@ lesser_inside None other = refl
 lesser_inside (Some high) None = test_of_le (≤ℚ_refl high)
 lesser_inside (Some high) (Some other) = test_of_le (minimum_le high other).0
 
-and_both : (a b : Bool) → a ≡ true → b ≡ true → (a && b) ≡ true
-and_both true b h k = k
-and_both false b h k = h
-
 pub met_inside : (sides other : Sides) → sides_inside (met sides other) sides ≡ true
-met_inside sides other = and_both _ _ (greater_inside sides.low other.low) (lesser_inside sides.high other.high)
+met_inside sides other = and_from _ _ (greater_inside sides.low other.low) (lesser_inside sides.high other.high)
 
 -- ---- rounding inward
 
@@ -110,14 +108,9 @@ one_stands n terms term h e = let k : StandsBelow n (term ∷ []) = subst (λ (t
 pub taken_by : (program changed : Program) (number column : ℕ) (sides : Sides) → IsSingled program number column sides → changed ≡ with_row (with_sides program column sides) number no_row → IsExactStep program changed
 taken_by program changed number column sides s e = subst (λ p. IsExactStep program p) (sym e) s.step
 
-pub count_same : (rows : List Row) (number : ℕ) (row : Row) → length (slice_set rows number row) ≡ length rows
-count_same [] number row = refl
-count_same (r ∷ rs) zero row = refl
-count_same (r ∷ rs) (suc number) row = ap (λ n. suc n) (count_same rs number row)
-
 -- rows of one term, and what is taken of them
 pub ruleset single_rows = (singled, one_stands)
 
-pub ruleset taking = (stays, taken_by, count_same)
+pub ruleset taking = (exact_self, taken_by, count_same)
 
-pub ruleset cleaning = (stays, cleaned_by, count_same)
+pub ruleset cleaning = (exact_self, cleaned_by, count_same)

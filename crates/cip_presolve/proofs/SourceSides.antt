@@ -14,13 +14,14 @@ use Rattle.cip_presolve.specs.Forms.{Form}
 use Rattle.cip_presolve.specs.RowSteps.{side_less}
 use Rattle.cip_search.proofs.Replacing.{sides_replaced}
 use Rattle.cip_search.proofs.RowSteps.{above_less, below_less, divided}
+use Rattle.cip_search.proofs.Pairing.{feasible_relaxed, exact_self}
 use Rattle.cip_presolve.specs.SingleRows.{single_sides}
 use Rattle.cip_presolve.proofs.Enclosing.{past_below}
 use Rattle.cip_presolve.proofs.Singled.{met_inside, inward_onward}
 use Rattle.cip_presolve.specs.Taken.{IsImplied}
-use Rattle.cip_presolve.proofs.ImpliedSides.{columns_same, stays, taken_by}
+use Rattle.cip_presolve.proofs.ImpliedSides.{columns_same, taken_by}
 use Rattle.cip_presolve.specs.ColumnForms.{RowGives, IsSubstitute}
-use Rattle.cip_presolve.proofs.FormsSubstituted.{value_given, relaxed_of}
+use Rattle.cip_presolve.proofs.FormsSubstituted.{value_given}
 
 less_of : (c f v s : ℚ) → v ≡ c +ℚ f *ℚ s → v -ℚ c ≡ f *ℚ s
 less_of c f v s e = linear_same (c ∷ v ∷ (f *ℚ s) ∷ []) (λ t w. omega (arith, t.same_out))
@@ -29,7 +30,7 @@ module _ (program : Program) (place column : ℕ) (form : Form) (row : Row) (ter
   product_between : (y : List ℚ) → IsFeasible program y → Between row.low row.high (term.coefficient *ℚ value_at y form.source)
   product_between y h =
       let b = in_box_at program.bounds y column h.within in
-      let p : value_at y column -ℚ form.constant ≡ term.coefficient *ℚ value_at y form.source = less_of form.constant form.factor (value_at y column) (value_at y form.source) (value_given program place column form y there gives (relaxed_of program y h)) ∙ ap (λ t. t *ℚ value_at y form.source) (sym tq) in
+      let p : value_at y column -ℚ form.constant ≡ term.coefficient *ℚ value_at y form.source = less_of form.constant form.factor (value_at y column) (value_at y form.source) (value_given program place column form y there gives (feasible_relaxed program y h)) ∙ ap (λ t. t *ℚ value_at y form.source) (sym tq) in
       record {
         above = subst (λ o. IfSome o (λ side. side ≤ℚ term.coefficient *ℚ value_at y form.source)) (sym low) (subst (λ t. IfSome (side_less (sides_at program.bounds column).low form.constant) (λ side. side ≤ℚ t)) p (above_less (sides_at program.bounds column).low (value_at y column) form.constant b.above));
         below = subst (λ o. IfSome o (λ side. term.coefficient *ℚ value_at y form.source ≤ℚ side)) (sym high) (subst (λ t. IfSome (side_less (sides_at program.bounds column).high form.constant) (λ side. t ≤ℚ side)) p (below_less (sides_at program.bounds column).high (value_at y column) form.constant b.below));
@@ -67,4 +68,4 @@ still_substitute program changed place column form sides s k = subst (λ p. IsSu
   source_plain = s.source_plain;
 })
 
-pub ruleset taking = (stays, taken_by, still_substitute)
+pub ruleset taking = (exact_self, taken_by, still_substitute)

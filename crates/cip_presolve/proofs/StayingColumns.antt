@@ -1,19 +1,19 @@
 -- Which columns stay.
 use Rattle.std.proofs.Common.{◌≡◌, ◌⊎◌, ℕ, zero, suc, ◌+◌, ◌<◌, ◌≤◌, List, [], ◌∷◌, length, take, Option, None, Some, IfSome, slice_get, refl, sym, ap, ◌∙◌, subst, arith, inl, inr}
 use Rattle.std.specs.Prelude.{slice_set, slice_index_or, All}
-use Rattle.std.specs.List.{AllByRecursion}
 use Rattle.std.proofs.Math.ListN.{get_or}
 use Rattle.std.proofs.lemmas.Option.{none-some, same_Some, slice_get_within, get_or_from_slice_get, slice_get_read, slice_get-get_or}
 use Rattle.cip_rational.specs.Rational.{zeroℚ}
 use Rattle.cip_problem.specs.Program.{Term, Row, Program}
 use Rattle.cip_problem.specs.Activity.{StandsBelow}
 use Rattle.cip_presolve.specs.Forms.{Form}
-use Rattle.cip_presolve.specs.ColumnForms.{GivesForm}
 use Rattle.cip_presolve.specs.DraftParts.{IsDraft}
 use Rattle.cip_presolve.specs.ColumnsOut.{MayAllGo, IsIn, TermsIn, SourceStays, SourcesStay, GoFewer}
 use Rattle.cip_presolve.specs.SpentRows.{IsSpentBy, TermsInBut, RowGoes, RowsGo}
 use Rattle.cip_presolve.specs.KeptRows.{RowKept, RowsKept}
 use Rattle.cip_presolve.proofs.FilledPoints.{before_or_at}
+use Rattle.cip_presolve.proofs.Free.{all_more_one, take_whole}
+use Rattle.cip_presolve.proofs.RowsSpent.{spent_by}
 
 -- ---- one column stays
 
@@ -63,12 +63,6 @@ column_in forms new column l e = subst (λ (fs : List (Option Form)). IsIn fs co
 pub ruleset staying = (column_fewer, column_in)
 
 -- ---- sources
-
--- the form of a column
-gone_at : (forms : List (Option Form)) (column : ℕ) (form : Form) → slice_index_or forms column None ≡ Some form → slice_get forms column ≡ Some (Some form)
-gone_at [] column form h = absurd (none-some form h)
-gone_at (f ∷ forms) zero form h = ap Some h
-gone_at (f ∷ forms) (suc column) form h = gone_at forms column form h
 
 gone_is : (forms : List (Option Form)) (column : ℕ) (o : Option Form) (form : Form) → slice_index_or forms column None ≡ o → slice_get forms column ≡ Some (Some form) → o ≡ Some form
 gone_is forms column o form e h = sym e ∙ get_or_from_slice_get forms column (Some form) None h
@@ -133,9 +127,6 @@ pub ruleset all_sources = (no_sources, next_source, sources_fewer, all_sources_s
 
 -- ---- a row that gives a column its form
 
-pub spent_by : (forms : List (Option Form)) (row : Row) (column : ℕ) (own form : Form) → Some own ≡ slice_index_or forms column None → GivesForm row column form → form ≡ own → IsSpentBy forms row column
-spent_by forms row column own form e g s = record { form = own; gone = gone_at forms column own (sym e); gives = subst (λ f. GivesForm row column f) s g }
-
 pub ruleset spent = (spent_by)
 
 -- ---- terms
@@ -151,23 +142,6 @@ but_stay old new but (t ∷ ts) f h = (go h.0, but_stay old new but ts f h.1)
     go : (but ≡ Some t.column) ⊎ IsIn old t.column → (but ≡ Some t.column) ⊎ IsIn new t.column
     go (inl e) = inl e
     go (inr i) = inr (f.stays t.column i)
-
--- one more
-all_more : {X : Type 0} (P : X → Type 0) (xs : List X) (n : ℕ) (x : X) → slice_get xs n ≡ Some x → AllByRecursion P (take n xs) → P x → AllByRecursion P (take (suc n) xs)
-all_more P [] n x e h p = absurd (none-some x e)
-all_more P (y ∷ xs) zero x e h p = (subst P (sym (same_Some y x e)) p, tt)
-all_more P (y ∷ xs) (suc n) x e h p = (h.0, all_more P xs n x e h.1 p)
-
-all_more_one : {X : Type 0} (P : X → Type 0) (xs : List X) (n : ℕ) (x : X) → slice_get xs n ≡ Some x → AllByRecursion P (take n xs) → P x → AllByRecursion P (take (n + 1) xs)
-all_more_one P xs n x e h p =
-    let one : suc n ≡ n + 1 = omega arith in
-    subst (λ m. AllByRecursion P (take m xs)) one (all_more P xs n x e h p)
-
-take_whole : {X : Type 0} (xs : List X) (n : ℕ) → length xs ≤ n → take n xs ≡ xs
-take_whole [] zero e = refl
-take_whole [] (suc n) e = refl
-take_whole (x ∷ xs) zero e = absurd (omega (arith, e))
-take_whole (x ∷ xs) (suc n) e = ap (λ t. x ∷ t) (take_whole xs n (omega (arith, e)))
 
 -- after so many terms of a row
 pub record KeptTo (old forms : List (Option Form)) (but : Option ℕ) (terms : List Term) (n : ℕ) : Type 0 where

@@ -1,13 +1,14 @@
--- A substitution stays one while the program changes.
+-- A substitution exact_self one while the program changes.
 use Rattle.std.proofs.Common.{◌≡◌, ℕ, ◌<◌, List, length, slice_get, sym, ap, ◌∙◌, subst}
 use Rattle.cip_problem.specs.Program.{Choice, Sides, Row, Program}
 use Rattle.cip_problem.specs.Choices.{choice_at, is_open}
 use Rattle.cip_search.specs.NarrowedPrograms.{IsExactStep}
 use Rattle.cip_search.specs.Forms.{Form}
+use Rattle.cip_search.proofs.Pairing.{exact_after, exact_self}
 use Rattle.cip_presolve.specs.ColumnForms.{RowGives, IsSubstitute}
 use Rattle.cip_presolve.specs.declared.substituting.Substitution.{Substitution}
 use Rattle.cip_presolve.specs.Substitutions.{IsFound}
-use Rattle.cip_presolve.proofs.Chained.{stays, follows, open_ends}
+use Rattle.cip_presolve.proofs.Chained.{open_ends}
 
 pub found_parts : (program : Program) (row column : ℕ) (form : Form) → row < length program.rows → RowGives program row column form → IsSubstitute program column form → IsFound program (record { row = row; column = column; form = form })
 found_parts program row column form there gives substitute = record { there = there; gives = gives; substitute = substitute }
@@ -36,6 +37,6 @@ found_still old new found f rows gives substitute = record {
   substitute = substitute;
 }
 
-pub ruleset replacing = (stays, follows, found_still)
+pub ruleset replacing = (exact_self, exact_after, found_still)
 
-pub ruleset taking = (stays, follows, found_later, open_ends)
+pub ruleset taking = (exact_self, exact_after, found_later, open_ends)

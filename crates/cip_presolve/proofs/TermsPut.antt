@@ -12,6 +12,7 @@ use Rattle.cip_problem.specs.Program.{Term, Row}
 use Rattle.cip_problem.specs.Activity.{activity, value_at, StandsBelow}
 use Rattle.cip_presolve.proofs.FixedColumns.{to_rec, from_rec}
 use Rattle.cip_presolve.specs.PutTerms.{product_of, HasMore, HasMet, HasBoth, HasAll}
+use Rattle.cip_presolve.proofs.Free.{take_whole}
 
 -- ---- one term
 
@@ -176,12 +177,6 @@ next_put old row new first second one other still last terms count t p below is 
     sums : (x : List ℚ) → (activity row.terms x +ℚ product_of one x) +ℚ product_of other x ≡ ((activity old.terms x +ℚ product_of first x) +ℚ product_of second x) +ℚ activity (take count terms) x → (activity new.terms x +ℚ product_of still x) +ℚ product_of last x ≡ ((activity row.terms x +ℚ product_of one x) +ℚ product_of other x) +ℚ product_of t x → activity (take (suc count) terms) x ≡ activity (take count terms) x +ℚ product_of t x → (activity new.terms x +ℚ product_of still x) +ℚ product_of last x ≡ ((activity old.terms x +ℚ product_of first x) +ℚ product_of second x) +ℚ activity (take (suc count) terms) x
     sums x e f g =
         linear_same (activity old.terms x ∷ activity row.terms x ∷ activity new.terms x ∷ product_of first x ∷ product_of second x ∷ product_of one x ∷ product_of other x ∷ product_of still x ∷ product_of last x ∷ product_of t x ∷ activity (take count terms) x ∷ activity (take (suc count) terms) x ∷ []) (λ s w. omega (arith, s.same_out))
-
-take_whole : {X : Type 0} (xs : List X) (n : ℕ) → length xs ≤ n → take n xs ≡ xs
-take_whole [] zero e = refl
-take_whole [] (suc n) e = refl
-take_whole (x ∷ xs) zero e = absurd (omega (arith, e))
-take_whole (x ∷ xs) (suc n) e = ap (λ t. x ∷ t) (take_whole xs n (omega (arith, e)))
 
 pub all_there : (old row new : Row) (first second one other : Term) (terms : List Term) (count : ℕ) → PutTo old first second terms count row one other → length terms ≤ count → HasAll row one other [] new → HasAll old first second terms new
 all_there old row new first second one other terms count p l a = record {

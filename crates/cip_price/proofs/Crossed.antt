@@ -1,9 +1,10 @@
 -- Where sides cross, no feasible point lies in the box.
-use Rattle.std.proofs.Common.{◌≡◌, ◌⊎◌, inl, inr, ℕ, ◌+◌, ◌<◌, Bool, true, false, ◌||◌, List, [], ◌∷◌, ◌++◌, length, take, drop, get_or, Option, None, Some, refl, sym, ap, ◌∙◌, true≢false}
+use Rattle.std.proofs.Common.{◌≡◌, inl, inr, ℕ, ◌+◌, ◌<◌, Bool, true, false, ◌||◌, List, [], ◌∷◌, ◌++◌, length, take, drop, get_or, Option, None, Some, refl, sym, ap, ◌∙◌, true≢false}
 use Rattle.std.specs.Prelude.{slice_index_or, All}
 use Rattle.std.specs.List.{AllByRecursion}
 use Rattle.std.proofs.lemmas.List.{take_more, take-append-drop, get_or_read}
 use Rattle.std.proofs.lemmas.List.Elements.{All-from_recursion, recursion_from_All}
+use Rattle.std.proofs.lemmas.Bool.{or_cases}
 use Rattle.cip_rational.specs.Rational.{ℚ}
 use Rattle.cip_rational.proofs.Rational.Order.{not_le_of_lt, ≤ℚ_trans, lt_of_test}
 use Rattle.cip_problem.specs.Program.{Sides, Row, no_row}
@@ -29,15 +30,11 @@ none_between None high value e b = true≢false (sym e)
 none_between (Some low) None value e b = true≢false (sym e)
 none_between (Some low) (Some high) value e b = not_le_of_lt (lt_of_test e) (≤ℚ_trans b.above b.below)
 
-first_or : (s t : Bool) → (s || t) ≡ true → (s ≡ true) ⊎ (t ≡ true)
-first_or true t e = inl e
-first_or false t e = inr e
-
 none_inside : (box : List Sides) (point : List ℚ) → crosses_column box ≡ true → ¬ IsInBox box point
 none_inside [] point e h = true≢false (sym e)
 none_inside (s ∷ ss) [] e h = h
 none_inside (s ∷ ss) (v ∷ vs) e h =
-    elim (first_or (is_past s.low s.high) (crosses_column ss) e) [
+    elim (or_cases (is_past s.low s.high) (crosses_column ss) e) [
       | inl f ↦ none_between s.low s.high v f h.0
       | inr f ↦ none_inside ss vs f h.1
     ]
@@ -48,14 +45,14 @@ none_satisfies : (rows : List Row) (numbers : List ℕ) (point : List ℚ) → c
 none_satisfies rows [] point e h s = true≢false (sym e)
 none_satisfies rows (n ∷ ns) point e h s =
     let row : Row = slice_index_or rows n no_row in
-    elim (first_or (is_past row.low row.high) (crosses_row rows ns) e) [
+    elim (or_cases (is_past row.low row.high) (crosses_row rows ns) e) [
       | inl f ↦ none_between row.low row.high (activity row.terms point) f (s n no_row h.0)
       | inr f ↦ none_satisfies rows ns point f h.1 s
     ]
 
 pub crossed_empties : (task : Task) → IsTask task → has_crossed task ≡ true → EmptiesBox task
 crossed_empties task ok e point feasible within =
-    elim (first_or (crosses_column task.box) (crosses_row task.program.rows task.kept.blocks.master_rows) e) [
+    elim (or_cases (crosses_column task.box) (crosses_row task.program.rows task.kept.blocks.master_rows) e) [
       | inl f ↦ none_inside task.box point f within
       | inr f ↦
           none_satisfies task.program.rows task.kept.blocks.master_rows point f

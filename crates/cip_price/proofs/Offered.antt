@@ -1,5 +1,5 @@
 -- Points that are offered one after another.
-use Rattle.std.proofs.Common.{◌≡◌, ℕ, ◌+◌, ◌<◌, ◌≤◌, List, [], ◌∷◌, ◌++◌, length, Option, take, get_or, refl, sym, ap, ◌∙◌, subst, arith}
+use Rattle.std.proofs.Common.{◌≡◌, ℕ, ◌+◌, ◌<◌, List, [], ◌∷◌, ◌++◌, length, Option, take, get_or, refl, sym, ap, ◌∙◌, subst, arith}
 use Rattle.std.specs.List.{Contains}
 use Rattle.std.proofs.lemmas.List.{append-nil, append_assoc, length-append, length_push, get_or_append_left, get_or-append-add, take_more}
 use Rattle.std.proofs.lemmas.List.Elements.{All-append, All-cons, All-nil}
@@ -136,9 +136,6 @@ pub offered_grows : (task : Task) (block : ℕ) (brought : List BlockPoint) (bef
 offered_grows task block brought before after Same h = same_grows before after h.0
 offered_grows task block brought before after Grown h = h.0
 offered_grows task block brought before after Full h = h.0
-
-longer : (first middle : List PoolPoint) → Grows first middle → length first ≤ length middle
-longer first middle (more, e) = omega (arith, ap length e, length-append first more)
 
 pub offered_both : (task : Task) (block : ℕ) (xs ys : List BlockPoint) (first middle last : List PoolPoint)
     (growth next : Growth) → (length middle ≡ most_points → last ≡ middle) → IsOffered task block xs first middle growth

@@ -1,6 +1,6 @@
 -- A round, block by block.
-use Rattle.std.proofs.Common.{◌≡◌, ◌≢◌, ℕ, zero, suc, ◌+◌, ◌<◌, ◌≤◌, Bool, true, false, cond, ◌||◌, List, [], ◌∷◌, ◌++◌, length, Option, None, Some, refl, sym, ap, ◌∙◌, subst, arith, true≢false}
-use Rattle.std.specs.Prelude.{Vec, IfSome, IsSome, Result, Ok, Err, OnOk, MatchResult}
+use Rattle.std.proofs.Common.{◌≡◌, ◌≢◌, ℕ, zero, suc, ◌+◌, ◌<◌, ◌≤◌, Bool, true, false, cond, ◌||◌, List, [], ◌∷◌, ◌++◌, length, Option, None, Some, refl, sym, ap, ◌∙◌, subst, arith}
+use Rattle.std.specs.Prelude.{Vec, Result, Ok, Err, OnOk, MatchResult}
 use Rattle.std.specs.Global.{Global}
 use Rattle.std.proofs.lemmas.List.{length_push}
 use Rattle.cip_rational.specs.Rational.{ℚ}
@@ -19,7 +19,7 @@ use Rattle.cip_price.specs.declared.block_answers.BlockAnswer.{BlockAnswer}
 use Rattle.cip_price.specs.declared.offering.Growth.{Growth}
 use Rattle.cip_price.specs.declared.offering.Growth.TheVariants.{Same, Grown, Full}
 use Rattle.cip_price.specs.declared.block_rounds.Round.{Round}
-use Rattle.cip_price.proofs.Telling.{tells_none, tells_from, may_none, front_none, front_from, front_all, told_more}
+use Rattle.cip_price.proofs.Telling.{tells_from, may_none, front_none, front_from, front_all, told_more}
 use Rattle.cip_price.proofs.Offered.{grows_by, all_grown, same_grows}
 use Rattle.cip_price.proofs.Crossed.{or_false, or_from}
 
@@ -285,42 +285,6 @@ module _ (task : Task) (rests prices : List ℚ) (told middle last : Option (Lis
           b.found.accepted after.trees r.is_told.trees b.answers.comes.accepted b.put.trees);
     };
   }
-
-pub round_begun : (task : Task) (rests prices : List ℚ) (told : Option (List Told)) (pool : List PoolPoint)
-    (round : Round) → round.growth ≡ Same → round.gap ≡ None → round.is_empty ≡ false
-    → IfSome round.trees (λ trees. trees.items ≡ []) × IsSome round.trees
-    → IsRoundTo task rests prices told told pool pool round 0
-round_begun task rests prices told pool round e f g h = record {
-  asks = [];
-  are_asks = tt;
-  long = refl;
-  tells = tells_none told;
-  grown = subst (IsGrown task [] pool pool) (sym e) (refl, tt);
-  is_told = record { gap = f; none = g; trees = no_trees round.trees h };
-}
-  where
-    no_trees : (trees : Option (Vec BoundTree Global)) → IfSome trees (λ ts. ts.items ≡ []) × IsSome trees
-        → AreTrees (Some []) trees
-    no_trees None k = absurd (true≢false (sym k.1))
-    no_trees (Some ts) k = ap Some (sym k.0)
-
--- all blocks were asked
-pub round_whole : (task : Task) (rests prices : List ℚ) (told telling : Option (List Told))
-    (before after : List PoolPoint) (round : Round) (n : ℕ) → n ≡ length task.kept.subproblems.items
-    → round.growth ≢ Full → IsRoundTo task rests prices told telling before after round n
-    → IsRound task rests prices told telling before after round
-round_whole task rests prices told telling before after round n e going r = record {
-  asks = r.asks;
-  are_asks = r.are_asks;
-  tells = r.tells;
-  grown = r.grown;
-  all = cases round.growth going;
-}
-  where
-    cases : (growth : Growth) → growth ≢ Full → AreAll task prices r.asks round growth
-    cases Same g = (r.long ∙ e, r.is_told)
-    cases Grown g = (r.long ∙ e, r.is_told)
-    cases Full g = absurd (g refl)
 
 -- the pool is full
 pub round_full : (task : Task) (rests prices : List ℚ) (told telling : Option (List Told))

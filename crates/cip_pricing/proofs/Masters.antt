@@ -100,10 +100,6 @@ some_weight (w ∷ ws) e = omega arith
 
 -- ---- the points that a block has
 
-length-held : (held : List Held) → length (held_owners held) ≡ length held
-length-held [] = refl
-length-held (h ∷ hs) = ap suc (length-held hs)
-
 length-points : (held : List Held) → length (held_points held) ≡ length held
 length-points [] = refl
 length-points (h ∷ hs) = ap suc (length-points hs)
@@ -230,7 +226,7 @@ firsts : {A : Type 0} (P Q : A → Type 0) (xs : List A) → AllByRecursion (λ 
 firsts P Q [] h = tt
 firsts P Q (x ∷ xs) h = (h.0.0, firsts P Q xs h.1)
 
-seconds : {A : Type 0} (P Q : A → Type 0) (xs : List A) → AllByRecursion (λ x. P x × Q x) xs → AllByRecursion Q xs
+pub seconds : {A : Type 0} (P Q : A → Type 0) (xs : List A) → AllByRecursion (λ x. P x × Q x) xs → AllByRecursion Q xs
 seconds P Q [] h = tt
 seconds P Q (x ∷ xs) h = (h.0.1, seconds P Q xs h.1)
 

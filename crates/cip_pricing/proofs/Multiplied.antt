@@ -3,6 +3,7 @@ use Rattle.std.proofs.Common.{◌≡◌, ℕ, zero, suc, ◌+◌, Bool, true, fa
 use Rattle.std.specs.List.{AllZip, AllByRecursion}
 use Rattle.std.proofs.lemmas.Option.{none-some, same_Some}
 use Rattle.std.proofs.lemmas.List.{length-map, length-append, length-take-le, length-drop, take-append-drop, take_at, drop_at, map-append}
+use Rattle.std.proofs.lemmas.Slice.Zip.{AllZip-long}
 use Rattle.cip_rational.specs.Rational.{ℚ, ◌+ℚ◌, ◌-ℚ◌, ◌*ℚ◌, negate, zeroℚ, oneℚ, ◌≤ℚ◌, lt_test}
 use Rattle.cip_rational.specs.Sums.{dot, scale_list, add_lists}
 use Rattle.cip_rational.proofs.Sums.{dot-nil, dot-append, dot-add_left, dot-scale_left}
@@ -129,12 +130,12 @@ prices_there free first held (p ∷ ps) (u ∷ us) (o ∷ os) a h =
     (one_used p u o (lt_test zeroℚ p) (lt_test p zeroℚ) refl refl h.0 a.0.low a.0.high)
     (prices_there free (suc first) held ps us os a.1 h.1)
 
-shift_sum : (n : ℕ) (f : ℕ → ℚ) → sum_below (suc n) f ≡ f 0 +ℚ sum_below n (λ k. f (suc k))
+pub shift_sum : (n : ℕ) (f : ℕ → ℚ) → sum_below (suc n) f ≡ f 0 +ℚ sum_below n (λ k. f (suc k))
 shift_sum zero f = zero-+ℚ (f 0) ∙ sym (+ℚ-zero (f 0))
 shift_sum (suc n) f =
     ap (λ t. t +ℚ f (suc n)) (shift_sum n f) ∙ +ℚ_assoc (f 0) (sum_below n (λ k. f (suc k))) (f (suc n))
 
-sum_total : (prices : List ℚ) → sum_below (length prices) (value_at prices) ≡ total prices
+pub sum_total : (prices : List ℚ) → sum_below (length prices) (value_at prices) ≡ total prices
 sum_total [] = refl
 sum_total (p ∷ ps) = shift_sum (length ps) (value_at (p ∷ ps)) ∙ ap (λ t. p +ℚ t) (sum_total ps)
 
@@ -230,12 +231,6 @@ rest_used [] us (s ∷ ss) second h = absurd (none us h)
 rest_used (y ∷ ys) [] (s ∷ ss) second h = absurd h
 rest_used (y ∷ ys) (u ∷ us) (s ∷ ss) second h = rest_used ys us ss second h.1
 
-zip_long : {A B : Type 0} (R : A → B → Type 0) (xs : List A) (ys : List B) → AllZip R xs ys → length ys ≡ length xs
-zip_long R [] [] h = refl
-zip_long R [] (y ∷ ys) h = absurd h
-zip_long R (x ∷ xs) [] h = absurd h
-zip_long R (x ∷ xs) (y ∷ ys) h = ap suc (zip_long R xs ys h.1)
-
 -- ---- reduced costs
 
 difference_sum : (f g : Held → ℚ) (held : List Held) (weights : List ℚ)
@@ -282,7 +277,7 @@ module _ (program : Program) (blocks : Decomposition) (box : List Sides) (held :
 
   masters_long : length m.masters ≡ length (master_rows program blocks)
   masters_long =
-      zip_long (IsMasterRow (length blocks.columns) blocks.columns held) (master_rows program blocks) m.masters
+      AllZip-long (IsMasterRow (length blocks.columns) blocks.columns held) (master_rows program blocks) m.masters
       m.are_masters
 
   rows_used : AllUsed y.rows (map row_sides m.masters ++ map row_sides m.sums) u.rows

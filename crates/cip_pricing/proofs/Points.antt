@@ -15,7 +15,7 @@ use Rattle.cip_pricing.specs.Decomposition.{Decomposition, picked, IsDecomposed,
 use Rattle.cip_pricing.specs.Mixtures.{Held, total}
 use Rattle.cip_pricing.specs.MasterForms.{held_owners, master_form, mixed, weight_sides}
 use Rattle.cip_pricing.specs.Statements.{WeightsSumToOne}
-use Rattle.cip_pricing.proofs.Masters.{mixture_of, form_same}
+use Rattle.cip_pricing.proofs.Masters.{mixture_of, form_same, seconds}
 use Rattle.cip_pricing.specs.MasterPrograms.{IsMasterRow, AreSumRows, IsMasterProgram}
 use Rattle.cip_pricing.specs.MasterStatements.{AreHeld, ComesToMixture}
 use Rattle.cip_pricing.proofs.Sums.{sum_row}
@@ -47,10 +47,6 @@ weights_nonneg [] [] h = tt
 weights_nonneg [] (w ∷ ws) h = absurd h
 weights_nonneg (g ∷ hs) [] h = absurd h
 weights_nonneg (g ∷ hs) (w ∷ ws) h = (h.0.above, weights_nonneg hs ws h.1)
-
-firsts : {A : Type 0} (P Q : A → Type 0) (xs : List A) → AllByRecursion (λ x. P x × Q x) xs → AllByRecursion Q xs
-firsts P Q [] h = tt
-firsts P Q (x ∷ xs) h = (h.0.1, firsts P Q xs h.1)
 
 -- ---- weights sum to 1
 
@@ -133,7 +129,7 @@ comes_to program blocks box held lp point d wide points m p =
     let zero_more : 0 + block ≡ block = omega arith in
     subst (λ k. total (picked (Some k) (held_owners held) weights) ≡ oneℚ) zero_more
     (sums_one n 0 block held m.sums values weights each_value m.are_sums rows.1 (omega (arith, l, many)))) in
-    let good = firsts (λ (h : Held). h.block < blocks.count)
+    let good = seconds (λ (h : Held). h.block < blocks.count)
     (λ (h : Held). IsBlockPoint program blocks box h.block h.point) held points in
     record {
       values = values;

@@ -6,15 +6,16 @@ use Rattle.cip_rational.specs.Rational.{ℚ, ◌+ℚ◌, ◌-ℚ◌, ◌*ℚ◌,
 use Rattle.cip_rational.specs.Sums.{dot}
 use Rattle.cip_rational.proofs.Rational.Ring.{zero-*ℚ}
 use Rattle.cip_rational.proofs.Rational.Order.{≤ℚ_of_lt, ≤ℚ_of_eq, ≤ℚ_antisymm, lt_of_test, le_of_lt_test}
-use Rattle.cip_rational.proofs.Rational.Monotone.{+ℚ_mono, *ℚ_mono}
+use Rattle.cip_rational.proofs.Rational.Monotone.{*ℚ_mono}
 use Rattle.cip_rational.proofs.Rational.Inverse.{*ℚ_antitone}
 use Rattle.cip_rational.proofs.Linear.{linear_same}
 use Rattle.cip_problem.specs.Program.{Row}
 use Rattle.cip_problem.specs.Activity.{activity}
-use Rattle.cip_problem.specs.BoxBound.{sum_if_both, product_at}
+use Rattle.cip_problem.specs.BoxBound.{product_at}
 use Rattle.cip_problem.specs.Box.{Between}
 use Rattle.cip_problem.specs.Points.{IsSatisfied}
 use Rattle.cip_problem.proofs.Aggregates.{same_form}
+use Rattle.cip_problem.proofs.BoxBound.BelowCosts.{sum_holds}
 use Rattle.cip_pricing.specs.LeastCosts.{side_product, side_total, row_total, AreRests}
 
 -- ---- sides
@@ -41,20 +42,13 @@ cases_product y value b low high false false p n e h =
     let none : y ≡ zeroℚ = ≤ℚ_antisymm (le_of_lt_test p) (le_of_lt_test n) in
     ≤ℚ_of_eq (sym (same_Some zeroℚ b e) ∙ sym (ap (λ t. t *ℚ value) none ∙ zero-*ℚ value))
 
-both_at_most : (a c : Option ℚ) (b u v : ℚ) → sum_if_both a c ≡ Some b → ((p : ℚ) → a ≡ Some p → p ≤ℚ u)
-    → ((q : ℚ) → c ≡ Some q → q ≤ℚ v) → b ≤ℚ u +ℚ v
-both_at_most None c b u v e f g = absurd (none-some b e)
-both_at_most (Some p) None b u v e f g = absurd (none-some b e)
-both_at_most (Some p) (Some q) b u v e f g = subst (λ t. t ≤ℚ u +ℚ v) (same_Some (p +ℚ q) b e)
-    (+ℚ_mono (f p refl) (g q refl))
-
 -- where the rows are satisfied, the sides times their multipliers come to at most the activities times them
 pub sides_hold : (ys : List ℚ) (rows : List Row) (point : List ℚ) (b : ℚ)
     → AllByRecursion (λ row. IsSatisfied row point) rows → side_total ys rows ≡ Some b → b ≤ℚ row_total ys rows point
 sides_hold [] rows point b h e = ≤ℚ_of_eq (sym (same_Some zeroℚ b e))
 sides_hold (y ∷ ys) [] point b h e = ≤ℚ_of_eq (sym (same_Some zeroℚ b e))
 sides_hold (y ∷ ys) (r ∷ rs) point b h e =
-    both_at_most (side_product y r) (side_total ys rs) b (y *ℚ activity r.terms point) (row_total ys rs point) e
+    sum_holds (side_product y r) (side_total ys rs) b (y *ℚ activity r.terms point) (row_total ys rs point) e
     (λ p k. cases_product y (activity r.terms point) p r.low r.high (lt_test zeroℚ y) (lt_test y zeroℚ) refl refl k h.0)
     (λ q k. sides_hold ys rs point q h.1 k)
 

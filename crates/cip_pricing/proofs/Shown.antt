@@ -51,7 +51,7 @@ none_shown program blocks box among ys prices point least d s p m h =
 
 -- ---- the Lagrangian bound
 
-free_part : (sides free rest prices : ℚ) → free ≤ℚ rest → (sides +ℚ free) +ℚ prices ≤ℚ (sides +ℚ rest) +ℚ prices
+pub free_part : (sides free rest prices : ℚ) → free ≤ℚ rest → (sides +ℚ free) +ℚ prices ≤ℚ (sides +ℚ rest) +ℚ prices
 free_part sides free rest prices h = linear_le (sides ∷ free ∷ rest ∷ prices ∷ []) (λ s w. omega (arith, s.le_out))
 
 pub lagrange_shows : (program : Program) (blocks : Decomposition) (box : List Sides) (ys rests prices : List ℚ)

@@ -68,11 +68,11 @@ in_a_half rows integral node column at point s p =
 
 -- ---- the lesser bound
 
-minimum_left : (a b : ℚ) (t : Bool) → le_test a b ≡ t → cond t a b ≤ℚ a
+pub minimum_left : (a b : ℚ) (t : Bool) → le_test a b ≡ t → cond t a b ≤ℚ a
 minimum_left a b true e = ≤ℚ_refl a
 minimum_left a b false e = ≤ℚ_of_lt (lt_of_le_test e)
 
-minimum_right : (a b : ℚ) (t : Bool) → le_test a b ≡ t → cond t a b ≤ℚ b
+pub minimum_right : (a b : ℚ) (t : Bool) → le_test a b ≡ t → cond t a b ≤ℚ b
 minimum_right a b true e = le_of_test e
 minimum_right a b false e = ≤ℚ_refl b
 

@@ -38,7 +38,7 @@ length-differences (c ∷ cs) (d ∷ ds) (suc n) e h = ap suc (length-difference
 
 -- ---- weak duality
 
-sum_holds : (a b y : ℚ) (c : Option ℚ) → sum_if_both (Some a) c ≡ Some b → ((q : ℚ) → c ≡ Some q → q ≤ℚ y) → b ≤ℚ a +ℚ y
+pub sum_holds : (a b y : ℚ) (c : Option ℚ) → sum_if_both (Some a) c ≡ Some b → ((q : ℚ) → c ≡ Some q → q ≤ℚ y) → b ≤ℚ a +ℚ y
 sum_holds a b y None e f = absurd (none-some b e)
 sum_holds a b y (Some q) e f = subst (λ t. t ≤ℚ a +ℚ y) (same_Some _ b e) (+ℚ_mono (≤ℚ_refl a) (f q refl))
 

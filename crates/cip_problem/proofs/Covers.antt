@@ -20,13 +20,14 @@ use Rattle.cip_problem.specs.Improving.{IsImproving, HoldsInBox, IsBoundIn, HasN
 use Rattle.cip_problem.specs.Cover.{IsInOneOf, IsBounded, IsCover, IsReplacedBy, HasBoundFrom}
 use Rattle.cip_problem.proofs.Improving.{fewer, holds_later}
 use Rattle.cip_problem.proofs.Emptiness.{closed_by_bound}
+use Rattle.cip_problem.proofs.Log.Entering.{contains_here, contains_cons, contains_later}
 
 -- ---- which nodes a list holds
 
-none_of_nothing : {X : Type 0} (x : X) → ¬ Contains [] x
+pub none_of_nothing : {X : Type 0} (x : X) → ¬ Contains [] x
 none_of_nothing x h = absurd (omega (arith, h.1))
 
-the_only : {X : Type 0} (y x : X) → Contains (y ∷ []) x → y ≡ x
+pub the_only : {X : Type 0} (y x : X) → Contains (y ∷ []) x → y ≡ x
 the_only y x (zero, h, k) = k
 the_only y x (suc j, h, k) = absurd (omega (arith, h))
 
@@ -35,21 +36,11 @@ one_of_two y z x (zero, h, k) = inl k
 one_of_two y z x (suc zero, h, k) = inr k
 one_of_two y z x (suc (suc j), h, k) = absurd (omega (arith, h))
 
-first_of_all : {X : Type 0} (y : X) (ys : List X) → Contains (y ∷ ys) y
-first_of_all y ys = (0, omega arith, refl)
-
-later_on : {X : Type 0} (y x : X) (ys : List X) → Contains ys x → Contains (y ∷ ys) x
-later_on y x ys h = (suc h.0, omega (arith, h.1), h.2)
-
-first_or_later : {X : Type 0} (y x : X) (ys : List X) → Contains (y ∷ ys) x → (y ≡ x) ⊎ Contains ys x
-first_or_later y x ys (zero, h, k) = inl k
-first_or_later y x ys (suc j, h, k) = inr (j, omega (arith, h), k)
-
 in_first : (node : Node) (nodes : List Node) (point : List ℚ) → IsInBox node.box point → IsInOneOf (node ∷ nodes) point
-in_first node nodes point w = record { node = node; among = first_of_all node nodes; within = w }
+in_first node nodes point w = record { node = node; among = contains_here node nodes; within = w }
 
 in_second : (first second : Node) (point : List ℚ) → IsInBox second.box point → IsInOneOf (first ∷ second ∷ []) point
-in_second first second point w = record { node = second; among = later_on first second (second ∷ []) (first_of_all second []); within = w }
+in_second first second point w = record { node = second; among = contains_later first second (second ∷ []) (contains_here second []); within = w }
 
 -- ---- how a cover goes on
 
@@ -87,12 +78,12 @@ module _ (program : Program) (held : Option ℚ) (node : Node) (others news : Li
   replaced point i at w (inr k) = record { node = at; among = Contains-append_right news others at k; within = w }
 
   still_bounded : (at : Node) → Contains news at ⊎ Contains others at → IsBounded program held at
-  still_bounded at (inl k) = r.bounded (c.bounded node (first_of_all node others)) at k
-  still_bounded at (inr k) = c.bounded at (later_on node at others k)
+  still_bounded at (inl k) = r.bounded (c.bounded node (contains_here node others)) at k
+  still_bounded at (inr k) = c.bounded at (contains_later node at others k)
 
   pub cover_step : IsCover program held (news ++ others)
   cover_step = record {
-    reached = λ point i. let k = c.reached point i in replaced point i k.node k.within (first_or_later node k.node others k.among);
+    reached = λ point i. let k = c.reached point i in replaced point i k.node k.within (contains_cons node k.node others k.among);
     bounded = λ at k. still_bounded at (Contains-append_cases news others at k);
   }
 

@@ -21,7 +21,7 @@ too_dear program (Some cost) None point h e k = true≢false e
 too_dear program (Some cost) (Some b) point h e k =
     <ℚ_irrefl (cost_of program point) (<ℚ_of_lt_of_le k (≤ℚ_trans (le_of_lt_test e) h))
 
-bounded_at : (program : Program) (held bound : Option ℚ) (box : List Sides) (point : List ℚ) → IfSome bound (IsBoundIn program held box) → IsImproving program held point → IsInBox box point → IfSome bound (λ b. b ≤ℚ cost_of program point)
+pub bounded_at : (program : Program) (held bound : Option ℚ) (box : List Sides) (point : List ℚ) → IfSome bound (IsBoundIn program held box) → IsImproving program held point → IsInBox box point → IfSome bound (λ b. b ≤ℚ cost_of program point)
 bounded_at program held None box point h i w = tt
 bounded_at program held (Some b) box point h i w = h point i w
 

@@ -1,26 +1,23 @@
 -- What valid rows imply at improving points.
-use Rattle.std.proofs.Common.{◌≡◌, ℕ, zero, suc, ◌<◌, true, List, [], ◌∷◌, length, Option, None, Some, refl, subst, arith, slice_get}
+use Rattle.std.proofs.Common.{◌≡◌, ℕ, ◌<◌, true, List, length, Option, Some, arith, slice_get}
 use Rattle.std.specs.Prelude.{slice_set}
-use Rattle.std.proofs.lemmas.Option.{none-some, same_Some}
-use Rattle.cip_rational.specs.Rational.{ℚ, ◌+ℚ◌, integer, ◌≤ℚ◌, ceil}
+use Rattle.cip_rational.specs.Rational.{ℚ, integer, ceil}
 use Rattle.cip_rational.specs.Sums.{dot}
-use Rattle.cip_rational.proofs.Rational.Order.{≤ℚ_refl}
-use Rattle.cip_rational.proofs.Rational.Monotone.{+ℚ_mono}
 use Rattle.cip_rational.proofs.Rational.Rounding.{ceil_le_whole}
 use Rattle.cip_problem.specs.Program.{Sides, Row, Program}
 use Rattle.cip_problem.specs.Activity.{value_at}
 use Rattle.cip_problem.specs.Box.{Between, IsInBox, sides_at}
-use Rattle.cip_problem.specs.BoxBound.{sum_if_both}
 use Rattle.cip_problem.specs.Points.{cost_of}
 use Rattle.cip_problem.proofs.Points.AtPlaces.{satisfied_at, whole_at}
 use Rattle.cip_problem.specs.Aggregate.{Part, IsPartOf, bound_row, HoldsAt, AllHoldAt, Inequality, IsAggregate, bound_of, Empties, implied_sides}
 use Rattle.cip_problem.proofs.Parts.{part_holds, bound_part_holds}
 use Rattle.cip_problem.proofs.Aggregates.{aggregate_holds}
-use Rattle.cip_problem.proofs.Bounds.{bound_holds, empty_holds, implied_hold}
+use Rattle.cip_problem.proofs.Bounds.{bound_holds, empty_holds, implied_hold, sum_holds}
 use Rattle.cip_problem.specs.Improving.{HoldsInBox, IsValidRow, IsValid, IsBoundIn, HasNoImproving}
 use Rattle.cip_problem.specs.Cuts.{CanRound, rounded, rounded_sides, cost_bound, HasWholeCosts}
 use Rattle.cip_problem.specs.CutStatements.{Fits}
 use Rattle.cip_problem.proofs.Rounding.{rounded_holds, sides_rounded, whole_cost}
+use Rattle.cip_problem.proofs.Choices.Meeting.{set_in_box}
 
 -- ---- sums
 
@@ -41,13 +38,9 @@ rounded_valid program held box row h k point i w = rounded_holds program.integra
 
 -- ---- bounds
 
-with_constant : (constant b rest : ℚ) (c : Option ℚ) → sum_if_both (Some constant) c ≡ Some b → ((q : ℚ) → c ≡ Some q → q ≤ℚ rest) → b ≤ℚ constant +ℚ rest
-with_constant constant b rest None e f = absurd (none-some b e)
-with_constant constant b rest (Some q) e f = subst (λ t. t ≤ℚ constant +ℚ rest) (same_Some _ b e) (+ℚ_mono (≤ℚ_refl constant) (f q refl))
-
 pub bound_valid : (program : Program) (held : Option ℚ) (box : List Sides) (row : Inequality) (b : ℚ) → Fits program row box → IsValid program held box row → cost_bound program row box ≡ Some b → IsBoundIn program held box b
 bound_valid program held box row b fits h e point i w =
-    with_constant program.constant b (dot program.costs point) (bound_of row program.costs box) e
+    sum_holds program.constant b (dot program.costs point) (bound_of row program.costs box) e
     (λ q k. bound_holds row program.costs box point q fits.coefficients (omega (arith, fits.costs)) w (h point i w) k)
 
 pub whole_bound : (program : Program) (held : Option ℚ) (box : List Sides) (b : ℚ) → HasWholeCosts program → IsBoundIn program held box b → IsBoundIn program held box (integer (ceil b))
@@ -66,11 +59,5 @@ pub whole_sides : (program : Program) (held : Option ℚ) (box : List Sides) (co
 whole_sides program held box column sides e h point i w =
     sides_rounded sides (value_at point column) (whole_at program.integral point column i.feasible.whole e) (h point i w)
 
-narrow : (box : List Sides) (column : ℕ) (sides : Sides) (point : List ℚ) → IsInBox box point → Between sides.low sides.high (value_at point column) → IsInBox (slice_set box column sides) point
-narrow [] column sides point h k = h
-narrow (s ∷ ss) column sides [] h k = absurd h
-narrow (s ∷ ss) zero sides (v ∷ vs) h k = (k, h.1)
-narrow (s ∷ ss) (suc column) sides (v ∷ vs) h k = (h.0, narrow ss column sides vs h.1 k)
-
 pub narrowed : (program : Program) (held : Option ℚ) (box : List Sides) (column : ℕ) (sides : Sides) → HoldsInBox program held box (λ point. Between sides.low sides.high (value_at point column)) → HoldsInBox program held box (IsInBox (slice_set box column sides))
-narrowed program held box column sides h point i w = narrow box column sides point w (h point i w)
+narrowed program held box column sides h point i w = set_in_box box column sides point w (h point i w)

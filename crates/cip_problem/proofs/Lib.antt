@@ -22,3 +22,4 @@ pub mod Rows
 pub mod Splits
 pub mod Tried
 pub mod Wholes
+pub mod Zips

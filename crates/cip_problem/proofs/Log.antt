@@ -1,6 +1,6 @@
 -- Lemmas on `Log`.
+pub mod Entering
 pub mod Given
 pub mod Halves
 pub mod Length
 pub mod SameHalves
-use Rattle.std.specs.Prelude.{[]}

@@ -41,16 +41,16 @@ sound_fine = record { told = λ n s b e. cc }
 sound_zero : IsSound (Exact false 0 1)
 sound_zero = sound_number false 0 1 (record { small_size = lit≤ tt; positive = lit≤ tt; small_below = lit≤ tt; zero_unsigned = λ _. refl })
 
-both_left : (a b : Bool) → (a && b) ≡ true → a ≡ true
+pub both_left : (a b : Bool) → (a && b) ≡ true → a ≡ true
 both_left true b e = refl
 both_left false b e = e
 
-both_right : (a b : Bool) → (a && b) ≡ true → b ≡ true
+pub both_right : (a b : Bool) → (a && b) ≡ true → b ≡ true
 both_right true b e = e
 both_right false b e = absurd (cc)
 
 -- a power of ten up to 10 ^ 38
-power_small : (k : ℕ) → k ≤ 38 → 10 ^ k ≤ largest
+pub power_small : (k : ℕ) → k ≤ 38 → 10 ^ k ≤ largest
 power_small k h = le_trans (pow-le-pow_right {n = 10} (lit≤ tt) h) (lit≤ tt)
 
 sound_whole : (negative : Bool) (n : ℕ) → 0 < n → IsSound (whole_numeral negative n)

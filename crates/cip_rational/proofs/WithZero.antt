@@ -22,7 +22,7 @@ denominator_zero = ap denominator (sym integer-zero) ∙ denominator-integer (po
 gcd_right : (d : ℕ) → gcd d 1 ≡ 1
 gcd_right d = gcd_unique d 1 1 (gcd_one d)
 
-gcd_left : (d : ℕ) → gcd 1 d ≡ 1
+pub gcd_left : (d : ℕ) → gcd 1 d ≡ 1
 gcd_left d = gcd_unique 1 d 1 (IsGcd-swap d 1 1 (gcd_one d))
 
 zero_times : (z : ℤ) → pos 0 *ℤ z ≡ pos 0

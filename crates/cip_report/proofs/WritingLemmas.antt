@@ -6,10 +6,7 @@ use Rattle.std.proofs.Math.Seq.{take-append-add}
 use Rattle.std.proofs.lemmas.List.{take-append-le}
 use Rattle.cip_io.specs.Sink.{SinkTells, TakesAll, PushesPart}
 use Rattle.cip_rational.specs.Rational.{ℚ}
-use Rattle.std.specs.Prelude.{pos}
-use Rattle.cip_rational.specs.Rational.{integer, denominator}
-use Rattle.cip_rational.proofs.Rational.Lowest.{numerator-integer, denominator-integer}
-use Rattle.cip_rational.specs.NumberText.{natural_text, integer_text, denominator_text, fraction_text}
+use Rattle.cip_rational.specs.NumberText.{fraction_text}
 use Rattle.cip_search.specs.Figures.{line, point_lines, ray_name, ray_lines}
 use Rattle.cip_report.specs.Writing.{Passes, Writes}
 
@@ -168,14 +165,6 @@ ray_lines-more (first ∷ names) (only ∷ ray) zero name change within named sa
 ray_lines-more (first ∷ names) (only ∷ ray) (suc number) name change within named same =
     ap (λ text. line (ray_name first) (fraction_text only) ++ text) (ray_lines-more names ray number name change (omega arith) named same)
     ∙ sym (append_assoc (line (ray_name first) (fraction_text only)) _ _)
-
--- the text of a whole number
-pub whole_text : (n : ℕ) → fraction_text (integer (pos n)) ≡ natural_text n
-unfolding fraction_text
-whole_text n =
-    ap (λ z. integer_text z ++ denominator_text (denominator (integer (pos n)))) (numerator-integer (pos n))
-    ∙ ap (λ d. natural_text n ++ denominator_text d) (denominator-integer (pos n))
-    ∙ append-nil (natural_text n)
 
 -- of two texts the first failed
 pub first_of_two : {T E : Type 0} (result : Result T E) (old new : SinkTells) (front first second buffered : List ℕ) → IsErr result → PushesPart old new (front ++ first) → Writes result old new (front ++ (first ++ second)) buffered

@@ -1,5 +1,5 @@
 //! Answers to `self` as bytes, written to a sink from a fixed buffer.
-ghost use Rattle.std.specs.Prelude.{◌≡◌, ◌++◌, MatchResult};
+ghost use Rattle.std.specs.Prelude.{◌++◌, MatchResult};
 ghost use Rattle.cip_io.specs.Faults.{CountsFaults};
 ghost use Rattle.cip_io.specs.Sink.{TakesAll, PushesPart};
 ghost use Rattle.cip_rational.specs.NumberText.{natural_text};

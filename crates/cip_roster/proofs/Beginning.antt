@@ -11,7 +11,7 @@ use Rattle.cip_plugin.specs.Calls.{Init, InitSolve}
 use Rattle.cip_events.specs.Names.{shown_name}
 use Rattle.cip_events.specs.declared.traces.TraceLine.{TraceLine}
 use Rattle.cip_plugin.specs.Who.{Who}
-use Rattle.cip_plugin.specs.declared.stages.Stage.TheVariants.{Fresh, Playing}
+use Rattle.cip_plugin.specs.declared.stages.Stage.TheVariants.{Playing}
 use Rattle.cip_plugin.specs.Lives.{LivesAreTold, life, newborn, words_of}
 use Rattle.cip_plugin.specs.Seats.{Seat, Standing, State, is_live, held_count}
 use Rattle.cip_plugin.specs.Steps.{Step, IsSeated, Runs}
@@ -22,7 +22,6 @@ use Rattle.cip_roster.specs.KeptRankings.{Room, no_rankings}
 use Rattle.cip_roster.specs.Shelves.{shown}
 use Rattle.cip_roster.specs.Turns.{IsSound, StandsAt}
 use Rattle.cip_roster.proofs.Calm.{all_at}
-use Rattle.cip_roster.proofs.Keeping.{at_place}
 use Rattle.cip_roster.proofs.Sounding.{begins_of, playing_settled, run_elsewhere}
 use Rattle.cip_roster.proofs.StillRanked.{ranked_as_none}
 
@@ -46,27 +45,6 @@ pub record BegunSoFar (i : ℕ) (a b : State) : Type 0 where
   pub done : (k : ℕ) (s : Seat) → k < i → slice_get b.seats k ≡ Some s → IsPlaying s
   pub count : length b.seats ≡ length a.seats
   pub places : b.places ≡ a.places
-
--- none yet
-pub begun_none : (a : State) → BegunSoFar 0 a a
-begun_none a = record {
-  answered = [];
-  many = refl;
-  run = refl;
-  rest = λ k above. refl;
-  done = λ k s below at. absurd (omega arith);
-  count = refl;
-  places = refl;
-}
-
--- the next one stands as it came
-pub begun_next : (i : ℕ) (a b : State) → BegunSoFar i a b → All IsFresh a.seats → (x : Seat)
-    → slice_get b.seats i ≡ Some x → StandsAt Fresh b i
-begun_next i a b so_far fresh x at = record {
-  seat = x;
-  at = at;
-  stands = at_place IsFresh a.seats i x (sym (so_far.rest i (omega arith)) ∙ at) fresh;
-}
 
 -- one more
 pub begun_more : (i : ℕ) (a b c d : State) (first second : Bool) → BegunSoFar i a b

@@ -1,10 +1,9 @@
 -- A plugin comes from the shelf to the next seat, and room for lines.
-use Rattle.std.proofs.Common.{◌≡◌, ℕ, ◌+◌, ◌-◌, ◌*◌, ◌≤◌, List, [], ◌∷◌, ◌++◌, length, map, Option, None, Some, Bool, true, false, cond, set, sym, ◌∙◌, ap, refl, arith, append-nil, get_or, ◌<◌}
+use Rattle.std.proofs.Common.{◌≡◌, ℕ, ◌+◌, ◌-◌, ◌*◌, ◌≤◌, List, [], ◌∷◌, ◌++◌, length, map, Option, None, Some, set, sym, ◌∙◌, ap, refl, arith, get_or, ◌<◌}
 use Rattle.std.specs.Prelude.{slice_get, option_map, Result, OnOk}
 use Rattle.std.proofs.lemmas.List.{length-map, map-set}
 use Rattle.std.proofs.lemmas.Option.{slice_get-map, slice_get_read, slice_get_within}
 use Rattle.std.proofs.lemmas.List.Sums.{count_by-le-length}
-use Rattle.cip_events.specs.declared.traces.TraceLine.{TraceLine}
 use Rattle.cip_events.specs.Names.{shown_name}
 use Rattle.cip_plugin.specs.Who.{Who}
 use Rattle.cip_plugin.specs.declared.stages.Stage.TheVariants.{Fresh}
@@ -12,15 +11,11 @@ use Rattle.cip_plugin.specs.Seats.{Seat, Standing, State, is_live, live_count}
 use Rattle.cip_plugin.specs.Steps.{IsSeated, Runs, Takes}
 use Rattle.cip_plugin.proofs.Lists.{get_last}
 use Rattle.cip_plugin.specs.Wishing.{place_fault}
+use Rattle.cip_plugin.proofs.Joining.{unwritten_lines}
 use Rattle.cip_roster.specs.Shelves.{shown}
 use Rattle.cip_roster.specs.Turns.{StandsAt}
 use Rattle.cip_roster.proofs.Wishes.{held_by}
 use Rattle.cip_roster.proofs.Sitting.{reserve_room}
-
--- no line is written, kept or not
-unwritten : (kept : Bool) (lines : List TraceLine) → lines ≡ cond kept (lines ++ []) lines
-unwritten true lines = sym (append-nil lines)
-unwritten false lines = refl
 
 -- a plugin came
 pub came_once : (place : ℕ) (a b : State) (who : Who) (seat : Seat) → slice_get a.places place ≡ Some (Some who)
@@ -39,7 +34,7 @@ came_once place a b who seat was now seated seats names kept lines = (
       names = names;
     };
     kept = kept;
-    lines = lines ∙ unwritten a.kept a.lines;
+    lines = lines ∙ unwritten_lines a.kept a.lines;
   },
   refl,
 )

@@ -1,21 +1,17 @@
 -- What is left of a delivery behind an event, and where it stops.
 use Rattle.std.specs.Prelude.{Result, Ok, Err, OnErr}
-use Rattle.std.proofs.Common.{◌≡◌, ℕ, ◌+◌, ◌≤◌, List, [], ◌∷◌, ◌++◌, length, Option, sym, ap, subst, arith, length-append}
+use Rattle.std.proofs.Common.{◌≡◌, ℕ, ◌+◌, ◌≤◌, List, [], ◌∷◌, ◌++◌, length, Option, ap, subst, arith, length-append}
 use Rattle.cip_events.specs.declared.events.Event.{Event}
 use Rattle.cip_plugin.specs.Calls.{Ask}
 use Rattle.cip_plugin.specs.declared.asking.Given.{Given}
-use Rattle.cip_plugin.specs.declared.kinds.Kind.{Kind}
 use Rattle.cip_plugin.specs.Seats.{State}
 use Rattle.cip_plugin.specs.Steps.{Step, Runs}
 use Rattle.cip_plugin.specs.Calling.{turn_of}
-use Rattle.cip_plugin.specs.Delivering.{Delivered}
 use Rattle.cip_plugin.specs.Wishing.{raised_in}
 use Rattle.cip_plugin.proofs.Counting.{left_over, run_measure}
 use Rattle.cip_plugin.proofs.Running.{Runs-append}
-use Rattle.cip_plugin.specs.Calling.{all_turns}
-use Rattle.cip_roster.specs.Turns.{CalledKind, HadTurn}
+use Rattle.cip_roster.specs.Turns.{HadTurn}
 use Rattle.cip_roster.specs.Wished.{Ran, WasTold}
-use Rattle.cip_roster.proofs.Throughout.{ToldSoFar, told_all}
 
 -- an event that is told leaves as much to do as there was without it
 pub told_measure : (node : ℕ) (event : Event) (a b : State) (q r : List Event) → WasTold node event a b q r
@@ -53,17 +49,3 @@ ran_turn id ask a r c d given (Ok x) same had ran = tt
 ran_turn id ask a r c d given (Err e) same had ran =
     ran_more a c d (turn_of id ask had.answer)
     (subst (λ (s : State). Runs s (turn_of id ask had.answer) c) same had.run) ran
-
--- plugins were called, and then nothing was
-pub ran_kind : (kind : Kind) (ask : Ask) (a b c : State) (had has : List (ℕ × Given))
-    → CalledKind kind ask a b had has → c ≡ b → Ran a c
-ran_kind kind ask a b c had has called same = record {
-  steps = all_turns ask called.called.heard;
-  run = subst (λ (s : State). Runs a (all_turns ask called.called.heard) s) (sym same) called.called.run;
-}
-
--- all events were told
-pub delivered : (node : ℕ) (events : List Event) (a b : State) (waits : List Event) → waits ≡ []
-    → (told : List Event) × ToldSoFar node events told a b waits → Delivered node events a b
-delivered node events a b waits none so_far =
-    told_all node events so_far.0 a b (subst (ToldSoFar node events so_far.0 a b) none so_far.1)

@@ -280,11 +280,6 @@ told_wishes node event k brought given wishes a b c d r s (Ok x) same there is h
     (subst (λ (w : List Wish). TookQuietly k node w c d r s) (are ∙ sym (ap wishes_brought some)) took)
 told_wishes node event k brought given wishes a b c d r s (Err e) same there is had some are took = tt
 
--- what holds in any case holds at each answer
-pub on_ok_any : {A E : Type 0} (P : Type 0) (result : Result A E) → P → OnOk result P
-on_ok_any P (Ok x) p = p
-on_ok_any P (Err e) p = tt
-
 pub on_err_any : {A E : Type 0} (P : Type 0) (result : Result A E) → P → OnErr result P
 on_err_any P (Ok x) p = tt
 on_err_any P (Err e) p = p

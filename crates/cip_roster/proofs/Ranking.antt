@@ -9,6 +9,7 @@ use Rattle.cip_roster.specs.Nexts.{IsNext, is_behind, key_at}
 use Rattle.std.specs.List.Sorted.{IsPermutation}
 use Rattle.std.proofs.lemmas.List.Sorted.{All-permutation}
 use Rattle.std.proofs.lemmas.List.Elements.{All-from_recursion, recursion_from_All}
+use Rattle.std.proofs.lemmas.Bool.{and_parts}
 use Rattle.cip_plugin.specs.declared.kinds.Kind.{Kind}
 use Rattle.cip_plugin.specs.declared.kinds.Kind.TheVariants as kinds
 use Rattle.cip_plugin.specs.Calls.{Ask}
@@ -17,7 +18,6 @@ use Rattle.cip_plugin.specs.declared.keys.Key.{Key}
 use Rattle.cip_plugin.specs.Seats.{Seat, State, is_on}
 use Rattle.cip_plugin.specs.Calling.{is_ready, keys_from, same_kind}
 use Rattle.cip_roster.specs.Turns.{CanBeAsked, ready_key}
-use Rattle.cip_roster.proofs.Throughout.{both_of}
 
 -- a key more, where a test takes it
 pick_key : (P : ℕ → Type 0) (key : Key) (rest : List Key) (b : Bool) → (b ≡ true → P key.id)
@@ -102,7 +102,7 @@ pub ranked_can : (kind : Kind) (ask : Ask) (state : State) (keys : List Key) →
     → IsPermutation (keys_from (is_ready kind) 0 state.seats) keys → All (λ k. CanBeAsked state ask k.id) keys
 ranked_can kind ask state keys fits permuted =
     keys_all (is_ready kind) (CanBeAsked state ask) state.seats keys permuted (λ i s at is.
-    let both = both_of (is_on s) (same_kind kind s.who.kind) is in
+    let both = and_parts (is_on s) (same_kind kind s.who.kind) is in
     record {
       seat = s;
       at = at;

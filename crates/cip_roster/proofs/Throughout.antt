@@ -1,7 +1,7 @@
 -- What handlers that are on throughout are told, by one event and by all that wait.
-use Rattle.std.proofs.Common.{◌≡◌, ℕ, ◌-◌, ◌^◌, ◌<◌, ◌≤◌, List, [], ◌∷◌, ◌++◌, Some, Bool, true, false, cond, sym, ◌∙◌, ap, subst, refl, arith, append_assoc, append-nil, All, ◌⊎◌, inl, inr, ⊎_elim}
+use Rattle.std.proofs.Common.{◌≡◌, ℕ, ◌-◌, ◌^◌, ◌<◌, ◌≤◌, List, [], ◌∷◌, ◌++◌, Some, Bool, true, false, cond, sym, ◌∙◌, ap, subst, refl, arith, append_assoc, All, ◌⊎◌, ⊎_elim}
 use Rattle.std.specs.Prelude.{slice_get, ◌&&◌, ◌||◌, not}
-use Rattle.std.proofs.lemmas.Bool.{false≢true}
+use Rattle.std.proofs.lemmas.Bool.{false≢true, cases_Bool, and_parts, and_from}
 use Rattle.std.proofs.lemmas.Option.{same_Some}
 use Rattle.cip_events.specs.declared.events.Event.{Event}
 use Rattle.cip_events.specs.Events.{wants}
@@ -10,7 +10,7 @@ use Rattle.cip_plugin.specs.declared.kinds.Kind.TheVariants as kinds
 use Rattle.cip_plugin.specs.Seats.{Seat, State, is_live, is_on, is_playing, is_settled}
 use Rattle.cip_plugin.specs.Steps.{Step, Runs, calls_of, asks_in}
 use Rattle.cip_plugin.specs.Calling.{same_kind}
-use Rattle.cip_plugin.specs.Delivering.{ComesToAll, Delivered, InTurn}
+use Rattle.cip_plugin.specs.Delivering.{ComesToAll, InTurn}
 use Rattle.cip_plugin.specs.Wishing.{IsOnThroughout, hears, raised_in, to_each}
 use Rattle.cip_plugin.proofs.Counting.{raised_in-append}
 use Rattle.cip_plugin.proofs.Onward.{Later, playing_alive}
@@ -20,30 +20,15 @@ use Rattle.cip_roster.proofs.Granting.{steps_ask}
 use Rattle.cip_roster.proofs.Keeping.{at_place}
 use Rattle.cip_roster.proofs.Trying.{in_turn_append, in_turn_one}
 
--- both of two tests
-pub both_of : (a b : Bool) → (a && b) ≡ true → (a ≡ true) × (b ≡ true)
-both_of true b both = (refl, both)
-both_of false b both = cc
-
 -- who is settled and not closed may be asked
 pub settled_plays : (playing alive : Bool) → (playing || not alive) ≡ true → alive ≡ true → playing ≡ true
 settled_plays true alive settled is = refl
 settled_plays false true settled is = cc
 settled_plays false false settled is = cc
 
--- one or the other
-alive_or : (alive : Bool) → (alive ≡ true) ⊎ (alive ≡ false)
-alive_or true = inl refl
-alive_or false = inr refl
-
--- both tests hold
-and_true : (a b : Bool) → a ≡ true → b ≡ true → (a && b) ≡ true
-and_true true b first second = second
-and_true false b first second = cc
-
 -- who may be asked isn't closed
 pub on_lives : (s : Seat) → is_on s ≡ true → is_live s ≡ true
-on_lives s on = playing_alive s.standing.stage (both_of (is_playing s.standing.stage) s.standing.on on).0
+on_lives s on = playing_alive s.standing.stage (and_parts (is_playing s.standing.stage) s.standing.on on).0
 
 -- who is on before and after, and wasn't disabled, is so at each moment between at which it is settled
 pub on_between : (s t u : Seat) → IsOnThroughout s u → Later s t → Later t u → is_settled t ≡ true
@@ -55,12 +40,12 @@ on_between s t u on first second settled alive =
     let counted : s.offs < 2 ^ 64 - 1 = on.counted in
     let same : t.offs ≡ s.offs = omega arith in
     let enabled : t.standing.on ≡ true =
-    first.on (both_of (is_playing s.standing.stage) s.standing.on on.on_before).1 same counted in
+    first.on (and_parts (is_playing s.standing.stage) s.standing.on on.on_before).1 same counted in
     let lives : is_live t ≡ true =
-    ⊎_elim (λ is. is) (λ gone. absurd (false≢true (sym (second.gone gone) ∙ alive))) (alive_or (is_live t)) in
+    ⊎_elim (λ is. is) (λ gone. absurd (false≢true (sym (second.gone gone) ∙ alive))) (cases_Bool (is_live t)) in
     let plays : is_playing t.standing.stage ≡ true =
     settled_plays (is_playing t.standing.stage) (is_live t) settled lives in
-    let now : is_on t ≡ true = and_true (is_playing t.standing.stage) t.standing.on plays enabled in (
+    let now : is_on t ≡ true = and_from (is_playing t.standing.stage) t.standing.on plays enabled in (
       record { on_before = on.on_before; on_after = now; offs = same; counted = counted },
       record { on_before = now; on_after = on.on_after; offs = omega arith; counted = omega arith },
     )
@@ -89,28 +74,6 @@ pub record ToldSoFar (node : ℕ) (events told : List Event) (a b : State) (wait
   pub each : (id : ℕ) (seat later : Seat) → slice_get a.seats id ≡ Some seat → slice_get b.seats id ≡ Some later
       → IsOnThroughout seat later → asks_in (calls_of id steps) ≡ to_each seat told
   pub order : told ++ waits ≡ events ++ raised_in node steps
-
--- no event was told yet
-pub told_none : (node : ℕ) (events : List Event) (a : State) → ToldSoFar node events [] a a events
-told_none node events a = record {
-  steps = [];
-  run = refl;
-  comes = (refl, refl);
-  each = λ id seat later at now on. refl;
-  order = sym (append-nil events);
-}
-
--- all were told, as none waits
-pub told_all : (node : ℕ) (events told : List Event) (a b : State) → ToldSoFar node events told a b []
-    → Delivered node events a b
-told_all node events told a b so_far = record {
-  steps = so_far.steps;
-  run = so_far.run;
-  comes = subst (λ (all : List Event). InTurn ComesToAll all a so_far.steps b)
-      (sym (append-nil told) ∙ so_far.order) so_far.comes;
-  each = λ id seat later at now on. so_far.each id seat later at now on
-      ∙ ap (to_each seat) (sym (append-nil told) ∙ so_far.order);
-}
 
 -- one event more was told
 pub told_more : (node : ℕ) (events told : List Event) (event : Event) (a b c : State) (waits later : List Event)

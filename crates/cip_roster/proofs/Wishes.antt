@@ -1,23 +1,20 @@
 -- What grants a wish, and what is wrong with one.
-use Rattle.std.proofs.Common.{◌≡◌, ℕ, ◌≤◌, List, [], ◌∷◌, length, Option, None, Some, Bool, true, false, cond, sym, ◌∙◌, ap, subst, refl, arith}
-use Rattle.std.specs.Prelude.{slice_get, option_map, is_some, ℤ}
-use Rattle.std.proofs.lemmas.Option.{same_Some}
+use Rattle.std.proofs.Common.{◌≡◌, ℕ, ◌≤◌, [], ◌∷◌, length, Option, None, Some, Bool, true, false, cond, sym, ◌∙◌, ap, subst, refl, arith}
+use Rattle.std.specs.Prelude.{slice_get}
 use Rattle.cip_plugin.specs.Who.{Who}
 use Rattle.cip_plugin.specs.Calls.{Init, InitSolve}
-use Rattle.cip_plugin.specs.declared.proposals.Wish.{Wish}
-use Rattle.cip_plugin.specs.declared.proposals.Wish.TheVariants.{Include, Disable, Enable, Free, Priority}
+use Rattle.cip_plugin.specs.declared.proposals.Wish.TheVariants.{Include, Disable, Enable, Free}
 use Rattle.cip_plugin.specs.declared.faults.WishFault.TheVariants as faults
 use Rattle.cip_plugin.specs.declared.stages.Stage.TheVariants.{Fresh, Begun, Playing, Left, Gone}
 use Rattle.cip_plugin.specs.declared.stages.Stage.{Stage}
-use Rattle.cip_plugin.specs.Seats.{Seat, State, held_count, is_live, is_playing, is_settled}
-use Rattle.cip_plugin.specs.Steps.{Turns, Ranks, Takes, Runs}
-use Rattle.cip_plugin.specs.Wishing.{Granted, begins, begun_with, ends, fault_of, is_enabled, place_fault, seat_fault}
+use Rattle.cip_plugin.specs.Seats.{Seat, State, is_live, is_playing, is_settled}
+use Rattle.cip_plugin.specs.Steps.{Turns, Takes, Runs}
+use Rattle.cip_plugin.specs.Wishing.{Granted, begins, begun_with, ends, is_enabled, place_fault, seat_fault}
 use Rattle.cip_plugin.proofs.Counting.{count_set}
 use Rattle.cip_plugin.proofs.Running.{Runs-append}
 use Rattle.cip_roster.specs.Closed.{lives_there}
 use Rattle.cip_roster.specs.KeptRankings.{Room}
 use Rattle.cip_roster.specs.Turns.{IsLiveAt, IsSound, StandsAt}
-use Rattle.cip_roster.specs.Wished.{WasGranted}
 use Rattle.cip_roster.proofs.Keeping.{at_place}
 use Rattle.cip_roster.proofs.Throughout.{settled_plays}
 
@@ -83,11 +80,6 @@ enabled_none a id on = record {
 pub freed_once : (a b : State) (id : ℕ) → Runs a (ends id) b → Granted (Free id) a b
 freed_once a b id run = record { steps = ends id; run = run; grants = refl }
 
--- a plugin got a priority
-pub ranked_granted : (a b : State) (id : ℕ) (priority : ℤ) → Runs a (Ranks id priority ∷ []) b
-    → Granted (Priority id priority) a b
-ranked_granted a b id priority run = record { steps = Ranks id priority ∷ []; run = run; grants = refl }
-
 -- a plugin was included
 pub included_once : (a b c : State) (place : ℕ) (first second : Bool) → Runs a (Takes place ∷ []) b
     → Runs b (begins (length a.seats) first second) c → Granted (Include place) a c
@@ -97,44 +89,11 @@ included_once a b c place first second came run = record {
   grants = (first, second, refl);
 }
 
--- no plugin was given a number
-pub live_none : (o : Option Seat) → None ≡ option_map is_live o → seat_fault o ≡ Some faults.NoSuchPlugin
-live_none None is = refl
-live_none (Some s) is = cc
-
--- the plugin of a number is gone
-pub live_gone : (o : Option Seat) → Some false ≡ option_map is_live o → seat_fault o ≡ Some faults.Gone
-live_gone None is = cc
-live_gone (Some s) is =
-    ap (λ (b : Bool). cond b None (Some faults.Gone)) (sym (same_Some false (is_live s) is))
-
--- it is live
-live_by : (state : State) (id : ℕ) (o : Option Seat) → slice_get state.seats id ≡ o → Some true ≡ option_map is_live o
-    → IsLiveAt state id
-live_by state id None at is = cc
-live_by state id (Some s) at is = record { seat = s; at = at; lives = sym (same_Some true (is_live s) is) }
-
-pub live_some : (state : State) (id : ℕ) → Some true ≡ option_map is_live (slice_get state.seats id)
-    → IsLiveAt state id
-live_some state id is = live_by state id (slice_get state.seats id) refl is
-
 -- what a place holds with which nothing is wrong
 pub held_by : (o : Option (Option Who)) → place_fault o ≡ None → (who : Who) × (o ≡ Some (Some who))
 held_by None fine = cc
 held_by (Some None) fine = cc
 held_by (Some (Some who)) fine = (who, refl)
-
--- a place that holds a plugin counts
-pub held_some : (places : List (Option Who)) (place : ℕ) → place_fault (slice_get places place) ≡ None
-    → 1 ≤ held_count places
-held_some places place fine =
-    let at = held_by (slice_get places place) fine in
-    let fewer = count_set is_some places place (Some at.0) None at.1 in
-    omega arith
-
--- a granted wish with which nothing is wrong
-pub was_granted : (wish : Wish) (a b : State) → Granted wish a b → fault_of a wish ≡ None → WasGranted wish a b
-was_granted wish a b granted fine = record { granted = granted; fine = fine }
 
 -- the two first calls of a plugin that came
 pub welcomed : (id : ℕ) (a b s c : State) (first second : Bool) → id ≡ length a.seats

@@ -1,9 +1,9 @@
 -- Terms made of coefficients, one after another.
-use Rattle.std.proofs.Common.{◌≡◌, ℕ, zero, suc, ◌+◌, ◌<◌, ◌≤◌, Bool, true, false, cond, List, [], ◌∷◌, ◌++◌, length, get_or, drop, refl, sym, ap, ◌∙◌, subst, arith, append_assoc, append-nil, add-one, Some, None}
-use Rattle.std.proofs.lemmas.List.{drop_all, drop_more}
+use Rattle.std.proofs.Common.{◌≡◌, ℕ, zero, suc, ◌+◌, ◌<◌, ◌≤◌, Bool, true, false, cond, List, [], ◌∷◌, ◌++◌, length, get_or, drop, refl, sym, ap, ◌∙◌, subst, arith, append_assoc, add-one, Some, None}
+use Rattle.std.proofs.lemmas.List.{drop_more}
 use Rattle.cip_rational.specs.Rational.{ℚ, zeroℚ, is_zero}
 use Rattle.cip_problem.specs.Program.{Term, Row}
-use Rattle.cip_problem.specs.RowTerms.{column_at, IsAboveLast}
+use Rattle.cip_problem.specs.RowTerms.{column_at}
 use Rattle.cip_problem.specs.Cuts.{terms_from}
 use Rattle.cip_rational.proofs.Rational.Order.{test_of_le, ≤ℚ_refl}
 use Rattle.cip_problem.proofs.Rows.{zero_of_test}
@@ -51,13 +51,6 @@ begun_other coefficients at terms d l r n b = record {
     below_pushed [] at d (suc k) h l = absurd (omega (arith, l))
     below_pushed (t ∷ ts) at d zero h l = omega (arith, h 0 (omega arith))
     below_pushed (t ∷ ts) at d (suc k) h l = below_pushed ts at d k (λ j m. h (suc j) (omega (arith, m))) (omega (arith, l))
-
-pub begun_all : (coefficients : List ℚ) (n : ℕ) (terms : List Term) → length coefficients ≤ n → Begun coefficients n terms → terms ≡ terms_from 0 coefficients
-begun_all coefficients n terms l b = sym (append-nil terms) ∙ ap (λ ds. terms ++ terms_from n ds) (sym (drop_all n coefficients l)) ∙ b.all
-
--- a column that is not below the place is above all terms
-pub above_last : (coefficients : List ℚ) (at : ℕ) (terms : List Term) → Begun coefficients at terms → IsAboveLast terms at
-above_last coefficients at terms b = record { above = λ k e. b.below k (omega (arith, e)) }
 
 -- a row that is built, with its sides
 pub record RowBegun (coefficients : List ℚ) (least : ℚ) (at : ℕ) (row : Row) : Type 0 where

@@ -87,13 +87,7 @@ no_such_id rows id place rising before after other k d l e = elim (cases_lt k pl
       ]
 ]
 
-pub other_default : (rows : List PoolRow) (place id : ℕ) (kept : PoolRow) → (get_or rows place kept).id ≢ id → (d : PoolRow) → place < length rows → (get_or rows place d).id ≢ id
-other_default rows place id kept n d l e = n (ap (λ (x : PoolRow). x.id) (row_default rows place kept d l) ∙ e)
-
 -- ---- changes
-
-pub no_index : IsIndex [] []
-no_index = record { sorted = λ i j d a b. absurd (omega (arith, b)); covers = λ k d l. absurd (omega (arith, l)) }
 
 contains_filtered : (p : Entry → Bool) (xs : List Entry) (x : Entry) → p x ≡ true → Contains xs x → Contains (filter p xs) x
 contains_filtered p [] x t (k, l, e) = absurd (omega (arith, l))

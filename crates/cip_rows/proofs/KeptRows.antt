@@ -35,7 +35,7 @@ has_place len capacity h = omega (arith, h)
 pub scopes_like : (pool : Pool) (box : List Sides) → IsSoundPool pool → length box ≡ pool.columns → HaveScopesLike box pool.rows
 scopes_like pool box k e i d l = (k.fits i d l).scope ∙ sym e
 
-length-filtered : {X : Type 0} (p : X → Bool) (xs : List X) → length (filter p xs) ≤ length xs
+pub length-filtered : {X : Type 0} (p : X → Bool) (xs : List X) → length (filter p xs) ≤ length xs
 length-filtered p [] = omega arith
 length-filtered p (x ∷ xs) = chosen (p x) (length-filtered p xs)
   where

@@ -1,5 +1,5 @@
 //! Plugins that do as a line says, and tell nothing.
-ghost use Rattle.std.specs.Prelude.{◌≡◌, [], None, string_bytes};
+ghost use Rattle.std.specs.Prelude.{[], None, string_bytes};
 
 use crate::acts::Act;
 use crate::draws::Draws;

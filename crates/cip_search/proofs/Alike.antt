@@ -7,8 +7,9 @@ use Rattle.cip_rational.specs.Rational.{ℚ}
 use Rattle.cip_problem.specs.Program.{Program}
 use Rattle.cip_problem.specs.Log.{End, Split, Closed, Parked, Entry, Node, root, node_of, halves, nodes_of, IsRightEnd, AllFollow, IsLog}
 use Rattle.cip_problem.proofs.Log.SameHalves.{low_box, high_box, low_choices, high_choices, can_split_same}
+use Rattle.cip_problem.proofs.Log.Entering.{node_of_here, node_of_later}
 use Rattle.cip_search.specs.Searched.{first_node}
-use Rattle.cip_search.proofs.OneMore.{none_or_some, node_of_here, node_of_later}
+use Rattle.cip_search.proofs.OneMore.{none_or_some}
 
 -- two nodes have the same number, box and choices
 record IsAlike (node other : Node) : Type 0 where

@@ -6,7 +6,7 @@ use Rattle.std.specs.List.{AllByRecursion}
 use Rattle.std.proofs.Common.{refl, sym, ap, ◌∙◌, arith, append_assoc, if◌then◌else◌, map, get_or}
 use Rattle.std.proofs.lemmas.List.{append_cancel_right, length-map}
 use Rattle.std.proofs.lemmas.List.Elements.{All-from_recursion, recursion_from_All}
-use Rattle.std.proofs.lemmas.Bool.{eqb-false, false≢true}
+use Rattle.std.proofs.lemmas.Bool.{eqb-false, false≢true, or_parts}
 use Rattle.std.specs.Str.{bytes_eq}
 use lib.Chars.{codes}
 use Rattle.cip_rational.specs.Rational.{ℚ}
@@ -29,15 +29,10 @@ abbrev pub has_feed : List ℕ → Bool
 has_feed [] = false
 has_feed (byte ∷ bytes) = byte == 10 || has_feed bytes
 
-pub both_false : (a b : Bool) → (a || b) ≡ false → (a ≡ false) × (b ≡ false)
-both_false false false e = (refl, refl)
-both_false false true e = absurd (cc)
-both_false true b e = absurd (cc)
-
 pub HasNoFeed-from_test : (text : List ℕ) → has_feed text ≡ false → HasNoFeed text
 HasNoFeed-from_test [] test = tt
 HasNoFeed-from_test (byte ∷ bytes) test =
-    let parts = both_false (byte == 10) (has_feed bytes) test in
+    let parts = or_parts (byte == 10) (has_feed bytes) test in
     (eqb-false byte 10 parts.0, HasNoFeed-from_test bytes parts.1)
 
 pub fraction_bytes : (text : List ℕ) → AllByRecursion IsFractionByte text → HasNoFeed text

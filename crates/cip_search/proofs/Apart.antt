@@ -7,16 +7,13 @@ use Rattle.cip_problem.specs.Program.{Program}
 use Rattle.cip_problem.specs.Activity.{value_at}
 use Rattle.cip_search.specs.Pairs.{IsPair}
 use Rattle.cip_search.proofs.Moving.{Same, same, other, same_or, set_same, set_other}
+use Rattle.cip_bland.proofs.Emptiness.{length-zeros}
 
 -- 1 at a column, and 0 elsewhere
 abbrev unit : ℕ → ℕ → List ℚ
 unit n column = slice_set (replicate n zeroℚ) column oneℚ
 
-long_zeros : (n : ℕ) → length (replicate n zeroℚ) ≡ n
-long_zeros zero = refl
-long_zeros (suc n) = ap (λ m. suc m) (long_zeros n)
-
-long_set : (y : List ℚ) (column : ℕ) (v : ℚ) → length (slice_set y column v) ≡ length y
+pub long_set : (y : List ℚ) (column : ℕ) (v : ℚ) → length (slice_set y column v) ≡ length y
 long_set [] column v = refl
 long_set (w ∷ y) zero v = refl
 long_set (w ∷ y) (suc column) v = ap (λ m. suc m) (long_set y column v)
@@ -31,7 +28,7 @@ module _ (program reduced : Program) (post : List ℚ → List ℚ) (kept : ℕ 
   point = unit (length reduced.bounds) first
 
   long : length point ≡ length reduced.bounds
-  long = long_set (replicate (length reduced.bounds) zeroℚ) first oneℚ ∙ long_zeros (length reduced.bounds)
+  long = long_set (replicate (length reduced.bounds) zeroℚ) first oneℚ ∙ length-zeros (length reduced.bounds)
 
   values : value_at point first ≡ value_at point second
   values =
@@ -49,7 +46,7 @@ module _ (program reduced : Program) (post : List ℚ → List ℚ) (kept : ℕ 
       ∙ zero_at (length reduced.bounds) second))
     where
       subst_long : first < length reduced.bounds → first < length (replicate (length reduced.bounds) zeroℚ)
-      subst_long h = let l = long_zeros (length reduced.bounds) in omega (arith, h, l)
+      subst_long h = let l = length-zeros (length reduced.bounds) in omega (arith, h, l)
 
   pub kept_apart : first ≡ second
   kept_apart = go (same_or second first)

@@ -7,10 +7,12 @@ use Rattle.std.proofs.lemmas.List.Sorted.{Contains-permutation, IsPermutation-sy
 use Rattle.cip_rational.specs.Rational.{ℚ}
 use Rattle.cip_problem.specs.Program.{Program}
 use Rattle.cip_problem.specs.Log.{End, Closed, Parked, Split, Entry, Node, node_of, CanSplit, AllFollow}
+use Rattle.cip_problem.proofs.Log.Entering.{contains_cons, contains_later}
+use Rattle.cip_problem.proofs.Covers.{the_only}
 use Rattle.cip_search.specs.Searched.{first_node, nodes_given}
 use Rattle.cip_search.specs.SearchState.{State, WayBack, parked_entry, IsSearch, IsAsGiven}
 use Rattle.cip_search.specs.Statements.{closed_entry, split_entry, AreHalves}
-use Rattle.cip_search.proofs.Members.{later, here_or_later, only_one, kept_was_there}
+use Rattle.cip_search.proofs.Members.{kept_was_there}
 use Rattle.cip_search.proofs.OneMore.{node_of_among}
 use Rattle.cip_search.proofs.Ended as ended
 
@@ -19,7 +21,7 @@ module _ (reduced : Program) (start : Option ℚ) where
   begun held =
       let first = first_node reduced start in
       let same : (node given : Node) → Contains (first ∷ []) node → node_of (first ∷ []) node.number ≡ Some given → node ≡ given =
-      λ node given c e. sym (only_one first node c) ∙ only_one first given (node_of_among (first ∷ []) node.number given e).0 in
+      λ node given c e. sym (the_only first node c) ∙ the_only first given (node_of_among (first ∷ []) node.number given e).0 in
       record {
         bounds = λ node given c e. ap (λ t. t.bound) (same node given c e);
       }
@@ -33,7 +35,7 @@ module _ (reduced : Program) (start : Option ℚ) where
   pub taken : (state : State) (node : Node) (open_ : List Node) → IsPermutation state.open_ (node ∷ open_) → IsAsGiven reduced start state → IsAsGiven reduced start (record state { work = node ∷ state.work; open_ = open_ })
   taken state node open_ p h =
       let back : (other : Node) → Contains (node ∷ open_) other → Contains state.open_ other = λ other c. Contains-permutation (node ∷ open_) state.open_ other (IsPermutation-sym state.open_ (node ∷ open_) p) c in
-      moved state (node ∷ state.work) open_ (λ other given c e. h.bounds other given (back other (later node other open_ c)) e) h
+      moved state (node ∷ state.work) open_ (λ other given c e. h.bounds other given (back other (contains_later node other open_ c)) e) h
 
   -- whatever the nodes in work are
   pub worked : (state : State) (work : List Node) → IsAsGiven reduced start state → IsAsGiven reduced start (record state { work = work })
@@ -54,7 +56,7 @@ module _ (reduced : Program) (start : Option ℚ) where
   put_back state node work open_ w p f h =
       let back : (other : Node) → Contains open_ other → Contains (node ∷ state.open_) other = λ other c. Contains-permutation open_ (node ∷ state.open_) other (IsPermutation-sym (node ∷ state.open_) open_ p) c in
       moved state work open_
-      (λ other given c. elim (here_or_later node other state.open_ (back other c)) [
+      (λ other given c. elim (contains_cons node other state.open_ (back other c)) [
         | inl e ↦ subst (λ (n : Node). node_of (nodes_given reduced start state.log) n.number ≡ Some given → n.bound ≡ given.bound) e (λ k. f given k)
         | inr j ↦ h.bounds other given j
       ])
@@ -75,14 +77,14 @@ module _ (program reduced : Program) (way : WayBack) (Wide : Program → List �
   closed_at held node work open_ parked log s h =
       let rest = (work ++ open_) ++ parked in
       record {
-        bounds = λ other given c e. h.bounds other given c (was_given held node work open_ parked log Closed s other given (later node other rest (Contains-append_left (work ++ open_) parked other (Contains-append_right work open_ other c))) e);
+        bounds = λ other given c e. h.bounds other given c (was_given held node work open_ parked log Closed s other given (contains_later node other rest (Contains-append_left (work ++ open_) parked other (Contains-append_right work open_ other c))) e);
       }
 
   parked_at : (held : Option ℚ) (node : Node) (work open_ parked : List Node) (log : List Entry) → ended.At program reduced way Wide start held (node ∷ work) open_ parked log → As held (node ∷ work) open_ parked log → As held work open_ (parked ++ node ∷ []) (log ++ parked_entry node ∷ [])
   parked_at held node work open_ parked log s h =
       let rest = (work ++ open_) ++ parked in
       record {
-        bounds = λ other given c e. h.bounds other given c (was_given held node work open_ parked log Parked s other given (later node other rest (Contains-append_left (work ++ open_) parked other (Contains-append_right work open_ other c))) e);
+        bounds = λ other given c e. h.bounds other given c (was_given held node work open_ parked log Parked s other given (contains_later node other rest (Contains-append_left (work ++ open_) parked other (Contains-append_right work open_ other c))) e);
       }
 
   pub closed : (state : State) (node : Node) (work : List Node) → state.work ≡ node ∷ work → IsSearch program reduced way Wide start state → IsAsGiven reduced start state → IsAsGiven reduced start (record state { work = work; log = state.log ++ closed_entry node ∷ [] })
@@ -108,11 +110,11 @@ module _ (program reduced : Program) (way : WayBack) (Wide : Program → List �
     is_high given e = same_Some high_given given (sym (ended.high_found program reduced way Wide start held node low high work open_ parked now log column at can halved p followed s) ∙ e)
 
     split_bounds : (other given : Node) → Contains now other → node_of after other.number ≡ Some given → other.bound ≡ given.bound
-    split_bounds other given c = elim (here_or_later low other (high ∷ open_) (Contains-permutation now (low ∷ high ∷ open_) other (IsPermutation-sym (low ∷ high ∷ open_) now p) c)) [
+    split_bounds other given c = elim (contains_cons low other (high ∷ open_) (Contains-permutation now (low ∷ high ∷ open_) other (IsPermutation-sym (low ∷ high ∷ open_) now p) c)) [
       | inl j ↦ subst (λ (n : Node). node_of after n.number ≡ Some given → n.bound ≡ given.bound) j (λ e. halved.low_bound ∙ ap (λ (n : Node). n.bound) (is_low given e))
-      | inr k ↦ elim (here_or_later high other open_ k) [
+      | inr k ↦ elim (contains_cons high other open_ k) [
         | inl j ↦ subst (λ (n : Node). node_of after n.number ≡ Some given → n.bound ≡ given.bound) j (λ e. halved.high_bound ∙ ap (λ (n : Node). n.bound) (is_high given e))
-        | inr j ↦ λ e. h.bounds other given j (was_given held node work open_ parked log (Split column at low.number high.number) s other given (later node other ((work ++ open_) ++ parked) (Contains-append_left (work ++ open_) parked other (Contains-append_right work open_ other j))) e)
+        | inr j ↦ λ e. h.bounds other given j (was_given held node work open_ parked log (Split column at low.number high.number) s other given (contains_later node other ((work ++ open_) ++ parked) (Contains-append_left (work ++ open_) parked other (Contains-append_right work open_ other j))) e)
       ]
     ]
 

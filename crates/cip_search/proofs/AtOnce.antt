@@ -4,10 +4,10 @@ use Rattle.cip_rational.specs.Rational.{ℚ}
 use Rattle.cip_problem.specs.Program.{Program, Sides}
 use Rattle.cip_problem.specs.Points.{IsFeasible}
 use Rattle.cip_problem.specs.Improving.{IsBoundIn}
+use Rattle.cip_problem.proofs.Covers.{none_of_nothing}
 use Rattle.cip_search.specs.Searched.{IsCovered}
 use Rattle.cip_search.specs.SearchEnds.{Infeasible, ReachesGap, IsSettled}
 use Rattle.cip_search.specs.SearchAnswers.{EndsAtOnce}
-use Rattle.cip_search.proofs.Members.{none_in}
 
 module _ (program : Program) (none : (point : List ℚ) → ¬ IsFeasible program point) (start : Option ℚ) where
   -- each bound holds
@@ -33,7 +33,7 @@ module _ (program : Program) (none : (point : List ℚ) → ¬ IsFeasible progra
     ends = (inr refl, refl);
     gap = λ n. (λ e. absurd (cc), λ r. absurd (not_reached asked r));
     cover = cover;
-    entries = λ entry node c. absurd (none_in entry c);
+    entries = λ entry node c. absurd (none_of_nothing entry c);
   }
     where
       not_reached : (asked : Option ℚ) → ¬ ReachesGap asked None None
@@ -48,6 +48,6 @@ ends_at_once program start nodes asked none = record {
   searched = λ e. inr refl;
   long = λ ray e. absurd (cc);
   ray = λ ray e. absurd (cc);
-  work = λ entry node c. absurd (none_in entry c);
+  work = λ entry node c. absurd (none_of_nothing entry c);
   marks = tt;
 }

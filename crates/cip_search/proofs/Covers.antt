@@ -1,26 +1,16 @@
 -- What a cover says.
-use Rattle.std.proofs.Common.{◌≡◌, inl, inr, true, List, Option, None, Some, IfSome, refl}
+use Rattle.std.proofs.Common.{inl, inr, List, Option, None, Some, IfSome, refl}
 use Rattle.cip_rational.specs.Rational.{ℚ, ◌≤ℚ◌, ◌<ℚ◌}
-use Rattle.cip_rational.proofs.Rational.Order.{≤ℚ_trans, test_of_lt, le_or_lt, <ℚ_of_le_of_lt}
-use Rattle.cip_problem.specs.Program.{Sides, Program}
-use Rattle.cip_problem.specs.Box.{IsInBox}
+use Rattle.cip_rational.proofs.Rational.Order.{≤ℚ_trans, le_or_lt}
+use Rattle.cip_problem.specs.Program.{Program}
 use Rattle.cip_problem.specs.Points.{IsFeasible, cost_of, IsLowerBound}
-use Rattle.cip_problem.specs.Log.{Entry, matters}
-use Rattle.cip_problem.specs.Improving.{IsImproving, IsBoundIn}
+use Rattle.cip_problem.specs.Log.{Entry}
+use Rattle.cip_problem.specs.Improving.{IsImproving}
+use Rattle.cip_problem.proofs.Emptiness.{bounded_at}
 use Rattle.cip_search.specs.Searched.{OpenMatters, ParkedMatters, NoMore, IsOneOf, IsLeast, IsInOpen, IsInParked, IsCovered, AreTrueEntries}
 use Rattle.cip_search.specs.Wide.{IsWide}
 use Rattle.cip_search.specs.LeafStatements.{HasWideLeafAt}
-
--- a bound that doesn't matter holds at no improving point
-matters_at : (program : Program) (held bound : Option ℚ) (point : List ℚ) → IsImproving program held point → IfSome bound (λ b. b ≤ℚ cost_of program point) → matters held bound ≡ true
-matters_at program None bound point i h = refl
-matters_at program (Some cost) None point i h = refl
-matters_at program (Some cost) (Some b) point i h = test_of_lt (<ℚ_of_le_of_lt h i.cheaper)
-
--- a bound that holds in a box holds at each improving point there
-bound_at : (program : Program) (held bound : Option ℚ) (box : List Sides) (point : List ℚ) → IfSome bound (IsBoundIn program held box) → IsImproving program held point → IsInBox box point → IfSome bound (λ b. b ≤ℚ cost_of program point)
-bound_at program held None box point h i w = tt
-bound_at program held (Some b) box point h i w = h point i w
+use Rattle.cip_search.proofs.Bounds.{matters_at}
 
 -- a bound that is no more than one below a cost is below the cost
 no_more_below : (b : ℚ) (bound : Option ℚ) (cost : ℚ) → NoMore (Some b) bound → IfSome bound (λ c. c ≤ℚ cost) → b ≤ℚ cost
@@ -33,7 +23,7 @@ module _ (program : Program) (start : Option ℚ) (log : List Entry) (held : Opt
   open_matters o = record {
     node = o.node;
     left = o.left;
-    matter = matters_at program held o.node.bound point i (bound_at program held o.node.bound o.node.box point (cover.open_bounds o.node o.left) i o.within);
+    matter = matters_at program held o.node.bound point i (bounded_at program held o.node.bound o.node.box point (cover.open_bounds o.node o.left) i o.within);
   }
 
   parked_matters : IsInParked program start log point → ParkedMatters log held
@@ -41,7 +31,7 @@ module _ (program : Program) (start : Option ℚ) (log : List Entry) (held : Opt
     entry = o.entry;
     among = o.leaf.among;
     parked = o.leaf.parked;
-    matter = matters_at program held o.entry.bound point i (bound_at program held o.entry.bound o.node.box point (cover.parked_bounds o.entry o.node o.leaf) i o.within);
+    matter = matters_at program held o.entry.bound point i (bounded_at program held o.entry.bound o.node.box point (cover.parked_bounds o.entry o.node o.leaf) i o.within);
   }
 
   -- where no node and no leaf matters there is no improving point
@@ -56,10 +46,10 @@ module _ (program : Program) (start : Option ℚ) (log : List Entry) (held : Opt
   below b least = elim (cover.reached point i) [
     | inl o ↦ no_more_below b o.node.bound (cost_of program point)
         (least o.node.bound (inr (inl (record { node = o.node; left = o.left; is_bound = refl }))))
-        (bound_at program held o.node.bound o.node.box point (cover.open_bounds o.node o.left) i o.within)
+        (bounded_at program held o.node.bound o.node.box point (cover.open_bounds o.node o.left) i o.within)
     | inr o ↦ no_more_below b o.entry.bound (cost_of program point)
         (least o.entry.bound (inr (inr (record { entry = o.entry; among = o.leaf.among; parked = o.leaf.parked; is_bound = refl }))))
-        (bound_at program held o.entry.bound o.node.box point (cover.parked_bounds o.entry o.node o.leaf) i o.within)
+        (bounded_at program held o.entry.bound o.node.box point (cover.parked_bounds o.entry o.node o.leaf) i o.within)
   ]
 
   wide_here : AreTrueEntries program IsWide start log held → ¬ OpenMatters program start log held → HasWideLeafAt program point

@@ -17,15 +17,17 @@ use Rattle.cip_problem.specs.Improving.{HasNoImproving}
 use Rattle.cip_problem.specs.Cover.{IsCover}
 use Rattle.cip_problem.proofs.Covers as covers
 use Rattle.cip_problem.proofs.Emptiness.{closed_by_bound}
+use Rattle.cip_problem.proofs.Log.Entering.{taken_given, follow_more, taken_more, given_more, node_of_here, node_of_later, node_of_kept, node_of_new, contains_here, contains_cons, contains_later}
+use Rattle.cip_problem.proofs.Covers.{none_of_nothing, the_only}
 use Rattle.cip_search.specs.Searched.{first_node, nodes_given, IsLeftOpen}
 use Rattle.cip_search.specs.SearchState.{State, WayBack, HasNoEntry, IsGiven, AreApart, HasNumber, IsRightEntry, parked_entry, is_parked_end, parked_entries, LeadsToWide, IsStuck, IsSearch}
 use Rattle.cip_search.specs.Statements.{closed_entry, split_entry, AreHalves}
-use Rattle.cip_search.proofs.Members.{none_in, here, later, here_or_later, only_one, mapped, hits, hit, missed, none_hits, others_apart, rest_apart}
+use Rattle.cip_search.proofs.Members.{mapped, hits, hit, missed, none_hits, others_apart, rest_apart}
 use Rattle.cip_search.proofs.Bounds.{HoldsThere, no_more_same, there_inside}
 use Rattle.cip_search.proofs.Told.{given_node_of}
 use Rattle.cip_search.proofs.Kept.{same_cover, with_more}
 use Rattle.cip_search.proofs.Leading.{leads_to_wide}
-use Rattle.cip_search.proofs.OneMore.{none_or_some, node_of_kept, node_of_new, node_of_here, node_of_later, node_of_among, given_more, follow_more, taken_more, taken_before, taken_last, taken_given}
+use Rattle.cip_search.proofs.OneMore.{none_or_some, node_of_among, taken_before, taken_last}
 
 -- ---- the last entry of a log
 
@@ -71,7 +73,7 @@ module _ (program reduced : Program) (way : WayBack) (Wide : Program → List �
     rest = work ++ open_
 
     pub node_given : IsGiven reduced start log held node
-    node_given = s.given node (here node (rest ++ parked))
+    node_given = s.given node (contains_here node (rest ++ parked))
 
     pub after_is : after ≡ before ++ more
     after_is = given_more (first_node reduced start ∷ []) log entry
@@ -83,7 +85,7 @@ module _ (program reduced : Program) (way : WayBack) (Wide : Program → List �
     given_still other g = record { given = g.given; found = still other.number g.given g.found; holds = g.holds; keeps = g.keeps; choices = g.choices; bound = g.bound }
 
     pub unlogged_node : HasNoEntry log node.number
-    unlogged_node = s.unlogged node (here node rest)
+    unlogged_node = s.unlogged node (contains_here node rest)
 
     pub no_entry_still : (number : ℕ) → HasNoEntry log number → number ≢ node.number → HasNoEntry (log ++ entry ∷ []) number
     no_entry_still number h d = λ c. elim (taken_more log entry number c) [
@@ -92,13 +94,13 @@ module _ (program reduced : Program) (way : WayBack) (Wide : Program → List �
     ]
 
     pub rest_unlogged : (other : Node) → Contains rest other → HasNoEntry (log ++ entry ∷ []) other.number
-    rest_unlogged other c = no_entry_still other.number (s.unlogged other (later node other rest c)) (others_apart node rest s.apart other c)
+    rest_unlogged other c = no_entry_still other.number (s.unlogged other (contains_later node other rest c)) (others_apart node rest s.apart other c)
 
     -- the entry is right of the node that was given
     entry_right : IsRightEntry reduced held node_given.given entry
     entry_right = record {
       kept = node_given.bound;
-      holds = there_inside reduced held node.bound node.box node_given.given.box node_given.keeps (s.cover.bounded node (here node (rest ++ parked)));
+      holds = there_inside reduced held node.bound node.box node_given.given.box node_given.keeps (s.cover.bounded node (contains_here node (rest ++ parked)));
     }
 
     pub same_given : (number : ℕ) (given other : Node) → node_of before number ≡ Some given → node_of after number ≡ Some other → given ≡ other
@@ -133,7 +135,7 @@ module _ (program reduced : Program) (way : WayBack) (Wide : Program → List �
     left_apart other l e = l.not_taken (subst (Contains (map (λ (t : Entry). t.node) (log ++ entry ∷ []))) e (taken_last log entry))
 
     pub left_complete : (other : Node) → IsLeftOpen reduced start (log ++ entry ∷ []) other → IsLeftOpen reduced start log other → matters held other.bound ≡ true → HasNumber rest other.number
-    left_complete other l k m = let h = s.complete other k m in elim (here_or_later node h.node rest h.among) [
+    left_complete other l k m = let h = s.complete other k m in elim (contains_cons node h.node rest h.among) [
       | inl e ↦ absurd (left_apart other l (ap (λ t. t.number) e ∙ h.is))
       | inr c ↦ record { node = h.node; among = c; is = h.is }
     ]
@@ -147,12 +149,12 @@ module _ (program reduced : Program) (way : WayBack) (Wide : Program → List �
           back = s.back;
           attained = s.attained;
           cover = cover;
-          logged = follow_more reduced.integral (first_node reduced start ∷ []) [] log entry node_given.given s.logged node_given.found (none_in node.number) unlogged_node (right node_given.given);
+          logged = follow_more reduced.integral (first_node reduced start ∷ []) [] log entry node_given.given s.logged node_given.found (none_of_nothing node.number) unlogged_node (right node_given.given);
           given = λ other c. given_still other (elim (Contains-append_cases rest aside other c) [
-            | inl k ↦ s.given other (later node other (rest ++ parked) (Contains-append_left rest parked other k))
-            | inr k ↦ elim (here_or_later node other parked (known other k)) [
+            | inl k ↦ s.given other (contains_later node other (rest ++ parked) (Contains-append_left rest parked other k))
+            | inr k ↦ elim (contains_cons node other parked (known other k)) [
               | inl e ↦ subst (IsGiven reduced start log held) e node_given
-              | inr j ↦ s.given other (later node other (rest ++ parked) (Contains-append_right rest parked other j))
+              | inr j ↦ s.given other (contains_later node other (rest ++ parked) (Contains-append_right rest parked other j))
             ]
           ]);
           unlogged = rest_unlogged;
@@ -176,7 +178,7 @@ module _ (program reduced : Program) (way : WayBack) (Wide : Program → List �
   closed_at held node work open_ parked log h s =
       ended held node work open_ parked log Closed s (λ given. tt) (none_closed (node_of (nodes_given reduced start log) node.number) node.bound) parked
       (covers.cover_step reduced held node ((work ++ open_) ++ parked) [] (covers.replaced_by_none reduced held node h) s.cover)
-      (λ other c. later node other parked c)
+      (λ other c. contains_later node other parked c)
       (parked_more log (closed_entry node) ∙ append-nil (parked_entries log) ∙ s.parked)
       s.stuck
 
@@ -185,7 +187,7 @@ module _ (program reduced : Program) (way : WayBack) (Wide : Program → List �
       let rest = work ++ open_ in
       ended held node work open_ parked log Parked s (λ given. tt) (none_parked (node_of (nodes_given reduced start log) node.number) node.bound) (parked ++ node ∷ [])
       (same_cover reduced held (node ∷ (rest ++ parked)) (rest ++ (parked ++ node ∷ []))
-      (λ other c. elim (here_or_later node other (rest ++ parked) c) [
+      (λ other c. elim (contains_cons node other (rest ++ parked) c) [
         | inl e ↦ Contains-append_right rest (parked ++ node ∷ []) other (subst (Contains (parked ++ node ∷ [])) e (Contains-push parked node))
         | inr k ↦ elim (Contains-append_cases rest parked other k) [
           | inl j ↦ Contains-append_left rest (parked ++ node ∷ []) other j
@@ -193,21 +195,21 @@ module _ (program reduced : Program) (way : WayBack) (Wide : Program → List �
         ]
       ])
       (λ other c. elim (Contains-append_cases rest (parked ++ node ∷ []) other c) [
-        | inl k ↦ later node other (rest ++ parked) (Contains-append_left rest parked other k)
+        | inl k ↦ contains_later node other (rest ++ parked) (Contains-append_left rest parked other k)
         | inr k ↦ elim (Contains-push_cases parked node other k) [
-          | inl j ↦ later node other (rest ++ parked) (Contains-append_right rest parked other j)
-          | inr e ↦ subst (Contains (node ∷ (rest ++ parked))) e (here node (rest ++ parked))
+          | inl j ↦ contains_later node other (rest ++ parked) (Contains-append_right rest parked other j)
+          | inr e ↦ subst (Contains (node ∷ (rest ++ parked))) e (contains_here node (rest ++ parked))
         ]
       ])
       s.cover)
       (λ other c. elim (Contains-push_cases parked node other c) [
-        | inl k ↦ later node other parked k
-        | inr e ↦ subst (Contains (node ∷ parked)) e (here node parked)
+        | inl k ↦ contains_later node other parked k
+        | inr e ↦ subst (Contains (node ∷ parked)) e (contains_here node parked)
       ])
       (parked_more log (parked_entry node) ∙ ap (λ t. t ++ parked_entry node ∷ []) s.parked ∙ sym (map-append parked_entry parked (node ∷ [])))
       (λ other c. elim (Contains-push_cases parked node other c) [
         | inl k ↦ s.stuck other k
-        | inr e ↦ subst (LeadsToWide program reduced Wide held) e (leads_to_wide program reduced way start Wide log held node s.back s.logged (s.given node (here node (rest ++ parked))) h)
+        | inr e ↦ subst (LeadsToWide program reduced Wide held) e (leads_to_wide program reduced way start Wide log held node s.back s.logged (s.given node (contains_here node (rest ++ parked))) h)
       ])
 
   -- with the first node in work written out
@@ -220,7 +222,7 @@ module _ (program reduced : Program) (way : WayBack) (Wide : Program → List �
   pub pruned : (state : State) (node : Node) (work : List Node) → state.work ≡ node ∷ work → matters state.held node.bound ≡ false → IsSearch program reduced way Wide start state → IsSearch program reduced way Wide start (record state { work = work; log = state.log ++ closed_entry node ∷ [] })
   pruned state node work e m s =
       let w = written state node work e s in
-      closed_at state.held node work state.open_ state.parked state.log (closed_by_bound reduced state.held node.box node.bound (w.cover.bounded node (here node ((work ++ state.open_) ++ state.parked))) m) w
+      closed_at state.held node work state.open_ state.parked state.log (closed_by_bound reduced state.held node.box node.bound (w.cover.bounded node (contains_here node ((work ++ state.open_) ++ state.parked))) m) w
 
   pub parked : (state : State) (node : Node) (work : List Node) → state.work ≡ node ∷ work → IsStuck program reduced way Wide node → IsSearch program reduced way Wide start state → IsSearch program reduced way Wide start (record state { work = work; parked = state.parked ++ node ∷ []; log = state.log ++ record { node = node.number; bound = node.bound; end = Parked } ∷ [] })
   parked state node work e h s = parked_at state.held node work state.open_ state.parked state.log h (written state node work e s)
@@ -310,9 +312,9 @@ module _ (program reduced : Program) (way : WayBack) (Wide : Program → List �
     pub now_cases : (other : Node) → Contains (work ++ now) other → (low ≡ other) ⊎ ((high ≡ other) ⊎ Contains (work ++ open_) other)
     now_cases other c = elim (Contains-append_cases work now other c) [
       | inl k ↦ inr (inr (Contains-append_left work open_ other k))
-      | inr k ↦ elim (here_or_later low other (high ∷ open_) (Contains-permutation now (low ∷ high ∷ open_) other (IsPermutation-sym (low ∷ high ∷ open_) now p) k)) [
+      | inr k ↦ elim (contains_cons low other (high ∷ open_) (Contains-permutation now (low ∷ high ∷ open_) other (IsPermutation-sym (low ∷ high ∷ open_) now p) k)) [
         | inl e ↦ inl e
-        | inr j ↦ elim (here_or_later high other open_ j) [
+        | inr j ↦ elim (contains_cons high other open_ j) [
           | inl e ↦ inr (inl e)
           | inr i ↦ inr (inr (Contains-append_right work open_ other i))
         ]
@@ -323,34 +325,34 @@ module _ (program reduced : Program) (way : WayBack) (Wide : Program → List �
     now_open other c = Contains-append_right work now other (Contains-permutation (low ∷ high ∷ open_) now other p c)
 
     now_low : Contains (work ++ now) low
-    now_low = now_open low (here low (high ∷ open_))
+    now_low = now_open low (contains_here low (high ∷ open_))
 
     now_high : Contains (work ++ now) high
-    now_high = now_open high (later low high (high ∷ open_) (here high open_))
+    now_high = now_open high (contains_later low high (high ∷ open_) (contains_here high open_))
 
     now_rest : (other : Node) → Contains (work ++ open_) other → Contains (work ++ now) other
     now_rest other c = elim (Contains-append_cases work open_ other c) [
       | inl k ↦ Contains-append_left work now other k
-      | inr k ↦ now_open other (later low other (high ∷ open_) (later high other open_ k))
+      | inr k ↦ now_open other (contains_later low other (high ∷ open_) (contains_later high other open_ k))
     ]
 
     now_cover : IsCover reduced held ((work ++ now) ++ parked)
     now_cover =
         same_cover reduced held (low ∷ high ∷ ((work ++ open_) ++ parked)) ((work ++ now) ++ parked)
-        (λ other c. elim (here_or_later low other (high ∷ ((work ++ open_) ++ parked)) c) [
+        (λ other c. elim (contains_cons low other (high ∷ ((work ++ open_) ++ parked)) c) [
           | inl e ↦ Contains-append_left (work ++ now) parked other (subst (Contains (work ++ now)) e now_low)
-          | inr k ↦ elim (here_or_later high other ((work ++ open_) ++ parked) k) [
+          | inr k ↦ elim (contains_cons high other ((work ++ open_) ++ parked) k) [
             | inl e ↦ Contains-append_left (work ++ now) parked other (subst (Contains (work ++ now)) e now_high)
             | inr j ↦ with_more (work ++ open_) (work ++ now) parked now_rest other j
           ]
         ])
         (λ other c. elim (Contains-append_cases (work ++ now) parked other c) [
           | inl k ↦ elim (now_cases other k) [
-            | inl e ↦ subst (Contains (low ∷ high ∷ ((work ++ open_) ++ parked))) e (here low (high ∷ ((work ++ open_) ++ parked)))
-            | inr (inl e) ↦ subst (Contains (low ∷ high ∷ ((work ++ open_) ++ parked))) e (later low high (high ∷ ((work ++ open_) ++ parked)) (here high ((work ++ open_) ++ parked)))
-            | inr (inr j) ↦ later low other (high ∷ ((work ++ open_) ++ parked)) (later high other ((work ++ open_) ++ parked) (Contains-append_left (work ++ open_) parked other j))
+            | inl e ↦ subst (Contains (low ∷ high ∷ ((work ++ open_) ++ parked))) e (contains_here low (high ∷ ((work ++ open_) ++ parked)))
+            | inr (inl e) ↦ subst (Contains (low ∷ high ∷ ((work ++ open_) ++ parked))) e (contains_later low high (high ∷ ((work ++ open_) ++ parked)) (contains_here high ((work ++ open_) ++ parked)))
+            | inr (inr j) ↦ contains_later low other (high ∷ ((work ++ open_) ++ parked)) (contains_later high other ((work ++ open_) ++ parked) (Contains-append_left (work ++ open_) parked other j))
           ]
-          | inr k ↦ later low other (high ∷ ((work ++ open_) ++ parked)) (later high other ((work ++ open_) ++ parked) (Contains-append_right (work ++ open_) parked other k))
+          | inr k ↦ contains_later low other (high ∷ ((work ++ open_) ++ parked)) (contains_later high other ((work ++ open_) ++ parked) (Contains-append_right (work ++ open_) parked other k))
         ])
         (covers.cover_step reduced held node ((work ++ open_) ++ parked) (low ∷ high ∷ [])
         (covers.split reduced held node low high column at can.kind (given_node_of reduced start log held node s.logged given).still_open halved.low_box halved.high_box
@@ -362,7 +364,7 @@ module _ (program reduced : Program) (way : WayBack) (Wide : Program → List �
 
     rest_number : (other : Node) (number : ℕ) → node_of was number ≡ None → Contains (work ++ open_) other → other.number ≢ number
     rest_number other number none c e =
-        let g = s.given other (later node other ((work ++ open_) ++ parked) (Contains-append_left (work ++ open_) parked other c)) in
+        let g = s.given other (contains_later node other ((work ++ open_) ++ parked) (Contains-append_left (work ++ open_) parked other c)) in
         given_apart other.number g.given number none g.found e
 
     now_hits : (number : ℕ) → sum_by (hits number) (work ++ now) ≡ hits number low + (hits number high + sum_by (hits number) (work ++ open_))
@@ -405,13 +407,13 @@ module _ (program reduced : Program) (way : WayBack) (Wide : Program → List �
     -- a node that the entry gives is a half
     gives_halves : (number : ℕ) (other : Node) → node_of (nodes_of was (split_entry node column at low.number high.number)) number ≡ Some other → (low_given ≡ other) ⊎ (high_given ≡ other)
     gives_halves number other e =
-        elim (here_or_later low_given other (high_given ∷ []) (node_of_among (low_given ∷ high_given ∷ []) number other (sym (ap (λ g. node_of g number) more_are) ∙ e)).0) [
+        elim (contains_cons low_given other (high_given ∷ []) (node_of_among (low_given ∷ high_given ∷ []) number other (sym (ap (λ g. node_of g number) more_are) ∙ e)).0) [
           | inl k ↦ inl k
-          | inr k ↦ inr (only_one high_given other k)
+          | inr k ↦ inr (the_only high_given other k)
         ]
 
     given_bounds : HoldsThere reduced held node.bound given.given.box
-    given_bounds = there_inside reduced held node.bound node.box given.given.box given.keeps (s.cover.bounded node (here node ((work ++ open_) ++ parked)))
+    given_bounds = there_inside reduced held node.bound node.box given.given.box given.keeps (s.cover.bounded node (contains_here node ((work ++ open_) ++ parked)))
 
     now_bounds : (number : ℕ) (other : Node) → node_of (nodes_given reduced start (log ++ split_entry node column at low.number high.number ∷ [])) number ≡ Some other → HoldsThere reduced held other.bound other.box
     now_bounds number other e = elim (none_or_some (node_of was number)) [
@@ -436,9 +438,9 @@ module _ (program reduced : Program) (way : WayBack) (Wide : Program → List �
         | inl k ↦ elim (now_cases other k) [
           | inl e ↦ subst (IsGiven reduced start (log ++ split_entry node column at low.number high.number ∷ []) held) e low_is_given
           | inr (inl e) ↦ subst (IsGiven reduced start (log ++ split_entry node column at low.number high.number ∷ []) held) e high_is_given
-          | inr (inr j) ↦ given_still held node work open_ parked log end s other (s.given other (later node other ((work ++ open_) ++ parked) (Contains-append_left (work ++ open_) parked other j)))
+          | inr (inr j) ↦ given_still held node work open_ parked log end s other (s.given other (contains_later node other ((work ++ open_) ++ parked) (Contains-append_left (work ++ open_) parked other j)))
         ]
-        | inr k ↦ given_still held node work open_ parked log end s other (s.given other (later node other ((work ++ open_) ++ parked) (Contains-append_right (work ++ open_) parked other k)))
+        | inr k ↦ given_still held node work open_ parked log end s other (s.given other (contains_later node other ((work ++ open_) ++ parked) (Contains-append_right (work ++ open_) parked other k)))
       ];
       unlogged = λ other c. elim (now_cases other c) [
         | inl e ↦ subst (λ (n : Node). HasNoEntry (log ++ split_entry node column at low.number high.number ∷ []) n.number) e (half_unlogged low.number right_end.1)

@@ -10,10 +10,10 @@ use Rattle.cip_problem.specs.Points.{printed}
 use Rattle.std.proofs.lemmas.List.{length-append}
 use Rattle.cip_problem.specs.Log.{Closed, Entry, IsLog}
 use Rattle.cip_problem.proofs.Log.Length.{log_is_short}
+use Rattle.cip_problem.proofs.Log.Entering.{follow_more}
+use Rattle.cip_problem.proofs.Covers.{none_of_nothing}
 use Rattle.cip_search.specs.Leaf.{Leaf}
 use Rattle.cip_search.specs.Searched.{first_node}
-use Rattle.cip_search.proofs.Members.{none_in}
-use Rattle.cip_search.proofs.OneMore.{follow_more}
 use Rattle.cip_search.proofs.Alike.{is_log, is_log_from}
 use Rattle.cip_search.specs.AnswerHeadline.{Agree}
 use Rattle.cip_search.specs.Figures.{Optimal, Infeasible, Unbounded, NodeLimit, Gap, Wide, NoMemory, Overflow, Held, Figures}
@@ -54,7 +54,7 @@ none_and_spent program start nodes log held some (inr e) k = absurd (omega (arit
 
 none_and_wide : {A : Type 0} (program : Program) (start : Option ℚ) (log : List Entry) (held : Option Held) (leaf : Leaf) (overflow : Overflow) → NothingIsLeft program start log (cost_of_printed program held) ⊎ (log ≡ []) → ShowsOverflow program start log held leaf overflow → A
 none_and_wide program start log held leaf overflow (inl h) k = absurd (h.none_parked k.matter)
-none_and_wide program start log held leaf overflow (inr e) k = absurd (none_in k.matter.entry (subst (λ l. Contains l k.matter.entry) e k.matter.among))
+none_and_wide program start log held leaf overflow (inr e) k = absurd (none_of_nothing k.matter.entry (subst (λ l. Contains l k.matter.entry) e k.matter.among))
 
 -- no two ends can be said at once
 pub ends_exclude : EndsExclude

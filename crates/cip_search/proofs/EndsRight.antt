@@ -2,12 +2,12 @@
 use Rattle.std.proofs.Common.{◌≡◌, ◌≢◌, inl, inr, ℕ, false, List, [], ◌∷◌, ◌++◌, Option, None, Some, IfSome, refl, sym, ap, ◌∙◌, subst, true≢false}
 use Rattle.std.specs.Prelude.{IsSome}
 use Rattle.std.proofs.lemmas.List.Elements.{Contains-append_cases}
-use Rattle.cip_search.proofs.Members.{none_in}
 use Rattle.cip_rational.specs.Rational.{ℚ, ◌<ℚ◌}
 use Rattle.cip_rational.proofs.Rational.Order.{≤ℚ_antisymm, le_of_lt_test}
 use Rattle.cip_problem.specs.Program.{Program}
 use Rattle.cip_problem.specs.Points.{IsFeasible, cost_of, IsLowerBound}
 use Rattle.cip_problem.specs.Log.{Node, matters}
+use Rattle.cip_problem.proofs.Covers.{none_of_nothing}
 use Rattle.cip_search.specs.Leaf.{Leaf}
 use Rattle.cip_search.specs.Searched.{OpenMatters, ParkedMatters, NoMore, IsLeast, IsCovered, AreTrueEntries}
 use Rattle.cip_search.proofs.Covers.{bound_holds}
@@ -99,7 +99,7 @@ module _ (program : Program) (start : Option ℚ) (nodes : ℕ) (asked : Option 
   empty_parts (n ∷ ns) second third e = absurd (cc)
 
   empty_list : (list : List Node) → list ≡ [] → NoneMatters state.held list
-  empty_list [] e node c = absurd (none_in node c)
+  empty_list [] e node c = absurd (none_of_nothing node c)
   empty_list (n ∷ ns) e node c = absurd (cc)
 
   bound_of : (ended : Ended) → answer.ended ≡ ended → IfSome answer.bound (IsLowerBound program)

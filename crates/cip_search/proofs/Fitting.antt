@@ -17,7 +17,7 @@ use Rattle.cip_search.specs.SearchEnds.{Ended, Optimal, Infeasible, Unbounded, N
 use Rattle.cip_search.specs.Figures.{EndFits, FitNames, names_of}
 use Rattle.cip_search.specs.Printed.{IsPrintable, status_of, printed_held, figures_of}
 
-none_held : {A B : Type 0} (f : A → B) (o : Option A) → o ≡ None → option_map f o ≡ None
+pub none_held : {A B : Type 0} (f : A → B) (o : Option A) → o ≡ None → option_map f o ≡ None
 none_held f None e = refl
 none_held f (Some x) e = absurd (cc)
 
@@ -59,7 +59,7 @@ open_names (Off ∷ cs) (x ∷ xs) f = open_names cs xs (λ column e. let l = f 
 open_names (On ∷ cs) (x ∷ xs) f = open_names cs xs (λ column e. let l = f (suc column) e in omega (arith, l))
 
 -- an open column isn't whole, and so has a place
-open_continuous : (choice : Choice) (whole : Option Bool) (bounds : Sides) → IsChoice choice whole bounds → is_open choice ≡ true → whole ≡ Some false
+pub open_continuous : (choice : Choice) (whole : Option Bool) (bounds : Sides) → IsChoice choice whole bounds → is_open choice ≡ true → whole ≡ Some false
 open_continuous Plain whole bounds h e = absurd (cc)
 open_continuous (Open own) whole bounds h e = h.continuous
 open_continuous Off whole bounds h e = absurd h

@@ -11,9 +11,9 @@ use Rattle.cip_problem.specs.Choices.{choice_at, zero_sides}
 use Rattle.cip_problem.specs.Wholes.{assignments, HasWhole, AllHaveWholes}
 use Rattle.cip_problem.proofs.Wholes.Counts.{IsPositive, assignments_positive}
 use Rattle.cip_problem.specs.Log.{End, Split, Closed, Parked, Entry, Node, low_of, high_of, low_node, high_node, node_of, halves, nodes_of, given_after, CanSplitAt, CanSplit, IsRightEnd, AllFollow}
+use Rattle.cip_problem.proofs.Log.Entering.{node_of_here, node_of_later}
 use Rattle.cip_search.specs.Searched.{first_node, nodes_given}
 use Rattle.cip_search.specs.Pairs.{IsPair}
-use Rattle.cip_search.proofs.OneMore.{node_of_here, node_of_later}
 use Rattle.cip_search.specs.SeenLogs.{end_seen, entry_seen, log_seen}
 use Rattle.cip_search.specs.SeenStatements.{IsReducedTo}
 use Rattle.cip_search.proofs.SeenColumns.{has_whole_at, all_have_wholes, of_one, of_none, is_place}

@@ -8,10 +8,12 @@ use Rattle.cip_rational.specs.Rational.{ℚ}
 use Rattle.cip_problem.specs.Program.{Program}
 use Rattle.cip_problem.specs.Log.{End, Closed, Parked, Split, Entry, Node, node_of, CanSplit, AllFollow}
 use Rattle.cip_problem.proofs.Log.SameHalves.{low_box, high_box}
+use Rattle.cip_problem.proofs.Log.Entering.{contains_here, contains_cons, contains_later}
+use Rattle.cip_problem.proofs.Covers.{the_only}
 use Rattle.cip_search.specs.Searched.{first_node, nodes_given}
 use Rattle.cip_search.specs.SearchState.{State, WayBack, unended, all_nodes, parked_entry, IsSearch, HasGivenBoxes}
 use Rattle.cip_search.specs.Statements.{closed_entry, split_entry, AreHalves}
-use Rattle.cip_search.proofs.Members.{here, later, here_or_later, only_one, kept_was_there}
+use Rattle.cip_search.proofs.Members.{kept_was_there}
 use Rattle.cip_search.proofs.Kept.{with_more, behind_more}
 use Rattle.cip_search.proofs.OneMore.{node_of_among}
 use Rattle.cip_search.proofs.Ended as ended
@@ -21,7 +23,7 @@ module _ (reduced : Program) (start : Option ℚ) where
   begun held =
       let first = first_node reduced start in
       let same : (node given : Node) → Contains (first ∷ []) node → node_of (first ∷ []) node.number ≡ Some given → node ≡ given =
-      λ node given c e. sym (only_one first node c) ∙ only_one first given (node_of_among (first ∷ []) node.number given e).0 in
+      λ node given c e. sym (the_only first node c) ∙ the_only first given (node_of_among (first ∷ []) node.number given e).0 in
       record {
         boxes = λ node given c e. ap (λ t. t.box) (same node given c e);
       }
@@ -36,9 +38,9 @@ module _ (reduced : Program) (start : Option ℚ) where
   taken state node open_ p h =
       let back : (other : Node) → Contains (node ∷ open_) other → Contains state.open_ other = λ other c. Contains-permutation (node ∷ open_) state.open_ other (IsPermutation-sym state.open_ (node ∷ open_) p) c in
       moved state (node ∷ state.work) open_
-      (λ other c. elim (here_or_later node other (state.work ++ open_) c) [
-        | inl e ↦ Contains-append_right state.work state.open_ other (back other (subst (Contains (node ∷ open_)) e (here node open_)))
-        | inr k ↦ behind_more state.work open_ state.open_ (λ o i. back o (later node o open_ i)) other k
+      (λ other c. elim (contains_cons node other (state.work ++ open_) c) [
+        | inl e ↦ Contains-append_right state.work state.open_ other (back other (subst (Contains (node ∷ open_)) e (contains_here node open_)))
+        | inr k ↦ behind_more state.work open_ state.open_ (λ o i. back o (contains_later node o open_ i)) other k
       ])
       h
 
@@ -47,9 +49,9 @@ module _ (reduced : Program) (start : Option ℚ) where
       let rest = (work ++ state.open_) ++ state.parked in
       let put : (other : Node) → Contains (node ∷ rest) other → Contains (all_nodes state) other = λ other c. subst (λ t. Contains ((t ++ state.open_) ++ state.parked) other) (sym w) c in
       record {
-        boxes = λ other given c. elim (here_or_later (record node { bound = b }) other rest c) [
-          | inl k ↦ subst (λ (n : Node). node_of (nodes_given reduced start state.log) n.number ≡ Some given → n.box ≡ given.box) k (λ e. h.boxes node given (put node (here node rest)) e)
-          | inr k ↦ h.boxes other given (put other (later node other rest k))
+        boxes = λ other given c. elim (contains_cons (record node { bound = b }) other rest c) [
+          | inl k ↦ subst (λ (n : Node). node_of (nodes_given reduced start state.log) n.number ≡ Some given → n.box ≡ given.box) k (λ e. h.boxes node given (put node (contains_here node rest)) e)
+          | inr k ↦ h.boxes other given (put other (contains_later node other rest k))
         ];
       }
 
@@ -66,10 +68,10 @@ module _ (reduced : Program) (start : Option ℚ) where
       let back : (other : Node) → Contains open_ other → Contains (node ∷ state.open_) other = λ other c. Contains-permutation open_ (node ∷ state.open_) other (IsPermutation-sym (node ∷ state.open_) open_ p) c in
       moved state work open_
       (λ other c. subst (λ t. Contains (t ++ state.open_) other) (sym w) (elim (Contains-append_cases work open_ other c) [
-        | inl k ↦ later node other (work ++ state.open_) (Contains-append_left work state.open_ other k)
-        | inr k ↦ elim (here_or_later node other state.open_ (back other k)) [
-          | inl e ↦ subst (Contains (node ∷ (work ++ state.open_))) e (here node (work ++ state.open_))
-          | inr j ↦ later node other (work ++ state.open_) (Contains-append_right work state.open_ other j)
+        | inl k ↦ contains_later node other (work ++ state.open_) (Contains-append_left work state.open_ other k)
+        | inr k ↦ elim (contains_cons node other state.open_ (back other k)) [
+          | inl e ↦ subst (Contains (node ∷ (work ++ state.open_))) e (contains_here node (work ++ state.open_))
+          | inr j ↦ contains_later node other (work ++ state.open_) (Contains-append_right work state.open_ other j)
         ]
       ]))
       h
@@ -89,7 +91,7 @@ module _ (program reduced : Program) (way : WayBack) (Wide : Program → List �
   closed_at held node work open_ parked log s h =
       let rest = (work ++ open_) ++ parked in
       record {
-        boxes = λ other given c e. h.boxes other given (later node other rest c) (was_given held node work open_ parked log Closed s other given (later node other rest c) e);
+        boxes = λ other given c e. h.boxes other given (contains_later node other rest c) (was_given held node work open_ parked log Closed s other given (contains_later node other rest c) e);
       }
 
   parked_at : (held : Option ℚ) (node : Node) (work open_ parked : List Node) (log : List Entry) → ended.At program reduced way Wide start held (node ∷ work) open_ parked log → As held (node ∷ work) open_ parked log → As held work open_ (parked ++ node ∷ []) (log ++ parked_entry node ∷ [])
@@ -97,10 +99,10 @@ module _ (program reduced : Program) (way : WayBack) (Wide : Program → List �
       let rest = (work ++ open_) ++ parked in
       let back : (other : Node) → Contains ((work ++ open_) ++ (parked ++ node ∷ [])) other → Contains (node ∷ rest) other =
       λ other c. elim (Contains-append_cases (work ++ open_) (parked ++ node ∷ []) other c) [
-        | inl k ↦ later node other rest (Contains-append_left (work ++ open_) parked other k)
+        | inl k ↦ contains_later node other rest (Contains-append_left (work ++ open_) parked other k)
         | inr k ↦ elim (Contains-push_cases parked node other k) [
-          | inl j ↦ later node other rest (Contains-append_right (work ++ open_) parked other j)
-          | inr e ↦ subst (Contains (node ∷ rest)) e (here node rest)
+          | inl j ↦ contains_later node other rest (Contains-append_right (work ++ open_) parked other j)
+          | inr e ↦ subst (Contains (node ∷ rest)) e (contains_here node rest)
         ]
       ] in
       record {
@@ -136,7 +138,7 @@ module _ (program reduced : Program) (way : WayBack) (Wide : Program → List �
     same_box : node.box ≡ (ended.node_given program reduced way Wide start held node work open_ parked log (Split column at low.number high.number) s).given.box
     same_box =
         let g = ended.node_given program reduced way Wide start held node work open_ parked log (Split column at low.number high.number) s in
-        h.boxes node g.given (here node ((work ++ open_) ++ parked)) g.found
+        h.boxes node g.given (contains_here node ((work ++ open_) ++ parked)) g.found
 
     abbrev was_given_node : Node
     was_given_node = (ended.node_given program reduced way Wide start held node work open_ parked log (Split column at low.number high.number) s).given
@@ -152,9 +154,9 @@ module _ (program reduced : Program) (way : WayBack) (Wide : Program → List �
       | inl k ↦ elim (ended.now_cases program reduced way Wide start held node low high work open_ parked now log column at can halved p followed s other k) [
         | inl j ↦ subst (λ (n : Node). node_of after n.number ≡ Some given → n.box ≡ given.box) j (λ e. halved.low_box ∙ low_box node was_given_node column at same_box same_choices ∙ ap (λ (n : Node). n.box) (is_low given e))
         | inr (inl j) ↦ subst (λ (n : Node). node_of after n.number ≡ Some given → n.box ≡ given.box) j (λ e. halved.high_box ∙ high_box node was_given_node column at same_box same_choices ∙ ap (λ (n : Node). n.box) (is_high given e))
-        | inr (inr j) ↦ old_box other given (later node other ((work ++ open_) ++ parked) (Contains-append_left (work ++ open_) parked other j))
+        | inr (inr j) ↦ old_box other given (contains_later node other ((work ++ open_) ++ parked) (Contains-append_left (work ++ open_) parked other j))
       ]
-      | inr k ↦ old_box other given (later node other ((work ++ open_) ++ parked) (Contains-append_right (work ++ open_) parked other k))
+      | inr k ↦ old_box other given (contains_later node other ((work ++ open_) ++ parked) (Contains-append_right (work ++ open_) parked other k))
     ]
 
     split_at : As held work now parked (log ++ split_entry node column at low.number high.number ∷ [])

@@ -17,8 +17,9 @@ use Rattle.cip_search.specs.Wide.{InRow, InCost}
 use Rattle.cip_search.specs.Searched.{first_node, nodes_given, OpenMatters, NoMore, IsFirstLeast, LeadsTo}
 use Rattle.cip_search.proofs.Points.{only_leaf_of}
 use Rattle.cip_problem.proofs.Log.Given.{node_of_log}
-use Rattle.cip_search.proofs.Members.{none_in}
-use Rattle.cip_search.proofs.OneMore.{contains_here, contains_cons, node_of_among}
+use Rattle.cip_problem.proofs.Log.Entering.{contains_here, contains_cons}
+use Rattle.cip_problem.proofs.Covers.{none_of_nothing}
+use Rattle.cip_search.proofs.OneMore.{node_of_among}
 use Rattle.cip_search.specs.WideLeaf.{Shown, AtPlace, AfterMoves, IsWideBy}
 use Rattle.cip_search.specs.LeafProgramExamples.{steep, endless}
 use Rattle.cip_search.proofs.LeafProgramsTried as leaves
@@ -84,7 +85,7 @@ only_root number node e =
     let among = node_of_among (first_node steep (Some zeroℚ) ∷ []) number node e in
     elim (contains_cons (first_node steep (Some zeroℚ)) node [] among.0) [
       | inl same ↦ sym among.1 ∙ sym (ap (λ (n : Node). n.number) same)
-      | inr more ↦ absurd (none_in node more)
+      | inr more ↦ absurd (none_of_nothing node more)
     ]
 
 root_taken : Contains {X = ℕ} (0 ∷ []) 0
@@ -102,7 +103,7 @@ IsNoDearerThan other = NoMore (Some zeroℚ) other.bound
 no_dearer : (other : Entry) → Contains root_parked other → IsNoDearerThan other
 no_dearer other c = elim (contains_cons root_entry other [] c) [
   | inl e ↦ subst IsNoDearerThan e (≤ℚ_refl zeroℚ)
-  | inr d ↦ absurd (none_in other d)
+  | inr d ↦ absurd (none_of_nothing other d)
 ]
 
 chosen : IsFirstLeast root_parked root_entry
@@ -112,7 +113,7 @@ chosen = record {
   placed = refl;
   parked = refl;
   least = λ other c p. no_dearer other c;
-  first = λ other c p. absurd (none_in other c);
+  first = λ other c p. absurd (none_of_nothing other c);
 }
 
 one_leaf : (leaf : List ℚ) → IsLeafIn steep.integral steep.bounds leaf → leaf ≡ []
@@ -151,7 +152,7 @@ not_by_two h = leaves.examples.not_two (subst (IsWideBy steep []) (by_moves h.by
 root_open : OpenMatters steep (Some zeroℚ) [] None
 root_open = record {
   node = first_node steep (Some zeroℚ);
-  left = record { given = refl; not_taken = λ c. none_in 0 c };
+  left = record { given = refl; not_taken = λ c. none_of_nothing 0 c };
   matter = refl;
 }
 

@@ -1,9 +1,10 @@
 -- Sides inside others: how they follow one another, what they hold, and that there are no more whole numbers between them.
 use borrow.Author.Differences.{le_out}
-use Rattle.std.proofs.Common.{◌≡◌, ℕ, zero, suc, ◌*◌, ◌≤◌, Bool, true, false, List, [], ◌∷◌, length, Option, None, Some, refl, sym, ap, subst, arith, true≢false, mul-le-mul, zero-mul}
-use Rattle.std.specs.Prelude.{◌&&◌, slice_set}
+use Rattle.std.proofs.Common.{◌≡◌, ℕ, zero, suc, ◌*◌, ◌≤◌, Bool, true, false, List, [], ◌∷◌, length, Option, None, Some, refl, sym, subst, arith, true≢false, mul-le-mul}
+use Rattle.std.specs.Prelude.{slice_set}
 use Rattle.std.specs.List.{AllZip}
 use Rattle.std.proofs.lemmas.Slice.Zip.{AllZip-long}
+use Rattle.std.proofs.lemmas.Bool.{and_parts, and_from}
 use Rattle.cip_rational.specs.Rational.{ℚ, floor, ceil}
 use Rattle.cip_rational.proofs.Rational.Order.{≤ℚ_refl, ≤ℚ_trans, le_of_test, test_of_le}
 use Rattle.cip_rational.proofs.Rational.Rounding.{floor_mono, ceil_mono}
@@ -11,17 +12,9 @@ use Rattle.cip_problem.specs.Program.{Sides}
 use Rattle.cip_problem.specs.Box.{IsInBox, sides_at, low_inside, high_inside, sides_inside}
 use Rattle.cip_problem.specs.Wholes.{wholes_between, times, assignments, AtMost}
 use Rattle.cip_problem.proofs.Box.SideTests.{sides_inside_holds}
-use Rattle.cip_problem.proofs.Wholes.Counts.{wholes_count}
+use Rattle.cip_problem.proofs.Wholes.Counts.{wholes_count, none_times}
 
 -- ---- sides
-
-and_parts : (a b : Bool) → (a && b) ≡ true → (a ≡ true) × (b ≡ true)
-and_parts true b h = (refl, h)
-and_parts false b h = absurd (true≢false (sym h))
-
-and_both : (a b : Bool) → a ≡ true → b ≡ true → (a && b) ≡ true
-and_both true b h k = k
-and_both false b h k = h
 
 low_chain : (a b c : Option ℚ) → low_inside a b ≡ true → low_inside b c ≡ true → low_inside a c ≡ true
 low_chain a b None h k = refl
@@ -42,7 +35,7 @@ pub inside_chain : (a b c : Sides) → sides_inside a b ≡ true → sides_insid
 inside_chain a b c h k =
     let p = and_parts _ _ h in
     let q = and_parts _ _ k in
-    and_both _ _ (low_chain a.low b.low c.low p.0 q.0) (high_chain a.high b.high c.high p.1 q.1)
+    and_from _ _ (low_chain a.low b.low c.low p.0 q.0) (high_chain a.high b.high c.high p.1 q.1)
 
 low_self : (a : Option ℚ) → low_inside a a ≡ true
 low_self None = refl
@@ -53,7 +46,7 @@ high_self None = refl
 high_self (Some a) = test_of_le (≤ℚ_refl a)
 
 pub inside_self : (a : Sides) → sides_inside a a ≡ true
-inside_self a = and_both _ _ (low_self a.low) (high_self a.high)
+inside_self a = and_from _ _ (low_self a.low) (high_self a.high)
 
 -- ---- boxes
 
@@ -122,10 +115,6 @@ at_most_chain a b None h k = tt
 at_most_chain a None (Some c) h k = absurd k
 at_most_chain None (Some b) (Some c) h k = absurd h
 at_most_chain (Some a) (Some b) (Some c) h k = omega (arith, h, k)
-
-none_times : (n : Option ℕ) → times (Some 0) n ≡ Some 0
-none_times None = refl
-none_times (Some n) = ap Some (zero-mul n)
 
 -- a product of fewer
 pub fewer_times : (a b c d : Option ℕ) → AtMost a c → AtMost b d → AtMost (times a b) (times c d)

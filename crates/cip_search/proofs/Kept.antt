@@ -13,13 +13,15 @@ use Rattle.cip_problem.specs.Improving.{HoldsInBox, IsBoundIn, IsNoDearer}
 use Rattle.cip_problem.specs.Cover.{IsBounded, IsCover, IsReplacedBy}
 use Rattle.cip_problem.proofs.Covers as covers
 use Rattle.cip_problem.proofs.Improving.{fewer}
+use Rattle.cip_problem.proofs.Log.Entering.{contains_here, contains_cons, contains_later}
+use Rattle.cip_problem.proofs.Covers.{none_of_nothing, the_only}
 use Rattle.cip_search.specs.Searched.{first_node, nodes_given, NoMore}
 use Rattle.cip_search.specs.SearchState.{State, WayBack, IsWayBack, unended, all_nodes, IsGiven, IsAttained, IsSearch, IsAsGiven}
-use Rattle.cip_search.proofs.Members.{none_in, here, later, here_or_later, only_one, kept_was_there, is_kept, hits, same_hits, fewer_hits}
+use Rattle.cip_search.proofs.Members.{kept_was_there, is_kept, hits, same_hits, fewer_hits}
 use Rattle.cip_search.proofs.Bounds.{HoldsThere, no_more_itself, there_inside, there_later, at_point, matters_at, matters_before}
-use Rattle.cip_search.proofs.Relaxed.{no_more_trans}
 use Rattle.cip_search.proofs.OneMore.{node_of_among}
 use Rattle.cip_search.proofs.Leading.{still_leads}
+use Rattle.cip_search.proofs.Roots.{no_more}
 
 -- ---- members
 
@@ -99,28 +101,28 @@ module _ (program reduced : Program) (way : WayBack) (Wide : Program → List �
         attained = s.attained;
         cover = covers.cover_step reduced held node rest (other ∷ []) r s.cover;
         logged = s.logged;
-        given = λ at c. elim (here_or_later other at rest c) [
-          | inl k ↦ subst (IsGiven reduced start log held) k (f (s.given node (here node rest)))
-          | inr k ↦ s.given at (later node at rest k)
+        given = λ at c. elim (contains_cons other at rest c) [
+          | inl k ↦ subst (IsGiven reduced start log held) k (f (s.given node (contains_here node rest)))
+          | inr k ↦ s.given at (contains_later node at rest k)
         ];
-        unlogged = λ at c. elim (here_or_later other at (work ++ open_) c) [
-          | inl k ↦ subst (λ n. ¬ Contains (map (λ (entry : Entry). entry.node) log) n) (sym e ∙ ap (λ t. t.number) k) (s.unlogged node (here node (work ++ open_)))
-          | inr k ↦ s.unlogged at (later node at (work ++ open_) k)
+        unlogged = λ at c. elim (contains_cons other at (work ++ open_) c) [
+          | inl k ↦ subst (λ n. ¬ Contains (map (λ (entry : Entry). entry.node) log) n) (sym e ∙ ap (λ t. t.number) k) (s.unlogged node (contains_here node (work ++ open_)))
+          | inr k ↦ s.unlogged at (contains_later node at (work ++ open_) k)
         ];
         apart = λ number. omega (arith, s.apart number, sum_by-cons (hits number) node (work ++ open_), sum_by-cons (hits number) other (work ++ open_), same_hits number other node e);
         parked = s.parked;
         stuck = s.stuck;
         bounds = s.bounds;
         entries = s.entries;
-        complete = λ at l m. let h = s.complete at l m in elim (here_or_later node h.node (work ++ open_) h.among) [
-          | inl k ↦ record { node = other; among = here other (work ++ open_); is = e ∙ ap (λ t. t.number) k ∙ h.is }
-          | inr k ↦ record { node = h.node; among = later other h.node (work ++ open_) k; is = h.is }
+        complete = λ at l m. let h = s.complete at l m in elim (contains_cons node h.node (work ++ open_) h.among) [
+          | inl k ↦ record { node = other; among = contains_here other (work ++ open_); is = e ∙ ap (λ t. t.number) k ∙ h.is }
+          | inr k ↦ record { node = h.node; among = contains_later other h.node (work ++ open_) k; is = h.is }
         ];
       }
 
   -- of the first node in work the bounds hold
   first_bounded : (state : State) (node : Node) (work : List Node) → state.work ≡ node ∷ work → IsSearch program reduced way Wide start state → IsBounded reduced state.held node
-  first_bounded state node work e s = s.cover.bounded node (subst (λ w. Contains ((w ++ state.open_) ++ state.parked) node) (sym e) (here node ((work ++ state.open_) ++ state.parked)))
+  first_bounded state node work e s = s.cover.bounded node (subst (λ w. Contains ((w ++ state.open_) ++ state.parked) node) (sym e) (contains_here node ((work ++ state.open_) ++ state.parked)))
 
   changed : (state : State) (node other : Node) (work : List Node) → state.work ≡ node ∷ work → other.number ≡ node.number → IsReplacedBy reduced state.held node (other ∷ []) → (IsGiven reduced start state.log state.held node → IsGiven reduced start state.log state.held other) → IsSearch program reduced way Wide start state → IsSearch program reduced way Wide start (record state { work = other ∷ work })
   changed state node other work w e r f s = changed_at state.held node other work state.open_ state.parked state.log e r f (subst (λ t. IsSearch program reduced way Wide start (record state { work = t })) w s)
@@ -129,12 +131,12 @@ module _ (program reduced : Program) (way : WayBack) (Wide : Program → List �
   raised state node work b w h l s =
       changed state node (record node { bound = Some b }) work w refl
       (covers.changed reduced state.held node (record node { bound = Some b }) (λ point i k. k) (λ k. h))
-      (λ g. record { given = g.given; found = g.found; holds = g.holds; keeps = g.keeps; choices = g.choices; bound = no_more_trans g.given.bound node.bound (Some b) g.bound l }) s
+      (λ g. record { given = g.given; found = g.found; holds = g.holds; keeps = g.keeps; choices = g.choices; bound = no_more g.given.bound node.bound (Some b) g.bound l }) s
 
   -- the bound that the log gave holds in the node's box, too
   pub lowered : (state : State) (node : Node) (work : List Node) (bound : Option ℚ) → state.work ≡ node ∷ work → ((given : Node) → node_of (nodes_given reduced start state.log) node.number ≡ Some given → bound ≡ given.bound) → IsSearch program reduced way Wide start state → IsSearch program reduced way Wide start (record state { work = record node { bound = bound } ∷ work })
   lowered state node work bound w f s =
-      let g = s.given node (subst (λ t. Contains ((t ++ state.open_) ++ state.parked) node) (sym w) (here node ((work ++ state.open_) ++ state.parked))) in
+      let g = s.given node (subst (λ t. Contains ((t ++ state.open_) ++ state.parked) node) (sym w) (contains_here node ((work ++ state.open_) ++ state.parked))) in
       let same : bound ≡ g.given.bound = f g.given g.found in
       let there : HoldsThere reduced state.held bound node.box = subst (λ b. HoldsThere reduced state.held b node.box) (sym same) (there_inside reduced state.held g.given.bound g.given.box node.box (λ point i c. g.holds point c) (s.bounds node.number g.given g.found)) in
       changed state node (record node { bound = bound }) work w refl
@@ -225,7 +227,7 @@ module _ (program reduced : Program) (way : WayBack) (Wide : Program → List �
   -- ---- a search begins
 
   only_first : (number : ℕ) (node : Node) → node_of (first_node reduced start ∷ []) number ≡ Some node → first_node reduced start ≡ node
-  only_first number node e = only_one (first_node reduced start) node (node_of_among (first_node reduced start ∷ []) number node e).0
+  only_first number node e = the_only (first_node reduced start) node (node_of_among (first_node reduced start ∷ []) number node e).0
 
   pub begun : (held : Option ℚ) → IsWayBack program reduced way → IfSome held (IsAttained program) → IfSome start (IsBoundIn reduced held reduced.bounds) → IsSearch program reduced way Wide start (record { held = held; work = []; open_ = first_node reduced start ∷ []; parked = []; log = [] })
   begun held w a b =
@@ -234,18 +236,18 @@ module _ (program reduced : Program) (way : WayBack) (Wide : Program → List �
         back = w;
         attained = a;
         cover = record {
-          reached = λ point i. record { node = first; among = here first []; within = i.feasible.within };
-          bounded = λ node c. subst (λ n. IsBounded reduced held n) (only_one first node c) b;
+          reached = λ point i. record { node = first; among = contains_here first []; within = i.feasible.within };
+          bounded = λ node c. subst (λ n. IsBounded reduced held n) (the_only first node c) b;
         };
         logged = tt;
-        given = λ node c. subst (IsGiven reduced start [] held) (only_one first node c) (let g : IsGiven reduced start [] held first = record { given = first; found = refl; holds = λ point k. k; keeps = λ point i k. k; choices = refl; bound = no_more_itself start } in g);
-        unlogged = λ node c h. none_in node.number h;
+        given = λ node c. subst (IsGiven reduced start [] held) (the_only first node c) (let g : IsGiven reduced start [] held first = record { given = first; found = refl; holds = λ point k. k; keeps = λ point i k. k; choices = refl; bound = no_more_itself start } in g);
+        unlogged = λ node c h. none_of_nothing node.number h;
         apart = λ number. omega (arith, sum_by-cons (hits number) first [], at_most_one (0 == number));
         parked = refl;
-        stuck = λ node c. absurd (none_in node c);
+        stuck = λ node c. absurd (none_of_nothing node c);
         bounds = λ number node e. subst (λ n. IfSome n.bound (IsBoundIn reduced held n.box)) (only_first number node e) b;
-        entries = λ entry node c e. absurd (none_in entry c);
-        complete = λ node l m. record { node = first; among = here first []; is = ap (λ t. t.number) (only_first node.number node l.given) };
+        entries = λ entry node c e. absurd (none_of_nothing entry c);
+        complete = λ node l m. record { node = first; among = contains_here first []; is = ap (λ t. t.number) (only_first node.number node l.given) };
       }
     where
       at_most_one : (t : Bool) → cond t 1 0 ≤ 1

@@ -10,6 +10,7 @@ use Rattle.cip_problem.specs.Log.{Entry, Node, AllFollow}
 use Rattle.cip_problem.specs.Improving.{IsNoDearer}
 use Rattle.cip_problem.proofs.Improving.{fewer}
 use Rattle.cip_problem.proofs.Reductions.{reduction_itself}
+use Rattle.cip_problem.proofs.Log.Entering.{contains_here}
 use Rattle.cip_search.specs.Leaf.{Leaf}
 use Rattle.cip_search.specs.Searched.{first_node}
 use Rattle.cip_search.specs.WideLeaf.{Shown, IsWideLeaf}
@@ -17,7 +18,6 @@ use Rattle.cip_search.specs.WideNodes.{IsWideAs}
 use Rattle.cip_search.proofs.Points.{only_leaf_of}
 use Rattle.cip_search.specs.SearchState.{State, WayBack, stay, IsWayBack, unended, IsGiven, LeadsBackTo, LeadsToWide, IsStuckAt, IsStuck, IsWideBack, IsSearch}
 use Rattle.cip_search.specs.EndLaws.{IsFirstLeastNode, IsShownNode}
-use Rattle.cip_search.proofs.Members.{here}
 use Rattle.cip_search.proofs.Told.{given_node_of}
 
 -- a node with one leaf that comes back as a wide one is put aside for that, whatever shows that it is wide
@@ -54,7 +54,7 @@ module _ (program reduced : Program) (way : WayBack) (start : Option ℚ) where
 
   pub shown_node : (Wide : Program → List ℚ → Type 0) (state : State) (node : Node) (leaf : Leaf) (shown : Shown) → IsSearch program reduced way Wide start state → IsFirstLeastNode state.parked node → IsWideBack program reduced way node leaf shown → IsShownNode program reduced state.held state.parked leaf shown
   shown_node Wide state node leaf shown s first k =
-      let among : Contains state.parked node = subst (λ t. Contains t node) (sym first.placed) (Contains-append_right first.before (node ∷ first.after) node (here node first.after)) in
+      let among : Contains state.parked node = subst (λ t. Contains t node) (sym first.placed) (Contains-append_right first.before (node ∷ first.after) node (contains_here node first.after)) in
       record {
         node = node;
         chosen = first;

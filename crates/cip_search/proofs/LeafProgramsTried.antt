@@ -1,9 +1,8 @@
 -- The examples, computed.
-use Rattle.std.proofs.Common.{◌≡◌, true, pos, negsuc, List, [], ◌∷◌, length, refl, ap, ◌∙◌, sym, arith}
+use Rattle.std.proofs.Common.{◌≡◌, pos, negsuc, List, [], ◌∷◌, length, refl, ap, ◌∙◌, sym, arith}
 use Rattle.cip_rational.specs.Gcd.{gcd}
 use Rattle.cip_rational.specs.Range.{fits_range, sum_overflows, difference_overflows, product_overflows}
 use Rattle.cip_rational.specs.Rational.{ℚ, ◌+ℚ◌, ◌-ℚ◌, ◌*ℚ◌, zeroℚ, oneℚ, negate, integer, ratio, whole, inverse, numerator, denominator, le_test, lt_test, is_zero}
-use Rattle.cip_rational.proofs.Rational.Order.{≤ℚ_antisymm, le_of_test}
 use Rattle.cip_problem.specs.LinearProgram.{LinearProgram}
 use Rattle.cip_bland.specs.Tables.{table}
 use Rattle.cip_bland.specs.Dictionary.{Dictionary, value, cost_entry}
@@ -16,12 +15,9 @@ use Rattle.cip_bland.specs.declared.moves.Move.TheVariants.{Exchange}
 use Rattle.cip_bland.specs.MoveList.{run}
 use Rattle.cip_bland.specs.EndAnswers.{Optimal, Unbounded, OutOfRange, answer}
 use Rattle.cip_bland.specs.NoRepeat.{whole_answer}
+use Rattle.cip_bland.proofs.Tried.{same}
 use Rattle.cip_search.specs.LeafProgram.{program_of_leaf}
 use Rattle.cip_search.specs.LeafProgramExamples.{on, at_least, kink, steep, endless, kink_at_one, by_row, Examples, free}
-
--- numbers of which each is at most the other are the same
-same : (a b : ℚ) → le_test a b ≡ true → le_test b a ≡ true → a ≡ b
-same a b e f = ≤ℚ_antisymm (le_of_test e) (le_of_test f)
 
 first_move : whole_answer (program_of_leaf steep []) ≡ OutOfRange (Exchange 1 0 Low ∷ [])
 unfolding first table ratio integer whole zeroℚ oneℚ ◌+ℚ◌ ◌*ℚ◌ ◌-ℚ◌ negate inverse numerator denominator le_test lt_test is_zero exchanged flipped gcd run answer whole_answer fits_range sum_overflows difference_overflows product_overflows

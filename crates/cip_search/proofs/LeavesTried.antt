@@ -17,6 +17,7 @@ use Rattle.cip_rational.proofs.Range.InRange.{fits-integer, fits_product}
 use Rattle.cip_rational.proofs.WithZero.{zero-sum_overflows}
 use Rattle.cip_rational.proofs.Linear.{linear_le}
 use Rattle.cip_rational.proofs.Rational.Monotone.{whole_le, le_whole}
+use Rattle.cip_rational.proofs.Tried.{whole_sum}
 use Rattle.cip_problem.specs.Examples.{semi_example, at_x}
 use Rattle.cip_search.specs.Leaf.{IsLeaf, at_wholes, IsLeafOf, IsPointOfLeaf}
 use Rattle.cip_search.specs.Wide.{InRow, InCost, added, is_wide_row, IsWideAt, fixed_part, fixed_cost, shift_overflows, fixed_values}
@@ -116,10 +117,6 @@ formed y d z e =
 sum_formed : (a b : ℚ) (y z : ℤ) (d e : ℕ) → numerator a ≡ y → denominator a ≡ d → numerator b ≡ z → denominator b ≡ e → sum_overflows a b ≡ formed y d z e
 unfolding sum_overflows
 sum_formed a b y z d e p q r s = rw (p, q, r, s) refl
-
-whole_sum : sum_overflows (integer (pos (2 ^ 126))) (integer (pos (2 ^ 126))) ≡ true
-unfolding gcd
-whole_sum = sum_formed _ _ (pos (2 ^ 126)) (pos (2 ^ 126)) 1 1 (numerator-integer _) (denominator-integer _) (numerator-integer _) (denominator-integer _)
 
 pub shifted : shift_overflows (Some (integer (pos (2 ^ 126)))) (integer (negsuc (2 ^ 126 - 1))) ≡ true
 unfolding difference_overflows

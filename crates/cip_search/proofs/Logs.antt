@@ -8,22 +8,24 @@ use Rattle.cip_rational.proofs.Rational.Order.{le_or_lt, test_of_lt}
 use Rattle.cip_problem.specs.Program.{Program}
 use Rattle.cip_problem.specs.Log.{Closed, Parked, Entry, Node, root, leaf_count, node_of, IsLog, matters}
 use Rattle.cip_problem.proofs.Log.Length.{log_is_short}
+use Rattle.cip_problem.proofs.Log.Entering.{follow_more}
+use Rattle.cip_problem.proofs.Covers.{none_of_nothing}
 use Rattle.cip_search.specs.Leaf.{Leaf}
 use Rattle.cip_search.specs.Wide.{IsWide}
 use Rattle.cip_search.specs.Searched.{first_node, nodes_given, IsLeftOpen, OpenMatters, ParkedMatters, NoMore, IsOneOf, IsLeast, IsCovered, AreTrueEntries, LeadsTo}
 use Rattle.cip_search.specs.SearchState.{State, WayBack, stay, unended, all_nodes, HasNoEntry, IsGiven, parked_entry, is_parked_end, LeadsBackTo, IsSearch, IsAsGiven}
 use Rattle.cip_search.specs.Endings.{OneMatters, IsBoundOfOne, IsLeastBound}
 use Rattle.cip_search.specs.Statements.{EntriesAreTrue}
-use Rattle.cip_search.proofs.Members.{none_in, kept_was_there, is_kept, mapped, ComesFrom, of_mapped}
-use Rattle.cip_search.proofs.Relaxed.{no_more_trans}
+use Rattle.cip_search.proofs.Members.{kept_was_there, is_kept, mapped, ComesFrom, of_mapped}
 use Rattle.cip_search.proofs.Alike as alike
-use Rattle.cip_search.proofs.OneMore.{node_of_among, follow_more}
+use Rattle.cip_search.proofs.OneMore.{node_of_among}
+use Rattle.cip_search.proofs.Roots.{no_more}
 
 -- a bound that doesn't matter is no less than the cost held
 not_below : (held bound other : Option ℚ) → ((cost : ℚ) → held ≡ Some cost → NoMore bound (Some cost)) → matters held other ≡ false → NoMore bound other
 not_below None bound other f e = absurd (let g : true ≡ false = e in cc)
 not_below (Some cost) bound None f e = absurd (let g : true ≡ false = e in cc)
-not_below (Some cost) bound (Some b) f e = no_more_trans bound (Some cost) (Some b) (f cost refl) (elim (le_or_lt cost b) [
+not_below (Some cost) bound (Some b) f e = no_more bound (Some cost) (Some b) (f cost refl) (elim (le_or_lt cost b) [
   | inl l ↦ l
   | inr l ↦ absurd (both_ways (lt_test b cost) e (test_of_lt l))
 ])
@@ -86,7 +88,7 @@ module _ (program reduced : Program) (way : WayBack) (Wide : Program → List �
         let g = unended_given node c in
         let entry : Entry = record { node = node.number; bound = None; end = Closed } in
         let more : IsLog reduced (state.log ++ entry ∷ []) =
-        alike.is_log reduced start (state.log ++ entry ∷ []) (follow_more reduced.integral (first_node reduced start ∷ []) [] state.log entry g.given s.logged g.found (none_in node.number) (s.unlogged node c) tt) in
+        alike.is_log reduced start (state.log ++ entry ∷ []) (follow_more reduced.integral (first_node reduced start ∷ []) [] state.log entry g.given s.logged g.found (none_of_nothing node.number) (s.unlogged node c) tt) in
         let short : length (state.log ++ entry ∷ []) ≤ max 1 (2 * n - 1) = log_is_short reduced (state.log ++ entry ∷ []) n more e in
         omega (arith, short, length-append state.log (entry ∷ []))
 

@@ -1,34 +1,19 @@
 -- Members of lists, and how many nodes have some number.
-use Rattle.std.proofs.Common.{◌≡◌, ◌≢◌, ◌⊎◌, inl, inr, ℕ, zero, suc, ◌+◌, ◌≤◌, ◌==◌, Bool, true, false, cond, List, [], ◌∷◌, map, sum_by, filter, Contains, refl, sym, ap, ◌∙◌, subst, arith}
+use Rattle.std.proofs.Common.{◌≡◌, ◌≢◌, ◌⊎◌, inl, inr, ℕ, ◌+◌, ◌≤◌, ◌==◌, Bool, true, false, cond, List, [], ◌∷◌, map, sum_by, filter, Contains, refl, sym, ap, ◌∙◌, subst, arith}
 use Rattle.std.proofs.lemmas.Bool.{eq-eqb, ne_eqb}
 use Rattle.std.proofs.lemmas.List.Sums.{sum_by-cons}
 use Rattle.cip_problem.specs.Log.{Node}
+use Rattle.cip_problem.proofs.Log.Entering.{contains_here, contains_cons, contains_later}
+use Rattle.cip_problem.proofs.Covers.{none_of_nothing}
 use Rattle.cip_search.specs.SearchState.{has_number, AreApart}
 
 -- ---- members
 
-pub none_in : {X : Type 0} (x : X) → ¬ Contains [] x
-none_in x h = absurd (omega (arith, h.1))
-
-pub here : {X : Type 0} (x : X) (xs : List X) → Contains (x ∷ xs) x
-here x xs = (0, omega arith, refl)
-
-pub later : {X : Type 0} (x y : X) (xs : List X) → Contains xs y → Contains (x ∷ xs) y
-later x y xs h = (suc h.0, omega (arith, h.1), h.2)
-
-pub here_or_later : {X : Type 0} (x y : X) (xs : List X) → Contains (x ∷ xs) y → (x ≡ y) ⊎ Contains xs y
-here_or_later x y xs (zero, l, e) = inl e
-here_or_later x y xs (suc k, l, e) = inr (k, omega (arith, l), e)
-
-pub only_one : {X : Type 0} (x y : X) → Contains (x ∷ []) y → x ≡ y
-only_one x y (zero, l, e) = e
-only_one x y (suc k, l, e) = absurd (omega (arith, l))
-
 pub mapped : {X Y : Type 0} (f : X → Y) (xs : List X) (x : X) → Contains xs x → Contains (map f xs) (f x)
-mapped f [] x h = absurd (none_in x h)
-mapped f (y ∷ ys) x h = elim (here_or_later y x ys h) [
-  | inl e ↦ subst (λ z. Contains (f y ∷ map f ys) (f z)) e (here (f y) (map f ys))
-  | inr k ↦ later (f y) (f x) (map f ys) (mapped f ys x k)
+mapped f [] x h = absurd (none_of_nothing x h)
+mapped f (y ∷ ys) x h = elim (contains_cons y x ys h) [
+  | inl e ↦ subst (λ z. Contains (f y ∷ map f ys) (f z)) e (contains_here (f y) (map f ys))
+  | inr k ↦ contains_later (f y) (f x) (map f ys) (mapped f ys x k)
 ]
 
 -- an element of a mapped list comes from one
@@ -38,21 +23,21 @@ pub record ComesFrom {X Y : Type 0} (f : X → Y) (xs : List X) (y : Y) : Type 0
   pub is : f from ≡ y
 
 pub of_mapped : {X Y : Type 0} (f : X → Y) (xs : List X) (y : Y) → Contains (map f xs) y → ComesFrom f xs y
-of_mapped f [] y h = absurd (none_in y h)
-of_mapped f (x ∷ xs) y h = elim (here_or_later (f x) y (map f xs) h) [
-  | inl e ↦ record { from = x; among = here x xs; is = e }
-  | inr k ↦ let r = of_mapped f xs y k in record { from = r.from; among = later x r.from xs r.among; is = r.is }
+of_mapped f [] y h = absurd (none_of_nothing y h)
+of_mapped f (x ∷ xs) y h = elim (contains_cons (f x) y (map f xs) h) [
+  | inl e ↦ record { from = x; among = contains_here x xs; is = e }
+  | inr k ↦ let r = of_mapped f xs y k in record { from = r.from; among = contains_later x r.from xs r.among; is = r.is }
 ]
 
 filtered : {X : Type 0} (x y : X) (a b : List X) (t : Bool) → (Contains a y → Contains b y) → Contains (cond t (x ∷ a) a) y → Contains (x ∷ b) y × ((t ≡ true) ⊎ Contains a y)
 filtered x y a b true f h = (
-  elim (here_or_later x y a h) [
-    | inl e ↦ subst (Contains (x ∷ b)) e (here x b)
-    | inr k ↦ later x y b (f k)
+  elim (contains_cons x y a h) [
+    | inl e ↦ subst (Contains (x ∷ b)) e (contains_here x b)
+    | inr k ↦ contains_later x y b (f k)
   ],
   inl refl,
 )
-filtered x y a b false f h = (later x y b (f h), inr h)
+filtered x y a b false f h = (contains_later x y b (f h), inr h)
 
 -- what a filter keeps was there, and passes the test
 pub kept_was_there : {X : Type 0} (p : X → Bool) (xs : List X) (x : X) → Contains (filter p xs) x → Contains xs x
@@ -60,26 +45,26 @@ kept_was_there p [] x h = h
 kept_was_there p (y ∷ ys) x h = (filtered y x (filter p ys) ys (p y) (kept_was_there p ys x) h).0
 
 passes_here : {X : Type 0} (p : X → Bool) (y x : X) (a : List X) (t : Bool) → p y ≡ t → (Contains a x → p x ≡ true) → Contains (cond t (y ∷ a) a) x → p x ≡ true
-passes_here p y x a true e f h = elim (here_or_later y x a h) [
+passes_here p y x a true e f h = elim (contains_cons y x a h) [
   | inl k ↦ subst (λ z. p z ≡ true) k e
   | inr k ↦ f k
 ]
 passes_here p y x a false e f h = f h
 
 pub kept_passes : {X : Type 0} (p : X → Bool) (xs : List X) (x : X) → Contains (filter p xs) x → p x ≡ true
-kept_passes p [] x h = absurd (none_in x h)
+kept_passes p [] x h = absurd (none_of_nothing x h)
 kept_passes p (y ∷ ys) x h = passes_here p y x (filter p ys) (p y) refl (kept_passes p ys x) h
 
 keeps_here : {X : Type 0} (y x : X) (a : List X) (t : Bool) → (y ≡ x → t ≡ true) → (y ≡ x) ⊎ Contains a x → Contains (cond t (y ∷ a) a) x
-keeps_here y x a true f (inl e) = subst (Contains (y ∷ a)) e (here y a)
-keeps_here y x a true f (inr k) = later y x a k
+keeps_here y x a true f (inl e) = subst (Contains (y ∷ a)) e (contains_here y a)
+keeps_here y x a true f (inr k) = contains_later y x a k
 keeps_here y x a false f (inl e) = absurd (let g : false ≡ true = f e in cc)
 keeps_here y x a false f (inr k) = k
 
 pub is_kept : {X : Type 0} (p : X → Bool) (xs : List X) (x : X) → Contains xs x → p x ≡ true → Contains (filter p xs) x
 is_kept p [] x h e = h
 is_kept p (y ∷ ys) x h e =
-    keeps_here y x (filter p ys) (p y) (λ k. subst (λ z. p z ≡ true) (sym k) e) (elim (here_or_later y x ys h) [
+    keeps_here y x (filter p ys) (p y) (λ k. subst (λ z. p z ≡ true) (sym k) e) (elim (contains_cons y x ys h) [
       | inl k ↦ inl k
       | inr k ↦ inr (is_kept p ys x k e)
     ])
@@ -102,11 +87,11 @@ same_hits number node other e = let f : ℕ → ℕ = λ n. cond (n == number) 1
 pub none_hits : (number : ℕ) (nodes : List Node) → ((node : Node) → Contains nodes node → node.number ≢ number) → sum_by (hits number) nodes ≡ 0
 none_hits number [] h = refl
 none_hits number (n ∷ ns) h =
-    omega (arith, sum_by-cons (hits number) n ns, missed number n (h n (here n ns)), none_hits number ns (λ node c. h node (later n node ns c)))
+    omega (arith, sum_by-cons (hits number) n ns, missed number n (h n (contains_here n ns)), none_hits number ns (λ node c. h node (contains_later n node ns c)))
 
 pub no_hit : (number : ℕ) (nodes : List Node) (node : Node) → sum_by (hits number) nodes ≡ 0 → Contains nodes node → node.number ≢ number
-no_hit number [] node h c e = absurd (none_in node c)
-no_hit number (n ∷ ns) node h c e = elim (here_or_later n node ns c) [
+no_hit number [] node h c e = absurd (none_of_nothing node c)
+no_hit number (n ∷ ns) node h c e = elim (contains_cons n node ns c) [
   | inl k ↦ omega (arith, h, sum_by-cons (hits number) n ns, hit number n (ap (λ t. t.number) k ∙ e))
   | inr k ↦ no_hit number ns node (omega (arith, h, sum_by-cons (hits number) n ns)) k e
 ]

@@ -13,9 +13,9 @@ use Rattle.cip_problem.specs.Choices.{choice_at, met, is_open, AreStillOpen}
 use Rattle.cip_problem.specs.Wholes.{HasWhole}
 use Rattle.cip_problem.specs.Log.{low_half, high_half}
 use Rattle.cip_problem.proofs.Box.SideTests.{low_inside_holds, high_inside_holds}
+use Rattle.cip_problem.proofs.Log.Given.{open_inside}
 use Rattle.cip_search.specs.Pairs.{IsHeldFast, IsPair}
 use Rattle.cip_search.proofs.Apart.{kept_apart}
-use Rattle.cip_search.proofs.SeenColumns.{open_inside}
 use Rattle.cip_search.proofs.Agreeing.{Agree, agree_first, agree_low, agree_high, agree_met}
 
 -- a box with choices over the reduced program, and one over the program: they agree at each column of the reduced

@@ -61,7 +61,7 @@ whole_set (b ∷ bs) [] column v f h = absurd h
 whole_set (b ∷ bs) (w ∷ y) zero v f h = ((λ e. f (ap Some e)), h.1)
 whole_set (b ∷ bs) (w ∷ y) (suc column) v f h = (h.0, whole_set bs y column v f h.1)
 
-not_open_allows : (choice : Choice) (v : ℚ) → is_open choice ≡ false → Allows choice v
+pub not_open_allows : (choice : Choice) (v : ℚ) → is_open choice ≡ false → Allows choice v
 not_open_allows Plain v e = tt
 not_open_allows (Open own) v e = absurd (true≢false e)
 not_open_allows Off v e = tt
@@ -71,7 +71,7 @@ choice_set : (choices : List Choice) (y : List ℚ) (column place : ℕ) (v : �
 choice_set choices y column place v (same e) o k = not_open_allows (choice_at choices place) _ (subst (λ c. is_open (choice_at choices c) ≡ false) (sym e) o)
 choice_set choices y column place v (other h) o k = subst (λ t. Allows (choice_at choices place) t) (sym (set_other y column place v h)) (k place)
 
-sides_set : (box : List Sides) (column : ℕ) (sides : Sides) → column < length box → sides_at (slice_set box column sides) column ≡ sides
+pub sides_set : (box : List Sides) (column : ℕ) (sides : Sides) → column < length box → sides_at (slice_set box column sides) column ≡ sides
 sides_set [] column sides h = absurd (omega (arith, h))
 sides_set (s ∷ ss) zero sides h = refl
 sides_set (s ∷ ss) (suc column) sides h = sides_set ss column sides (omega (arith, h))

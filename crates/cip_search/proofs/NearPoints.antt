@@ -84,7 +84,7 @@ module _ (program reduced : Program) (post : List ℚ → List ℚ) (kept : ℕ 
 
 -- ---- improving points
 
-still_cheaper : (held : Option ℚ) (a b : ℚ) → a ≤ℚ b → IfSome held (λ cost. b <ℚ cost) → IfSome held (λ cost. a <ℚ cost)
+pub still_cheaper : (held : Option ℚ) (a b : ℚ) → a ≤ℚ b → IfSome held (λ cost. b <ℚ cost) → IfSome held (λ cost. a <ℚ cost)
 still_cheaper None a b l h = tt
 still_cheaper (Some cost) a b l h = <ℚ_of_le_of_lt l h
 

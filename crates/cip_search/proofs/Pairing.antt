@@ -93,7 +93,7 @@ exact_after first second third a b = record {
 pub exact_self : (program : Program) → IsExactStep program program
 exact_self program = record { narrowed = step_self program; keeps = λ point h. h }
 
-feasible_relaxed : (program : Program) (point : List ℚ) → IsFeasible program point → IsRelaxed program point
+pub feasible_relaxed : (program : Program) (point : List ℚ) → IsFeasible program point → IsRelaxed program point
 feasible_relaxed program point h = record { within = h.within; rows = h.rows }
 
 -- an exact step is a step
@@ -180,7 +180,7 @@ composed outer inner v =
     ∙ ap (λ t. (outer.constant +ℚ outer.factor *ℚ inner.constant) +ℚ t) (sym (*ℚ_assoc outer.factor inner.factor v))
 
 -- without a factor the source doesn't matter
-no_factor : (factor v w : ℚ) → factor ≡ zeroℚ → factor *ℚ v ≡ factor *ℚ w
+pub no_factor : (factor v w : ℚ) → factor ≡ zeroℚ → factor *ℚ v ≡ factor *ℚ w
 no_factor factor v w e = ap (λ t. t *ℚ v) e ∙ zero-*ℚ v ∙ sym (ap (λ t. t *ℚ w) e ∙ zero-*ℚ w)
 
 zero_factor : (factor other : ℚ) → other ≡ zeroℚ → factor *ℚ other ≡ zeroℚ

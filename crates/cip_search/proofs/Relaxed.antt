@@ -1,21 +1,15 @@
 -- Bounds of the linear program of a box.
-use Rattle.std.proofs.Common.{List, [], ◌∷◌, ◌++◌, Option, None, Some, sym, subst}
+use Rattle.std.proofs.Common.{List, [], ◌∷◌, ◌++◌, Option, Some, sym, subst}
 use Rattle.std.specs.List.{AllByRecursion}
 use Rattle.std.proofs.lemmas.List.{append-nil}
 use Rattle.cip_rational.specs.Rational.{ℚ, ◌+ℚ◌}
-use Rattle.cip_rational.proofs.Rational.Order.{≤ℚ_trans}
 use Rattle.cip_problem.specs.Program.{Sides, Row, Program}
 use Rattle.cip_problem.specs.Box.{IsInBox}
 use Rattle.cip_problem.specs.Points.{IsSatisfied}
 use Rattle.cip_search.specs.LinearProgram.{IsPoint, IsOptimal}
 use Rattle.cip_search.specs.Searched.{NoMore}
 use Rattle.cip_search.specs.Relaxation.{relaxation, IsRelaxedBound}
-
-pub no_more_trans : (a b c : Option ℚ) → NoMore a b → NoMore b c → NoMore a c
-no_more_trans None b c h k = tt
-no_more_trans (Some a) None c h k = absurd h
-no_more_trans (Some a) (Some b) None h k = absurd k
-no_more_trans (Some a) (Some b) (Some c) h k = ≤ℚ_trans h k
+use Rattle.cip_search.proofs.Roots.{no_more}
 
 pub all_first : {X : Type 0} (P : X → Type 0) (xs ys : List X) → AllByRecursion P (xs ++ ys) → AllByRecursion P xs
 all_first P [] ys h = tt
@@ -34,7 +28,7 @@ optimum program rows box bound point cost h o = h.reached cost o.least
 pub greater : (program : Program) (rows : List Row) (box : List Sides) (bound more : Option ℚ) → NoMore bound more → IsRelaxedBound program rows box bound → IsRelaxedBound program rows box more
 greater program rows box bound more l h = record {
   feasible = h.feasible;
-  reached = λ least c. no_more_trans (Some (program.constant +ℚ least)) bound more (h.reached least c) l;
+  reached = λ least c. no_more (Some (program.constant +ℚ least)) bound more (h.reached least c) l;
 }
 
 pub wider : (program : Program) (rows : List Row) (inner outer : List Sides) (bound : Option ℚ) → ((point : List ℚ) → IsInBox inner point → IsInBox outer point) → IsRelaxedBound program rows inner bound → IsRelaxedBound program [] outer bound

@@ -1,10 +1,9 @@
 -- A pair is a reduction, and a way back for a search.
-use Rattle.std.proofs.Common.{◌≡◌, ℕ, zero, suc, Bool, true, false, List, [], ◌∷◌, length, Option, None, Some, IfSome, slice_get, refl, sym, ap, ◌∙◌, subst, arith, inl, inr, true≢false}
+use Rattle.std.proofs.Common.{◌≡◌, ℕ, zero, suc, Bool, true, false, List, [], ◌∷◌, length, Option, Some, slice_get, refl, sym, ap, ◌∙◌, subst, arith, inl, inr, true≢false}
 use Rattle.std.specs.Prelude.{if◌then◌else◌, ⊤}
 use Rattle.std.specs.List.{AllZip}
 use Rattle.std.proofs.lemmas.Option.{none-some, same_Some}
-use Rattle.cip_rational.specs.Rational.{ℚ, ◌+ℚ◌, ◌*ℚ◌, zeroℚ, ◌≤ℚ◌, le_test, IsWhole}
-use Rattle.cip_rational.proofs.Rational.Order.{≤ℚ_refl, le_of_test}
+use Rattle.cip_rational.specs.Rational.{ℚ, ◌+ℚ◌, ◌*ℚ◌, zeroℚ, IsWhole}
 use Rattle.cip_rational.proofs.Rational.Ring.{zero-*ℚ}
 use Rattle.cip_rational.proofs.Rational.Whole.{IsWhole-zero, IsWhole-add, IsWhole-mul}
 use Rattle.cip_problem.specs.Program.{Sides, Choice, Plain, Open, Off, On, Program}
@@ -12,10 +11,10 @@ use Rattle.cip_problem.specs.WellFormed.{IsWellFormed, IsChoice, IsSemi}
 use Rattle.cip_problem.specs.Activity.{value_at}
 use Rattle.cip_problem.specs.Box.{Between, IsInBox, sides_at}
 use Rattle.cip_problem.specs.Points.{AreWhole, IsFeasible}
-use Rattle.cip_problem.specs.Choices.{choice_at, Allows, KeepsChoices, zero_sides, greater, open_sides, decided_box, decided}
+use Rattle.cip_problem.specs.Choices.{choice_at, Allows, KeepsChoices, zero_sides, decided_box, decided}
 use Rattle.cip_problem.proofs.Points.AtPlaces.{IsInBox-long, whole_at}
 use Rattle.cip_problem.proofs.Choices.Meeting.{zero_of_between}
-use Rattle.cip_problem.proofs.Choices.Decided.{own_open}
+use Rattle.cip_problem.proofs.Choices.Decided.{own_open, zero_open}
 use Rattle.cip_problem.specs.Reduced.{IsRelaxed, IsReduction}
 use Rattle.cip_search.specs.Leaf.{at_wholes}
 use Rattle.cip_search.specs.SearchState.{IsWayBack}
@@ -70,22 +69,9 @@ none_made [] values = tt
 none_made (o ∷ own) [] = tt
 none_made (o ∷ own) (v ∷ values) = tt
 
-zero_greater : (high : Option ℚ) → IfSome (greater (Some zeroℚ) high) (λ side. zeroℚ ≤ℚ side)
-zero_greater None = ≤ℚ_refl zeroℚ
-zero_greater (Some high) = tested (le_test zeroℚ high) refl
-  where
-    tested : (t : Bool) → le_test zeroℚ high ≡ t → IfSome (greater (Some zeroℚ) (Some high)) (λ side. zeroℚ ≤ℚ side)
-    tested true e = rw e (le_of_test e)
-    tested false e = rw e (≤ℚ_refl zeroℚ)
-
-zero_in_open : (own sides : Sides) (whole : Option Bool) (value : ℚ) → IsSemi own whole sides → value ≡ zeroℚ → Between sides.low sides.high value
-zero_in_open own sides whole value semi e =
-    subst (λ (s : Sides). Between s.low s.high value) (sym semi.open_)
-    (subst (λ v. Between (open_sides own).low (open_sides own).high v) (sym e) (record { above = ≤ℚ_refl zeroℚ; below = zero_greater own.high }))
-
 made_open : (own sides : Sides) (whole : Option Bool) (value : ℚ) (is_on : Bool) → IsSemi own whole sides → Between (if is_on then own else zero_sides).low (if is_on then own else zero_sides).high value → Between sides.low sides.high value
 made_open own sides whole value true semi h = own_open own sides whole value semi h
-made_open own sides whole value false semi h = zero_in_open own sides whole value semi (zero_of_between value h)
+made_open own sides whole value false semi h = zero_open own sides whole value semi (zero_of_between value h)
 
 -- past the end of a box no choice is open, as its sides would be there
 none_past : (own : Sides) (whole : Option Bool) → ¬ IsSemi own whole (sides_at [] 0)
@@ -130,7 +116,7 @@ decided_in (On ∷ cs) (s ∷ ss) on (v ∷ p) h m = (h.0, decided_in cs ss on p
 
 -- ---- whole values
 
-all_whole : (integral : List Bool) (p : List ℚ) → length p ≡ length integral → ((column : ℕ) → slice_get integral column ≡ Some true → IsWhole (value_at p column)) → AreWhole integral p
+pub all_whole : (integral : List Bool) (p : List ℚ) → length p ≡ length integral → ((column : ℕ) → slice_get integral column ≡ Some true → IsWhole (value_at p column)) → AreWhole integral p
 all_whole [] [] e f = tt
 all_whole [] (v ∷ p) e f = absurd (omega (arith, e))
 all_whole (w ∷ ws) [] e f = absurd (omega (arith, e))
@@ -144,7 +130,7 @@ same_wholes (true ∷ ws) (v ∷ p) (u ∷ q) d e f =
     ap (λ t. t ∷ at_wholes ws p) (f 0 refl) ∙ ap (λ t. u ∷ t) (same_wholes ws p q (omega (arith, d)) (omega (arith, e)) (λ column. f (suc column)))
 same_wholes (false ∷ ws) (v ∷ p) (u ∷ q) d e f = same_wholes ws p q (omega (arith, d)) (omega (arith, e)) (λ column. f (suc column))
 
-length-with_wholes : (integral : List Bool) (values : List ℚ) → length (with_wholes integral values) ≡ length integral
+pub length-with_wholes : (integral : List Bool) (values : List ℚ) → length (with_wholes integral values) ≡ length integral
 length-with_wholes [] values = refl
 length-with_wholes (false ∷ ws) values = ap (λ n. suc n) (length-with_wholes ws values)
 length-with_wholes (true ∷ ws) [] = ap (λ n. suc n) (length-with_wholes ws [])

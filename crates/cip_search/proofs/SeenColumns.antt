@@ -3,10 +3,9 @@ use Rattle.std.proofs.Common.{◌≡◌, ◌≢◌, inl, inr, ℕ, zero, suc, �
 use Rattle.std.proofs.lemmas.Bool.{cases_eq}
 use Rattle.std.proofs.lemmas.Option.{none-some, same_Some}
 use Rattle.cip_rational.specs.Rational.{ℚ}
-use Rattle.cip_problem.specs.Program.{Sides, Choice, Open}
+use Rattle.cip_problem.specs.Program.{Sides}
 use Rattle.cip_problem.specs.Activity.{value_at}
 use Rattle.cip_problem.specs.Box.{Between, IsInBox, sides_at}
-use Rattle.cip_problem.specs.Choices.{choice_at}
 use Rattle.cip_problem.specs.Wholes.{HasWhole, AllHaveWholes}
 
 -- ---- points
@@ -17,14 +16,6 @@ in_box [] [] e f = tt
 in_box [] (v ∷ vs) e f = absurd (omega (arith, e))
 in_box (s ∷ ss) [] e f = absurd (omega (arith, e))
 in_box (s ∷ ss) (v ∷ vs) e f = (f 0 (omega arith), in_box ss vs (omega (arith, e)) (λ column l. f (suc column) (omega (arith, l))))
-
--- ---- choices
-
--- a column whose choice is open has a place in the list
-pub open_inside : (choices : List Choice) (column : ℕ) (own : Sides) → choice_at choices column ≡ Open own → column < length choices
-open_inside [] column own e = absurd (cc)
-open_inside (c ∷ cs) zero own e = omega arith
-open_inside (c ∷ cs) (suc column) own e = omega (arith, open_inside cs column own e)
 
 -- ---- whole values
 

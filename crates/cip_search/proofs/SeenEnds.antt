@@ -6,6 +6,7 @@ use Rattle.std.proofs.lemmas.Option.{same_Some}
 use Rattle.cip_rational.specs.Rational.{ℚ}
 use Rattle.cip_problem.specs.Program.{Program}
 use Rattle.cip_problem.specs.Log.{Node, node_of, matters}
+use Rattle.cip_problem.proofs.Log.Entering.{contains_here}
 use Rattle.cip_search.specs.Leaf.{Leaf}
 use Rattle.cip_search.specs.Searched.{nodes_given, NoMore}
 use Rattle.cip_search.specs.WideLeaf.{Shown, IsWideLeaf}
@@ -13,7 +14,7 @@ use Rattle.cip_search.specs.SearchState.{State, WayBack, unended, all_nodes, IsS
 use Rattle.cip_search.specs.Endings.{OneMatters, NoneMatters, IsBoundOfOne, IsLeastBound}
 use Rattle.cip_search.specs.SearchEnds.{Ended, Optimal, Infeasible, Unbounded, NodeLimit, Gap, Wide, NoMemory, Answer}
 use Rattle.cip_search.specs.EndLaws.{IsFirstLeastNode, IsShownNode, ComesTo, IsAnswerOf}
-use Rattle.cip_search.proofs.Members.{here, mapped, of_mapped}
+use Rattle.cip_search.proofs.Members.{mapped, of_mapped}
 use Rattle.cip_search.specs.SeenLogs.{entry_seen, log_seen, node_seen, state_seen}
 use Rattle.cip_search.specs.SeenStatements.{IsReducedTo, IsSeen, SearchesAreSeen}
 use Rattle.cip_search.proofs.SeenNodes.{boxed, same_bound}
@@ -101,7 +102,7 @@ module _ (program reduced : Program) (post : List ℚ → List ℚ) (kept : ℕ 
   shown_seen : (leaf : Leaf) (shown : Shown) → IsShownNode program reduced state.held state.parked leaf shown → IsShownNode program program state.held now.parked leaf shown
   shown_seen leaf shown h =
       let first = h.chosen in
-      let among : Contains state.parked h.node = subst (λ t. Contains t h.node) (sym first.placed) (Contains-append_right first.before (h.node ∷ first.after) h.node (here h.node first.after)) in
+      let among : Contains state.parked h.node = subst (λ t. Contains t h.node) (sym first.placed) (Contains-append_right first.before (h.node ∷ first.after) h.node (contains_here h.node first.after)) in
       record {
         node = seen h.node;
         chosen = first_seen h.node first;

@@ -5,12 +5,13 @@ use Rattle.std.proofs.lemmas.List.Elements.{Contains-append_right}
 use Rattle.cip_rational.specs.Rational.{ℚ}
 use Rattle.cip_problem.specs.Program.{Program}
 use Rattle.cip_problem.specs.Log.{Parked, Entry, Node}
+use Rattle.cip_problem.proofs.Log.Entering.{contains_here}
 use Rattle.cip_search.specs.Leaf.{Leaf}
 use Rattle.cip_search.specs.Searched.{NoMore}
 use Rattle.cip_search.specs.WideLeaf.{Shown, IsWideLeaf}
 use Rattle.cip_search.specs.SearchState.{State, stay, unended, all_nodes, IsSearch, parked_entry, is_parked_end, parked_entries}
 use Rattle.cip_search.proofs.Logs.{parked_from, given_leads}
-use Rattle.cip_search.proofs.Members.{ComesFrom, here, of_mapped, is_kept}
+use Rattle.cip_search.proofs.Members.{ComesFrom, of_mapped, is_kept}
 use Rattle.cip_search.specs.SearchEnds.{IsShownLeaf}
 use Rattle.cip_search.specs.EndLaws.{IsShownNode}
 
@@ -71,7 +72,7 @@ module _ (program : Program) (start : Option ℚ) (state : State) (s : IsSearch 
   shown_leaf leaf shown h =
       let there : parked_entries state.log ≡ map parked_entry h.chosen.before ++ parked_entry h.node ∷ map parked_entry h.chosen.after = s.parked ∙ (ap (map parked_entry) h.chosen.placed ∙ map_parts h.chosen.before h.chosen.after h.node) in
       let at = stands state.log (map parked_entry h.chosen.before) (map parked_entry h.chosen.after) (parked_entry h.node) there in
-      let among : Contains state.parked h.node = subst (λ t. Contains t h.node) (sym h.chosen.placed) (Contains-append_right h.chosen.before (h.node ∷ h.chosen.after) h.node (here h.node h.chosen.after)) in
+      let among : Contains state.parked h.node = subst (λ t. Contains t h.node) (sym h.chosen.placed) (Contains-append_right h.chosen.before (h.node ∷ h.chosen.after) h.node (contains_here h.node h.chosen.after)) in
       let every : Contains (all_nodes state) h.node = Contains-append_right (unended state) state.parked h.node among in
       let given = s.given h.node every in
       record {

@@ -5,14 +5,15 @@ use Rattle.cip_rational.specs.Rational.{ℚ, ◌≤ℚ◌}
 use Rattle.cip_problem.specs.Program.{Program}
 use Rattle.cip_problem.specs.Points.{IsLowerBound}
 use Rattle.cip_problem.specs.Log.{End, Split, Closed, Parked, Entry, Node, node_of, low_node, high_node, halves, nodes_of, given_after, AllFollow}
+use Rattle.cip_problem.proofs.Log.Entering.{given_kept, node_of_kept, contains_here, contains_cons, contains_later}
+use Rattle.cip_problem.proofs.Covers.{none_of_nothing, the_only}
 use Rattle.cip_search.specs.Searched.{NoMore, IsOneOf, first_node, nodes_given}
 use Rattle.cip_search.proofs.Alike.{is_log_from}
 use Rattle.cip_search.proofs.Bounds.{no_more_same}
-use Rattle.cip_search.proofs.Members.{none_in, here, later, here_or_later, only_one}
-use Rattle.cip_search.proofs.OneMore.{node_of_among, node_of_kept, given_kept}
-use Rattle.cip_search.proofs.Relaxed.{no_more_trans}
+use Rattle.cip_search.proofs.OneMore.{node_of_among}
 use Rattle.cip_search.specs.SearchEnds.{Ended, Optimal, Infeasible, Unbounded, NodeLimit, Gap, Wide, NoMemory, Answer, Held, cost_of_held, IsHeldPoint, IsSettled, EndHolds, IsAnswer}
 use Rattle.cip_search.specs.SearchAnswers.{TellsBound}
+use Rattle.cip_search.proofs.Roots.{no_more}
 
 -- ---- nodes and entries
 
@@ -21,30 +22,30 @@ record AreAbove (start : Option ℚ) (nodes : List Node) (log : List Entry) : Ty
   entries_above : (entry : Entry) → Contains log entry → NoMore start entry.bound
 
 halves_above : (start : Option ℚ) (found : Option Node) (bound : Option ℚ) (end : End) (node : Node) → NoMore start bound → Contains (halves found bound end) node → NoMore start node.bound
-halves_above start None bound end node b c = absurd (none_in node c)
-halves_above start (Some n) bound Closed node b c = absurd (none_in node c)
-halves_above start (Some n) bound Parked node b c = absurd (none_in node c)
+halves_above start None bound end node b c = absurd (none_of_nothing node c)
+halves_above start (Some n) bound Closed node b c = absurd (none_of_nothing node c)
+halves_above start (Some n) bound Parked node b c = absurd (none_of_nothing node c)
 halves_above start (Some n) bound (Split column at low high) node b c =
     let first : Node = record (low_node n column at) { number = low; bound = bound } in
     let second : Node = record (high_node n column at) { number = high; bound = bound } in
-    elim (here_or_later first node (second ∷ []) c) [
+    elim (contains_cons first node (second ∷ []) c) [
       | inl e ↦ subst (λ (t : Node). NoMore start t.bound) e b
-      | inr k ↦ subst (λ (t : Node). NoMore start t.bound) (only_one second node k) b
+      | inr k ↦ subst (λ (t : Node). NoMore start t.bound) (the_only second node k) b
     ]
 
 all_above : (start : Option ℚ) (integral : List Bool) (given : List Node) (taken : List ℕ) (log : List Entry) → AllFollow integral given taken log → ((entry : Entry) (node : Node) → Contains log entry → node_of (given_after given log) entry.node ≡ Some node → NoMore node.bound entry.bound) → ((node : Node) → Contains given node → NoMore start node.bound) → AreAbove start (given_after given log) log
-all_above start integral given taken [] f t g = record { nodes_above = g; entries_above = λ entry c. absurd (none_in entry c) }
+all_above start integral given taken [] f t g = record { nodes_above = g; entries_above = λ entry c. absurd (none_of_nothing entry c) }
 all_above start integral given taken (x ∷ log) f t g =
     let found = given_kept (given ++ nodes_of given x) log x.node f.0.node (node_of_kept given (nodes_of given x) x.node f.0.node f.0.given_before) in
-    let own : NoMore f.0.node.bound x.bound = t x f.0.node (here x log) found in
-    let b : NoMore start x.bound = no_more_trans start f.0.node.bound x.bound (g f.0.node (node_of_among given x.node f.0.node f.0.given_before).0) own in
-    let rest = all_above start integral (given ++ nodes_of given x) (x.node ∷ taken) log f.1 (λ entry node c. t entry node (later x entry log c)) (λ node c. elim (Contains-append_cases given (nodes_of given x) node c) [
+    let own : NoMore f.0.node.bound x.bound = t x f.0.node (contains_here x log) found in
+    let b : NoMore start x.bound = no_more start f.0.node.bound x.bound (g f.0.node (node_of_among given x.node f.0.node f.0.given_before).0) own in
+    let rest = all_above start integral (given ++ nodes_of given x) (x.node ∷ taken) log f.1 (λ entry node c. t entry node (contains_later x entry log c)) (λ node c. elim (Contains-append_cases given (nodes_of given x) node c) [
       | inl k ↦ g node k
       | inr k ↦ halves_above start (node_of given x.node) x.bound x.end node b k
     ]) in
     record {
       nodes_above = rest.nodes_above;
-      entries_above = λ entry c. elim (here_or_later x entry log c) [
+      entries_above = λ entry c. elim (contains_cons x entry log c) [
         | inl e ↦ subst (λ (y : Entry). NoMore start y.bound) e b
         | inr k ↦ rest.entries_above entry k
       ];
@@ -75,7 +76,7 @@ module _ (program : Program) (start : Option ℚ) (nodes : ℕ) (asked : Option 
   above : AreAbove start (nodes_given program start log) log
   above = all_above start program.integral (first_node program start ∷ []) [] log (is_log_from program start log a.logged)
       (λ entry node c e. (s.entries entry node c e).kept)
-      (λ node c. no_more_same start node.bound (ap (λ (n : Node). n.bound) (only_one (first_node program start) node c)))
+      (λ node c. no_more_same start node.bound (ap (λ (n : Node). n.bound) (the_only (first_node program start) node c)))
 
   one_above : (bound : Option ℚ) → IsOneOf program start log (cost_of_held answer.held) bound → NoMore start bound
   one_above bound (inl c) = subst (NoMore start) (sym c.is_bound) (held_above program start answer.held c.cost lower a.point c.is_held)

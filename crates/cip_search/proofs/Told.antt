@@ -3,7 +3,7 @@ use Rattle.std.proofs.Common.{◌≡◌, inl, inr, true, List, [], ◌∷◌, Op
 use Rattle.std.proofs.lemmas.Bool.{both_ways}
 use Rattle.std.proofs.lemmas.List.Elements.{Contains-append_cases}
 use Rattle.cip_rational.specs.Rational.{ℚ, ◌≤ℚ◌, ◌<ℚ◌}
-use Rattle.cip_rational.proofs.Rational.Order.{le_or_lt, ≤ℚ_trans, <ℚ_of_le_of_lt}
+use Rattle.cip_rational.proofs.Rational.Order.{le_or_lt, ≤ℚ_trans}
 use Rattle.cip_problem.specs.Program.{Program}
 use Rattle.cip_problem.specs.Points.{IsFeasible, cost_of, IsLowerBound}
 use Rattle.cip_problem.specs.Box.{IsInBox}
@@ -20,6 +20,7 @@ use Rattle.cip_search.specs.Searched.{first_node}
 use Rattle.cip_search.specs.SearchState.{State, WayBack, unended, all_nodes, IsGiven, IsSearch}
 use Rattle.cip_search.specs.Endings.{NoneMatters, HasWidePoint}
 use Rattle.cip_search.proofs.Bounds.{at_point, matters_at}
+use Rattle.cip_search.proofs.NearPoints.{still_cheaper}
 
 -- a node with an improving point matters
 pub there_matters : (program : Program) (held : Option ℚ) (nodes : List Node) (point : List ℚ) → IsCover program held nodes → IsImproving program held point → (r : IsInOneOf nodes point) → matters held r.node.bound ≡ true
@@ -33,10 +34,6 @@ none_cheaper program held nodes cost e c n point f = elim (le_or_lt cost (cost_o
       let r = c.reached point i in
       absurd (both_ways (matters held r.node.bound) (n r.node r.among) (there_matters program held nodes point c i r))
 ]
-
-still_cheaper : (held : Option ℚ) (a b : ℚ) → a ≤ℚ b → IfSome held (λ cost. b <ℚ cost) → IfSome held (λ cost. a <ℚ cost)
-still_cheaper None a b l h = tt
-still_cheaper (Some cost) a b l h = <ℚ_of_le_of_lt l h
 
 -- a node that the log gave is one of the program
 pub given_node_of : (reduced : Program) (start : Option ℚ) (log : List Entry) (held : Option ℚ) (node : Node) → AllFollow reduced.integral (first_node reduced start ∷ []) [] log → IsGiven reduced start log held node → IsNodeOf reduced node

@@ -23,7 +23,7 @@ use Rattle.cip_search.specs.Headline.{cost_of_printed, IsBetterThan, IsWithinBox
 use Rattle.cip_search.specs.Printed.{status_of, printed_held, figures_of, IsPrintable}
 use Rattle.cip_search.specs.HeadlineStatements.{FiguresAreTrue}
 use Rattle.cip_search.proofs.Ends.{ends_exclude, same_printed, not_none}
-use Rattle.cip_search.proofs.Fitting.{fits}
+use Rattle.cip_search.proofs.Fitting.{fits, none_held}
 
 -- ---- what is printed
 
@@ -65,7 +65,7 @@ no_box None bound h e = refl
 no_box (Some least) None h e = absurd h
 no_box (Some least) (Some b) h e = absurd (cc)
 
-none_before : (program : Program) (bound : Option ℚ) → option_map (printed program) bound ≡ None → bound ≡ None
+pub none_before : (program : Program) (bound : Option ℚ) → option_map (printed program) bound ≡ None → bound ≡ None
 none_before program None e = refl
 none_before program (Some b) e = absurd (cc)
 
@@ -106,10 +106,6 @@ costs_held program (Some held) h = ap Some h.cost
 some_printed : {A B : Type 0} (f : A → B) (o : Option A) → IsSome o → IsSome (option_map f o)
 some_printed f None h = h
 some_printed f (Some x) h = refl
-
-none_printed : {A B : Type 0} (f : A → B) (o : Option A) → o ≡ None → option_map f o ≡ None
-none_printed f None e = refl
-none_printed f (Some x) e = absurd (cc)
 
 endless : (program : Program) (answer : Answer) (ray : List ℚ) → IsUnbounded program answer ray → IsEndless program (figures_of program answer) ray
 endless program answer ray u = record {
@@ -232,7 +228,7 @@ module _ (program : Program) (start : Option ℚ) (nodes : ℕ) (asked : Option 
       (left_there k.0, some_printed (printed_held program) answer.held k.1)
   ends_with Infeasible e h =
       let k = subst (EndsAs program start nodes log answer.held) e h.ends in
-      (left_or_none k.0, none_printed (printed_held program) answer.held k.1)
+      (left_or_none k.0, none_held (printed_held program) answer.held k.1)
   ends_with (Unbounded ray) e h = endless program answer ray h
   ends_with NodeLimit e h =
       let k = subst (EndsAs program start nodes log answer.held) e h.ends in

@@ -101,7 +101,7 @@ never_out_of_range linear found e h =
 
 -- ---- the only point
 
-all_fixed : (integral : List Bool) (leaf : List ℚ) → All (λ whole. whole ≡ true) integral → length leaf ≡ length integral → fixed_values integral leaf ≡ map Some leaf
+pub all_fixed : (integral : List Bool) (leaf : List ℚ) → All (λ whole. whole ≡ true) integral → length leaf ≡ length integral → fixed_values integral leaf ≡ map Some leaf
 all_fixed [] [] h e = refl
 all_fixed [] (v ∷ vs) h e = absurd (omega (arith, e))
 all_fixed (true ∷ ws) [] h e = absurd (omega (arith, e))
@@ -115,7 +115,7 @@ only_point (true ∷ ws) [] others h e = absurd (omega (arith, e))
 only_point (true ∷ ws) (v ∷ vs) others h e = ap (λ t. v ∷ t) (only_point ws vs others (All-tail (λ whole. whole ≡ true) true ws h) (omega (arith, e)))
 only_point (false ∷ ws) leaf others h e = let f : false ≡ true = All-head (λ whole. whole ≡ true) false ws h in absurd (cc)
 
-leaf-long : (integral : List Bool) (box : List Sides) (leaf : List ℚ) → All (λ whole. whole ≡ true) integral → length integral ≡ length box → IsLeafIn integral box leaf → length leaf ≡ length integral
+pub leaf-long : (integral : List Bool) (box : List Sides) (leaf : List ℚ) → All (λ whole. whole ≡ true) integral → length integral ≡ length box → IsLeafIn integral box leaf → length leaf ≡ length integral
 leaf-long [] box [] h e k = refl
 leaf-long [] box (v ∷ vs) h e k = absurd k
 leaf-long (w ∷ ws) [] leaf h e k = absurd (omega (arith, e))

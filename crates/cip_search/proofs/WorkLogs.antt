@@ -5,10 +5,11 @@ use Rattle.std.proofs.lemmas.Option.{same_Some}
 use Rattle.cip_rational.specs.Rational.{ℚ}
 use Rattle.cip_problem.specs.Program.{Program}
 use Rattle.cip_problem.specs.Log.{Entry, Node, node_of, nodes_of, AllFollow}
+use Rattle.cip_problem.proofs.Log.Entering.{taken_given, given_more, node_of_kept}
+use Rattle.cip_problem.proofs.Covers.{none_of_nothing}
 use Rattle.cip_search.specs.Searched.{first_node, nodes_given}
 use Rattle.cip_search.specs.Relaxation.{IsRelaxedBound}
-use Rattle.cip_search.proofs.Members.{none_in, mapped}
-use Rattle.cip_search.proofs.OneMore.{node_of_kept, given_more, taken_given}
+use Rattle.cip_search.proofs.Members.{mapped}
 use Rattle.cip_search.specs.SearchAnswers.{IsSplitEnd, AreRelaxed, AreOfEntries}
 
 -- ---- marks
@@ -34,7 +35,7 @@ marked_more (e ∷ log) (n ∷ ns) entry (inr h) = inr (marked_more log (n ∷ n
 -- ---- bounds
 
 pub none_relaxed : (program : Program) (start : Option ℚ) (marked : List ℕ) → AreRelaxed program start [] marked
-none_relaxed program start marked entry node c s n e = absurd (none_in entry c)
+none_relaxed program start marked entry node c s n e = absurd (none_of_nothing entry c)
 
 pub later_given : (program : Program) (start : Option ℚ) (log : List Entry) (entry : Entry) (number : ℕ) (node : Node) → node_of (nodes_given program start log) number ≡ Some node → node_of (nodes_given program start (log ++ entry ∷ [])) number ≡ Some node
 later_given program start log entry number node h =

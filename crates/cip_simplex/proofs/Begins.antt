@@ -1,5 +1,5 @@
 -- The moves of a start can be made, one after another.
-use Rattle.std.proofs.Common.{◌≡◌, ℕ, zero, suc, ◌+◌, ◌<◌, ◌≤◌, Bool, true, false, cond, not, is_some, List, Option, None, Some, Result, Ok, Err, IfOk, refl, sym, ap, ◌∙◌, subst, inl, inr, arith, add-one}
+use Rattle.std.proofs.Common.{◌≡◌, ℕ, zero, suc, ◌+◌, ◌<◌, ◌≤◌, Bool, true, false, cond, is_some, List, Option, None, Some, Result, Ok, Err, IfOk, refl, sym, ap, ◌∙◌, subst, inl, inr, arith, add-one}
 use Rattle.std.proofs.lemmas.Bool.{and_parts, cases_eq}
 use Rattle.cip_rational.specs.Rational.{ℚ, is_zero}
 use Rattle.cip_problem.specs.Program.{Sides}
@@ -14,13 +14,10 @@ use Rattle.cip_bland.specs.declared.moves.Move.{Move}
 use Rattle.cip_bland.proofs.Zeros.{nonzero_of}
 use Rattle.cip_bland.proofs.Searches.{least_some}
 use Rattle.cip_bland.proofs.StateFacts.{nonbasic_at}
+use Rattle.cip_bland.proofs.MovesMade.{from_not}
 use Rattle.cip_simplex.specs.Starts.{Stands, has_stand, stand_for, may_leave, leaving_stand, are_opposite, Begun, begun_by, begun_unless, begun_through}
 
 -- ---- places
-
-from_not : (b : Bool) → not b ≡ true → b ≡ false
-from_not true e = absurd (cc)
-from_not false e = refl
 
 is_none : (o : Option ℚ) → is_some o ≡ false → o ≡ None
 is_none None e = refl

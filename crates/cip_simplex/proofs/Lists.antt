@@ -2,23 +2,17 @@
 use Rattle.std.proofs.Common.{◌≡◌, ℕ, suc, ◌+◌, ◌-◌, ◌<◌, ◌≤◌, List, [], ◌∷◌, ◌++◌, refl, sym, ap, ◌∙◌, arith}
 use Rattle.std.proofs.lemmas.List.{append_assoc, append-nil}
 use Rattle.cip_bland.specs.Dictionary.{Dictionary, size}
-use Rattle.cip_bland.specs.Exchange.{after, exchanged, flipped}
+use Rattle.cip_bland.specs.Exchange.{after}
 use Rattle.cip_bland.specs.declared.moves.Move.{Move}
-use Rattle.cip_bland.specs.declared.moves.Move.TheVariants.{Exchange, Flip}
 use Rattle.cip_bland.specs.Rule.{next}
 use Rattle.cip_bland.specs.MoveList as list
 use Rattle.cip_bland.specs.declared.steps.Step.{Step}
 use Rattle.cip_bland.proofs.RunFacts.{run_end, run_overflow, run_move}
+use Rattle.cip_bland.proofs.ListEnds.{size_after}
 use Rattle.cip_simplex.specs.Advances.{HasMade, IsWideAt, IsEndAt, run_behind}
 
--- a move keeps the number of variables
-pub after_size : (d : Dictionary) (move : Move) → size (after d move) ≡ size d
-unfolding exchanged flipped
-after_size d (Exchange i j to) = refl
-after_size d (Flip j) = refl
-
 pub made_size : (d later : Dictionary) (move : Move) → HasMade d later move → size later ≡ size d
-made_size d later move h = ap size h.state ∙ after_size d move
+made_size d later move h = ap size h.state ∙ size_after d move
 
 left_over : (limit made : ℕ) → made < limit → limit - made ≡ suc (limit - (made + 1))
 left_over limit made l = omega (arith, l)

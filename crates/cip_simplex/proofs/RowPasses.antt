@@ -1,6 +1,7 @@
 -- Passes over the entries of a row, or of the cost, that aren't 0.
 use Rattle.std.proofs.Common.{◌≡◌, ◌≢◌, ◌∷◌, [], cond, ap₂, ℕ, zero, suc, ◌+◌, ◌<◌, ◌≤◌, Bool, true, false, not, ◌&&◌, List, Option, None, Some, length, get_or, refl, sym, ap, ◌∙◌, inl, inr, arith, add-one}
 use Rattle.std.proofs.lemmas.Bool.{cases_lt}
+use Rattle.std.proofs.lemmas.List.{get_or_default}
 use Rattle.cip_rational.specs.Rational.{ℚ, zeroℚ, lt_test}
 use Rattle.cip_bland.specs.Tables.{least}
 use Rattle.cip_bland.specs.Dictionary.{Dictionary, size}
@@ -11,8 +12,8 @@ use Rattle.cip_bland.specs.Rule.{may_go, drives}
 use Rattle.cip_dict.specs.SparseLines.{Kept, AreKept, kept_of, IsPlace}
 use Rattle.cip_dict.proofs.SparseLines.{entry_kept}
 use Rattle.cip_dict.proofs.KeptLoops.{are_kept, all_kept}
-use Rattle.cip_dict.proofs.Places.{same_default, place_zero, place_up, place_hit, entry_hit, entry_between, at_least, all_below}
-use Rattle.cip_bland.proofs.Searches.{least_is}
+use Rattle.cip_dict.proofs.Places.{place_zero, place_up, place_hit, entry_hit, entry_between, at_least, all_below}
+use Rattle.cip_bland.proofs.Searches.{least_is, none_is}
 use Rattle.cip_simplex.specs.FreeMoves.{IsCandidate, IsOneOf, IsFound}
 use Rattle.cip_simplex.specs.declared.candidates.Candidate.{Candidate}
 use Rattle.cip_simplex.proofs.FreeMoves.{found_more}
@@ -20,10 +21,6 @@ use Rattle.cip_simplex.proofs.FreeMoves.{found_more}
 -- what was found before this place of what is kept: up to some variable
 abbrev pub IsSearched : (ℕ → Bool) → ℕ → List Kept → ℕ → Option Candidate → Type 0
 IsSearched test n es at best = (m : ℕ) × (m ≤ n) × IsPlace m es at × IsFound test m best
-
-none_least : (n : ℕ) (test : ℕ → Bool) → ((v : ℕ) → v < n → test v ≡ false) → least n test ≡ None
-none_least zero test h = refl
-none_least (suc n) test h = rw (none_least n test (λ v l. h v (omega (arith, l))), h n (omega arith)) refl
 
 -- the entries of a row, and a test that no variable passes on which there is none
 module _ (n : ℕ) (f : ℕ → ℚ) (test : ℕ → Bool) (silent : (k : ℕ) → f k ≡ zeroℚ → test k ≡ false) where
@@ -150,12 +147,12 @@ module _ (d : Dictionary) (f : ℕ → ℚ) (heading : Heading) where
       search_hit (size d) f (drives d f heading) silent at e s l is (sym (drives_same e.1 e.0 o) ∙ here)
 
   pub driving_none : (at : ℕ) → length (kept_of (size d) f) ≤ at → IsSearched (drives d f heading) (size d) (kept_of (size d) f) at None → least (size d) (drives d f heading) ≡ None
-  driving_none at l s = none_least (size d) (drives d f heading) (search_ended (size d) f (drives d f heading) silent at None l s)
+  driving_none at l s = none_is (size d) (drives d f heading) (search_ended (size d) f (drives d f heading) silent at None l s)
 
   -- by the variable and the sign of the entry of a place
   module _ (at v : ℕ) (above : Bool) (l : at < length (kept_of (size d) f)) (variable : (x : Kept) → v ≡ (get_or (kept_of (size d) f) at x).0) (sign : (x : Kept) → above ≡ lt_test zeroℚ (get_or (kept_of (size d) f) at x).1) where
     there : (x : Kept) → get_or (kept_of (size d) f) at (0, zeroℚ) ≡ get_or (kept_of (size d) f) at x
-    there x = same_default (kept_of (size d) f) at (0, zeroℚ) x l
+    there x = get_or_default (kept_of (size d) f) at (0, zeroℚ) x l
 
     tested : (b : Bool) → may_go d v (cond above heading (back_of heading)) ≡ b → drives d (λ _. (get_or (kept_of (size d) f) at (0, zeroℚ)).1) heading (get_or (kept_of (size d) f) at (0, zeroℚ)).0 ≡ b
     tested b e =

@@ -1,56 +1,30 @@
 -- The ways of a variable, one after another.
 use Rattle.std.proofs.Common.{◌≡◌, ◌≢◌, ℕ, zero, suc, ◌+◌, ◌<◌, Bool, true, false, not, cond, ◌||◌, is_some, ap₂, Option, None, Some, refl, sym, ap, ◌∙◌, inl, inr, arith, add-one}
 use Rattle.std.proofs.lemmas.Bool.{ne_eqb, cases_eq, or_right}
-use Rattle.cip_bland.specs.Tables.{first_of}
 use Rattle.cip_bland.specs.Dictionary.{Dictionary}
-use Rattle.cip_bland.specs.declared.moves.Move.{Move}
 use Rattle.cip_rational.specs.Rational.{ℚ, zeroℚ, lt_test, is_zero}
 use Rattle.cip_problem.specs.Box.{sides_at}
+use Rattle.cip_problem.proofs.Rows.{zero_of_test}
 use Rattle.cip_bland.specs.Dictionary.{is_basic, entry}
 use Rattle.cip_bland.specs.Exchange.{step}
 use Rattle.cip_bland.specs.MoveOperations.{step_operations}
 use Rattle.cip_bland.specs.declared.moves.Stand.{Stand}
 use Rattle.cip_bland.specs.declared.moves.Move.TheVariants.{Exchange}
-use Rattle.cip_bland.proofs.Zeros.{zero_of, is_zero_of, nonzero_of, is_zero_false}
+use Rattle.cip_bland.proofs.Zeros.{is_zero_of, nonzero_of, is_zero_false}
 use Rattle.cip_bland.specs.Headings.{along, heading_for, goal_ahead}
 use Rattle.cip_bland.specs.Rule.{Way, way_of, way_with, falling_heading, shortest, shorter}
-use Rattle.cip_bland.specs.MoveList.{is_out_of_range, wide_way, first_wide_way}
-
--- none of the ways so far is out of range, and neither is the next
-pub wide_more : (d : Dictionary) (j n : ℕ) → first_wide_way d j n ≡ None → wide_way d j (way_of d j n) ≡ None → first_wide_way d j (n + 1) ≡ None
-wide_more d j n h e = rw add-one (ap (λ o. first_of o (wide_way d j (way_of d j n))) h ∙ e)
-
--- the first that is out of range
-pub wide_at : (d : Dictionary) (j n k : ℕ) (move : Move) → k < n → first_wide_way d j k ≡ None → wide_way d j (way_of d j k) ≡ Some move → first_wide_way d j n ≡ Some move
-wide_at d j zero k move l h e = absurd (omega (arith, l))
-wide_at d j (suc n) k move l h e =
-    elim (cases_eq k n) [
-      | inl same ↦ (let h' : first_wide_way d j n ≡ None = rw same at h in
-          let e' : wide_way d j (way_of d j n) ≡ Some move = rw same at e in
-          ap (λ o. first_of o (wide_way d j (way_of d j n))) h' ∙ e')
-      | inr other ↦ ap (λ o. first_of o (wide_way d j (way_of d j n))) (wide_at d j n k move (omega (arith, l, other)) h e)
-    ]
-
--- the shortest with one more
-pub shortest_more : (n : ℕ) (ways : ℕ → Option Way) (best found next : Option Way) → best ≡ shortest n ways → found ≡ ways n → next ≡ shorter best found → next ≡ shortest (n + 1) ways
-shortest_more n ways best found next b f e = rw add-one (e ∙ ap (λ w. shorter w found) b ∙ ap (shorter (shortest n ways)) f)
+use Rattle.cip_bland.specs.MoveList.{is_out_of_range, wide_way}
+use Rattle.cip_bland.proofs.SideCases.{true_of_not}
+use Rattle.cip_bland.proofs.MovesMade.{from_not}
 
 -- ---- tests of entries
 
-from_not_false : (b : Bool) → not b ≡ false → b ≡ true
-from_not_false true e = refl
-from_not_false false e = absurd (cc)
-
-from_not_true : (b : Bool) → not b ≡ true → b ≡ false
-from_not_true true e = absurd (cc)
-from_not_true false e = refl
-
 -- an entry isn't 0 where a test says so, and is where it doesn't
 pub zero_by : (q : ℚ) (has : Bool) → has ≡ not (is_zero q) → has ≡ false → q ≡ zeroℚ
-zero_by q has e f = zero_of q (from_not_false (is_zero q) (sym e ∙ f))
+zero_by q has e f = zero_of_test q (true_of_not (is_zero q) (sym e ∙ f))
 
 pub nonzero_by : (q : ℚ) (has : Bool) → has ≡ not (is_zero q) → has ≡ true → q ≢ zeroℚ
-nonzero_by q has e f = nonzero_of q (from_not_true (is_zero q) (sym e ∙ f))
+nonzero_by q has e f = nonzero_of q (from_not (is_zero q) (sym e ∙ f))
 
 -- ---- the way to the side of a basic variable
 

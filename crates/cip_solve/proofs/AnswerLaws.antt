@@ -17,13 +17,13 @@ use Rattle.cip_search.specs.Endings.{IsLeastBound}
 use Rattle.cip_search.proofs.Bounds.{there_later, no_more_same}
 use Rattle.cip_search.proofs.Logs as logs
 use Rattle.cip_search.proofs.Logs.{true_entries}
-use Rattle.cip_search.proofs.Relaxed.{no_more_trans}
 use Rattle.cip_search.specs.SearchEnds as ends
 use Rattle.cip_search.specs.SearchEnds.{IsAnswer}
 use Rattle.cip_search.specs.EndLaws.{ComesTo}
 use Rattle.cip_search.proofs.EndsRight.{ends_are_right}
 use Rattle.cip_endings.specs.Held.{Held}
 use Rattle.cip_search.specs.SeenLogs.{log_seen, state_seen}
+use Rattle.cip_search.proofs.Roots.{no_more}
 use Rattle.cip_endings.specs.AnswerOf.{held_of}
 use Rattle.cip_endings.specs.LeastBounds.{is_no_more, capped}
 use Rattle.cip_solve.specs.Stopping.{WasLeast, BestIs}
@@ -90,7 +90,7 @@ module _ (program : Program) (start : Option ℚ) (log : List Entry) where
 
   others_cost : (now before bound : Option ℚ) (cost : ℚ) → now ≡ Some cost → IsLeast program start log before bound → NoMore (Some cost) bound → (other : Option ℚ) → IsOneOf program start log now other → NoMore (Some cost) other
   others_cost now before bound cost e l n other (inl c) = no_more_same (Some cost) other (sym e ∙ (c.is_held ∙ sym c.is_bound))
-  others_cost now before bound cost e l n other (inr o) = no_more_trans (Some cost) bound other n (l.least other (inr o))
+  others_cost now before bound cost e l n other (inr o) = no_more (Some cost) bound other n (l.least other (inr o))
 
   capped_by : (before bound : Option ℚ) (cost : ℚ) (test : Bool) → is_no_more bound (Some cost) ≡ test → IsNoDearer (Some cost) before → IsLeast program start log before bound → IsLeast program start log (Some cost) (if test then bound else Some cost)
   capped_by before bound cost true t d l =

@@ -8,6 +8,8 @@ use Rattle.cip_problem.specs.WellFormed.{IsWellFormed, columns}
 use Rattle.cip_problem.specs.Log.{Entry, Node, node_of}
 use Rattle.cip_problem.specs.Improving.{IsBoundIn}
 use Rattle.cip_problem.proofs.Reductions.{reduction_itself}
+use Rattle.cip_problem.proofs.Log.Entering.{contains_here}
+use Rattle.cip_problem.proofs.Covers.{none_of_nothing, the_only}
 use Rattle.cip_search.specs.Searched.{NoMore, first_node, nodes_given}
 use Rattle.cip_search.specs.WideLeaf.{IsWideLeaf}
 use Rattle.cip_incumbent.specs.HeldPoint.{Holding, nothing_held}
@@ -22,7 +24,6 @@ use Rattle.cip_search.proofs.AsGiven as giving
 use Rattle.cip_search.proofs.AtOnce.{ends_at_once}
 use Rattle.cip_search.proofs.Bounds.{no_more_itself}
 use Rattle.cip_search.proofs.Logs as logs
-use Rattle.cip_search.proofs.Members.{none_in, here, only_one}
 use Rattle.cip_search.specs.SearchEnds as ends
 use Rattle.cip_search.specs.SearchAnswers.{IsSearchAnswer}
 use Rattle.cip_search.proofs.Logs.{true_entries}
@@ -96,7 +97,7 @@ of_reduced program presolved core b back formed left = record {
 }
 
 pub none_met : (program : Program) (start : Option ℚ) (log : List Entry) → AreMet program start log []
-none_met program start log marked c = absurd (none_in marked c)
+none_met program start log marked c = absurd (none_of_nothing marked c)
 
 told_begun : (reduced : Program) (start : Option ℚ) (log : List Entry) → log ≡ [] → IsTold reduced start log []
 told_begun reduced start log e = subst (λ l. IsTold reduced start l []) (sym e) (record {
@@ -130,9 +131,9 @@ module _ (program : Program) (start : Option ℚ) (holds : IfSome start (IsBound
 
   least : IsLeastBound None (first ∷ []) start
   least = record {
-    one = inr (record { node = first; among = here first []; is_bound = refl });
+    one = inr (record { node = first; among = contains_here first []; is_bound = refl });
     cost = λ cost e. absurd (cc);
-    each = λ node c. subst (λ (n : Node). NoMore start n.bound) (only_one first node c) (no_more_itself start);
+    each = λ node c. subst (λ (n : Node). NoMore start n.bound) (the_only first node c) (no_more_itself start);
   }
 
   was_least : WasLeastOf program start [] None start

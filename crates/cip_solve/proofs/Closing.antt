@@ -1,13 +1,13 @@
 -- How a node ends with plugins, from what its last step left, and seen from before the steps of its work.
-use Rattle.std.proofs.Common.{◌≡◌, ◌++◌, List, ℕ, ℤ, ◌+◌, ◌≤◌, Bool, true, false, Option, None, Some, IfSome, Result, Ok, Err, refl, sym, ap, ◌∙◌, subst}
+use Rattle.std.proofs.Common.{◌≡◌, ◌++◌, ℕ, ℤ, ◌+◌, ◌≤◌, Bool, true, false, Option, None, Result, Ok, Err, refl, sym, ap, ◌∙◌, subst}
 use Rattle.std.specs.Prelude.{MatchResult}
 use Rattle.cip_rational.specs.Rational.{ℚ}
 use Rattle.cip_problem.specs.Log.{Split, Closed, Node, matters}
-use Rattle.cip_problem.specs.Program.{Sides, Program}
+use Rattle.cip_problem.specs.Program.{Program}
 use Rattle.cip_problem.specs.WellFormed.{columns}
 use Rattle.cip_problem.specs.Improving.{HasNoImproving}
 use Rattle.cip_domain.specs.Changes.{Region}
-use Rattle.cip_calls.specs.Mark.{Mark}
+use Rattle.cip_node.specs.Mark.{Mark}
 use Rattle.cip_rows.specs.RowPools.{Pool}
 use Rattle.cip_tree.specs.Nodes.{TakenNode, Nodes, box_of, shown}
 use Rattle.cip_calls.specs.CoreStates.{CoreState, reduced_of, held_of, IsTakenUp, IsGivenBound}
@@ -17,12 +17,12 @@ use Rattle.cip_calls.proofs.PassedOn.{with_tree}
 use Rattle.cip_calls.proofs.PassedOn.{later_further, narrower_itself, narrower_further}
 use Rattle.cip_calls.specs.Searched.{nodes_given}
 use Rattle.cip_problem.specs.Log.{node_of}
-use Rattle.cip_node.specs.Bounding.{IsMarkOf, IsAsGood, point_of}
+use Rattle.cip_node.specs.Bounding.{point_of}
 use Rattle.cip_node.specs.NodeEnds.{HasEnded}
 use Rattle.cip_node.specs.declared.bounding.Found.{Found}
 use Rattle.cip_node.specs.declared.ends.NodeEnd.{NodeEnd}
 use Rattle.cip_node.specs.declared.ends.NodeEnd.TheVariants as by
-use Rattle.cip_node.proofs.EndLaws.{Leads, leads_looked, looked_core, entry_before, ended_led, back_led, emptied, none_kept, pruned_ended}
+use Rattle.cip_node.proofs.EndLaws.{Leads, leads_looked, looked_core, entry_before, ended_led, back_led, emptied, none_kept, pruned_ended, met_of}
 use Rattle.cip_plugin.specs.Seats.{State}
 use Rattle.cip_plugin.proofs.Running.{Runs-append}
 use Rattle.cip_roster.specs.KeptRankings.{Room}
@@ -103,10 +103,6 @@ back_moved old mid new node has bound l h =
     subst (λ n. IsBack old new n bound) l.narrower.number (back_led old mid new node has has.number bound (leads_moved old mid node has l) h)
 
 -- ---- ends
-
-met_of : (core : CoreState) (box : List Sides) (bound : Option ℚ) (mark : Option Mark) → IsAsGood core box bound mark → IfSome mark (IsMarkOf core box)
-met_of core box bound None h = tt
-met_of core box bound (Some mark) h = h
 
 -- a node was split where a plugin proposed it
 pub parted_here : (core : CoreState) (tree : Nodes) (node : TakenNode) (found : Found) (column : ℕ) (at : ℤ) (low high : ℕ) → IsFoundAt core node found → HasLeft core (with_tree core tree) node (Split column at low high) → HasParted core (with_tree core tree) node found.mark (by.Split low high)

@@ -6,6 +6,8 @@ use Rattle.cip_rational.specs.Rational.{ℚ}
 use Rattle.cip_rational.proofs.Rational.Order.{le_of_lt_test, lt_test_of_le, ≤ℚ_trans}
 use Rattle.cip_problem.specs.Program.{Program}
 use Rattle.cip_problem.specs.Log.{Node, matters}
+use Rattle.cip_problem.proofs.Log.Entering.{contains_here}
+use Rattle.cip_problem.proofs.Covers.{none_of_nothing}
 use Rattle.cip_search.specs.Leaf.{Leaf}
 use Rattle.cip_search.specs.Searched.{NoMore, IsCostHeld}
 use Rattle.cip_tree.specs.Bounds.{IsBoundAtMost}
@@ -13,7 +15,6 @@ use Rattle.cip_tree.specs.Moves as tree
 use Rattle.cip_search.specs.WideLeaf.{IsWideLeaf}
 use Rattle.cip_search.specs.SearchState.{State, WayBack, IsSearch}
 use Rattle.cip_search.specs.Endings.{OneMatters, NoneMatters, IsBoundOfOne, IsLeastBound}
-use Rattle.cip_search.proofs.Members.{none_in, here}
 use Rattle.cip_search.specs.EndLaws.{IsShownNode, ComesTo}
 use Rattle.cip_search.proofs.Leading.{shown_node}
 use Rattle.cip_solve.specs.Shown.{Shown}
@@ -35,7 +36,7 @@ at_most (Some bound) None h = h
 at_most (Some bound) (Some other) h = h
 
 nothing_among : (nodes : List Node) → nodes ≡ [] → (other : Option ℚ) → ¬ IsBoundOfOne nodes other
-nothing_among nodes e other b = none_in b.node (subst (λ l. Contains l b.node) e b.among)
+nothing_among nodes e other b = none_of_nothing b.node (subst (λ l. Contains l b.node) e b.among)
 
 -- the tree's own word for it
 pub open_least : (nodes : List Node) (bound : Option (Option ℚ)) → MatchOption bound (nodes ≡ []) (λ b. tree.IsLeastBound b nodes) → IsLeastAmong (IsBoundOfOne nodes) bound
@@ -54,7 +55,7 @@ module _ (program reduced : Program) (way : WayBack) where
   among_parked parked worst w = (
     record {
       node = w.node;
-      among = subst (λ l. Contains l w.node) (sym w.chosen.placed) (Contains-append_right w.chosen.before (w.node ∷ w.chosen.after) w.node (here w.node w.chosen.after));
+      among = subst (λ l. Contains l w.node) (sym w.chosen.placed) (Contains-append_right w.chosen.before (w.node ∷ w.chosen.after) w.node (contains_here w.node w.chosen.after));
       is_bound = sym w.is_bound;
     },
     λ other b. subst (NoMore worst.bound) (sym b.is_bound) (subst (λ t. NoMore t b.node.bound) w.is_bound (w.chosen.least b.node b.among)),
@@ -108,7 +109,7 @@ loud held nodes (Some bound) l e = record { node = l.0.node; among = l.0.among; 
 -- with nothing held each node matters
 none_left : (held : Option ℚ) (nodes : List Node) → held ≡ None → NoneMatters held nodes → nodes ≡ []
 none_left held [] e n = refl
-none_left held (node ∷ nodes) e n = absurd (true≢false (ap (λ h. matters h node.bound) (sym e) ∙ n node (here node nodes)))
+none_left held (node ∷ nodes) e n = absurd (true≢false (ap (λ h. matters h node.bound) (sym e) ∙ n node (contains_here node nodes)))
 
 -- ---- ends
 
@@ -117,7 +118,7 @@ module _ (program reduced : Program) (way : WayBack) (start : Option ℚ) (nodes
   p = parked_least program reduced way state.parked worst w
 
   some_open : OneMatters state.held state.open_ → state.open_ ≢ []
-  some_open m e = none_in m.node (subst (λ l. Contains l m.node) e m.among)
+  some_open m e = none_of_nothing m.node (subst (λ l. Contains l m.node) e m.among)
 
   shown_there : (leaf : Leaf) (shown : Shown) → IsShownWorst state.held worst leaf shown → IsShownNode program reduced state.held state.parked leaf (shown_as shown)
   shown_there leaf shown k =

@@ -1,45 +1,22 @@
 -- The first operation of a first state that overflows is one of the cost, or of a row that is there.
-use Rattle.std.proofs.Common.{◌≡◌, ◌⊎◌, inl, inr, ℕ, zero, suc, ◌+◌, ◌<◌, ◌≤◌, Bool, true, false, cond, ◌||◌, List, [], ◌∷◌, ◌++◌, length, Option, None, Some, refl, sym, ◌∙◌, subst, arith}
+use Rattle.std.proofs.Common.{◌≡◌, inl, inr, ℕ, zero, suc, ◌+◌, ◌<◌, ◌≤◌, List, length, Some, sym, subst, arith}
 use Rattle.std.specs.Prelude.{⊤}
 use Rattle.std.proofs.lemmas.List.{length-map}
-use Rattle.std.proofs.lemmas.Option.{none-some, same_Some}
-use Rattle.cip_rational.specs.Rational.{ℚ, ◌*ℚ◌, is_zero}
+use Rattle.std.proofs.lemmas.Option.{none-some}
+use Rattle.cip_rational.specs.Rational.{ℚ}
 use Rattle.cip_problem.specs.Program.{Program}
 use Rattle.cip_bland.specs.Tables.{each}
-use Rattle.cip_bland.specs.Operations.{Placed, Sum, Product, placed, overflows, first_overflow, value_place}
+use Rattle.cip_bland.specs.Operations.{first_overflow, value_place}
 use Rattle.cip_bland.specs.FirstState.{System, columns_of, first_value, form_operations, first_operations}
 use Rattle.cip_problem.specs.Multipliers.{row_sides}
 use Rattle.cip_bland.specs.ProgramState.{system_of}
-use Rattle.cip_bland.proofs.Overflow.{overflow-append, overflow-found}
 use Rattle.cip_bland.specs.declared.places.Line.{Line}
 use Rattle.cip_bland.specs.declared.places.Line.TheVariants as line
 use Rattle.cip_bland.specs.declared.places.EntryPlace as dictionary
 use Rattle.cip_search.specs.Wide.{InRow}
 use Rattle.cip_search.specs.LeafProgram.{row_of_leaf, program_of_leaf}
 use Rattle.cip_search.specs.WideLeaf.{FirstValueOverflows}
-
-split_at : (xs ys : List Placed) (place : dictionary.EntryPlace) (first : Option dictionary.EntryPlace) → first_overflow xs ≡ first → first_overflow (xs ++ ys) ≡ Some place → (first_overflow xs ≡ Some place) ⊎ (first_overflow ys ≡ Some place)
-split_at xs ys place None e h = inr (sym (overflow-append xs ys e) ∙ h)
-split_at xs ys place (Some other) e h = inl (e ∙ (sym (overflow-found xs ys other e) ∙ h))
-
-split : (xs ys : List Placed) (place : dictionary.EntryPlace) → first_overflow (xs ++ ys) ≡ Some place → (first_overflow xs ≡ Some place) ⊎ (first_overflow ys ≡ Some place)
-split xs ys place h = split_at xs ys place (first_overflow xs) refl h
-
-both_at : (at place : dictionary.EntryPlace) (a b : Bool) → cond a (Some at) (cond b (Some at) None) ≡ Some place → place ≡ at
-both_at at place true b h = sym (same_Some at place h)
-both_at at place false true h = sym (same_Some at place h)
-both_at at place false false h = absurd (none-some place h)
-
-sum_place : (at place : dictionary.EntryPlace) (c a b : ℚ) (test : Bool) → first_overflow (cond test [] (placed at (Product a b) ∷ placed at (Sum c (a *ℚ b)) ∷ [])) ≡ Some place → place ≡ at
-sum_place at place c a b true h = absurd (none-some place h)
-sum_place at place c a b false h = both_at at place (overflows (Product a b)) (overflows (Sum c (a *ℚ b))) h
-
-form_place : (l : Line) (n : ℕ) (row x : ℕ → ℚ) (place : dictionary.EntryPlace) → first_overflow (form_operations l n row x) ≡ Some place → place ≡ value_place l
-form_place l zero row x place h = absurd (none-some place h)
-form_place l (suc n) row x place h = elim (split (form_operations l n row x) _ place h) [
-  | inl before ↦ form_place l n row x place before
-  | inr last ↦ sum_place (value_place l) place _ (row n) (x n) (is_zero (row n) || is_zero (x n)) last
-]
+use Rattle.cip_leaf.proofs.FirstPlaces.{form_place, split}
 
 -- a line is the cost, or one of so many variables
 abbrev IsAmong : ℕ → Line → Type 0

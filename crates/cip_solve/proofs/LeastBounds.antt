@@ -7,7 +7,7 @@ use Rattle.cip_problem.specs.Log.{Node}
 use Rattle.cip_search.specs.Searched.{NoMore, IsCostHeld}
 use Rattle.cip_search.specs.Endings.{IsBoundOfOne, IsLeastBound}
 use Rattle.cip_search.proofs.Bounds.{no_more_itself}
-use Rattle.cip_search.proofs.Relaxed.{no_more_trans}
+use Rattle.cip_search.proofs.Roots.{no_more}
 use Rattle.cip_endings.specs.LeastBounds.{is_no_more, least_of, bound_held}
 use Rattle.cip_endings.proofs.BoundLaws.{no_more_tells, more_below}
 
@@ -21,13 +21,13 @@ less_by P Q bound other true e p q = (
   inl p.0,
   λ o c. elim c [
     | inl a ↦ p.1 o a
-    | inr b ↦ no_more_trans bound other o (no_more_tells bound other e) (q.1 o b)
+    | inr b ↦ no_more bound other o (no_more_tells bound other e) (q.1 o b)
   ],
 )
 less_by P Q bound other false e p q = (
   inr q.0,
   λ o c. elim c [
-    | inl a ↦ no_more_trans other bound o (more_below bound other e) (p.1 o a)
+    | inl a ↦ no_more other bound o (more_below bound other e) (p.1 o a)
     | inr b ↦ q.1 o b
   ],
 )
@@ -63,7 +63,7 @@ least_held (Some cost) = (
 
 -- ---- there is one least bound
 
-no_more_both : (bound other : Option ℚ) → NoMore bound other → NoMore other bound → bound ≡ other
+pub no_more_both : (bound other : Option ℚ) → NoMore bound other → NoMore other bound → bound ≡ other
 no_more_both None None n m = refl
 no_more_both None (Some other) n m = absurd m
 no_more_both (Some bound) None n m = absurd n

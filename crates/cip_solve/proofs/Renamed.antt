@@ -10,6 +10,7 @@ use Rattle.cip_tree.specs.declared.logs.End.{End as LoggedEnd}
 use Rattle.cip_tree.specs.declared.logs.Logged.{Logged}
 use Rattle.cip_search.specs.SeenLogs.{end_seen, entry_seen, log_seen}
 use Rattle.cip_solve.specs.Logs.{renamed}
+use Rattle.cip_presolve.proofs.MayLeave.{set_long}
 
 -- ---- one entry after the other
 
@@ -30,11 +31,6 @@ entries_set : (now : List Logged) (n : ℕ) (logged : Logged) → tree.entries_o
 entries_set [] n logged = refl
 entries_set (l ∷ ls) zero logged = refl
 entries_set (l ∷ ls) (suc n) logged = ap (λ t. entry_of l ∷ t) (entries_set ls n logged)
-
-set_long : {X : Type 0} (xs : List X) (n : ℕ) (x : X) → length (slice_set xs n x) ≡ length xs
-set_long [] n x = refl
-set_long (y ∷ ys) zero x = refl
-set_long (y ∷ ys) (suc n) x = ap (λ k. suc k) (set_long ys n x)
 
 module _ (kept : ℕ → ℕ) where
   at_rest : (log : List Entry) (n : ℕ) → slice_get (log_seen kept (take n log) ++ drop n log) n ≡ slice_get log n

@@ -1,10 +1,12 @@
 -- How often plugins are asked, over the work on one node and the next.
-use Rattle.std.proofs.Common.{◌≡◌, ◌⊎◌, inl, inr, ℕ, ◌+◌, ◌≤◌, ◌||◌, List, [], ◌∷◌, ◌++◌, length, All, Bool, true, false, Option, Some, Result, Ok, Err, Contains, refl, ap, ◌∙◌, subst, arith, length-append, add-zero}
+use Rattle.std.proofs.Common.{◌≡◌, inl, inr, ℕ, ◌+◌, ◌≤◌, ◌||◌, List, [], ◌∷◌, ◌++◌, length, All, Bool, true, Option, Some, Result, Ok, Err, Contains, refl, ap, ◌∙◌, subst, arith, length-append, add-zero}
 use Rattle.std.specs.Prelude.{slice_get, MatchResult}
 use Rattle.std.proofs.lemmas.List.Elements.{All-contains, Contains-append_right}
 use Rattle.std.proofs.lemmas.List.Sums.{sum_by-append, sum_by-cons}
+use Rattle.std.proofs.lemmas.Bool.{or_cases}
 use Rattle.cip_problem.specs.Log.{Split, Closed, Parked, Entry, Node}
-use Rattle.cip_search.proofs.Members.{none_in, here}
+use Rattle.cip_problem.proofs.Log.Entering.{contains_here}
+use Rattle.cip_problem.proofs.Covers.{none_of_nothing}
 use Rattle.cip_events.specs.Events.{event_at}
 use Rattle.cip_events.specs.declared.events.EventKind.TheVariants.{NodeFocused}
 use Rattle.cip_plugin.specs.Asking.{asks}
@@ -71,20 +73,16 @@ nobody_each (Err error) a e = served_none a
 
 -- ---- a node that was split
 
-or_cases : (a b : Bool) → (a || b) ≡ true → (a ≡ true) ⊎ (b ≡ true)
-or_cases true b e = inl refl
-or_cases false b e = inr e
-
 some_there : {X : Type 0} (xs : List X) (x : X) → Contains xs x → 1 ≤ length xs
-some_there [] x c = absurd (none_in x c)
+some_there [] x c = absurd (none_of_nothing x c)
 some_there (y ∷ ys) x c = omega arith
 
 worker_asked : (number : ℕ) (proposed : Bool) (end : NodeEnd) (seat : Seat) (calls : List Call) (had has : ℕ) → IsServed (asks_until number proposed end) seat calls had has → is_worker seat.who.kind ≡ true → 1 ≤ length (asks_in calls)
 worker_asked number proposed end seat calls had has served w = elim (or_cases (asks seat.who.kind Propagate) (asks seat.who.kind Separate || asks seat.who.kind Search) w) [
-  | inl p ↦ asked Propagate (behind Propagate (here Propagate (Separate ∷ Search ∷ asks_for_split proposed end))) p
+  | inl p ↦ asked Propagate (behind Propagate (contains_here Propagate (Separate ∷ Search ∷ asks_for_split proposed end))) p
   | inr r ↦ elim (or_cases (asks seat.who.kind Separate) (asks seat.who.kind Search) r) [
-    | inl p ↦ asked Separate (behind Separate (Contains-append_right (Propagate ∷ []) (Separate ∷ Search ∷ asks_for_split proposed end) Separate (here Separate (Search ∷ asks_for_split proposed end)))) p
-    | inr p ↦ asked Search (behind Search (Contains-append_right (Propagate ∷ Separate ∷ []) (Search ∷ asks_for_split proposed end) Search (here Search (asks_for_split proposed end)))) p
+    | inl p ↦ asked Separate (behind Separate (Contains-append_right (Propagate ∷ []) (Separate ∷ Search ∷ asks_for_split proposed end) Separate (contains_here Separate (Search ∷ asks_for_split proposed end)))) p
+    | inr p ↦ asked Search (behind Search (Contains-append_right (Propagate ∷ Separate ∷ []) (Search ∷ asks_for_split proposed end) Search (contains_here Search (asks_for_split proposed end)))) p
   ]
 ]
   where

@@ -1,6 +1,6 @@
 -- What is set aside of a kit.
-use Rattle.std.proofs.Common.{◌≡◌, ℕ, ◌+◌, ◌≤◌, Bool, true, false, List, [], ◌∷◌, ◌++◌, length, map, cond, refl, sym, ap, ap₂, ◌∙◌, subst, arith, append_assoc, append-nil, take_all, Bor}
-use Rattle.std.specs.Prelude.{◌||◌, ◌==◌, ◌-◌, not, filter, slice_range, None}
+use Rattle.std.proofs.Common.{◌≡◌, ℕ, ◌+◌, Bool, true, false, List, [], ◌∷◌, ◌++◌, length, map, cond, refl, sym, ap, ap₂, ◌∙◌, subst, arith, append_assoc, append-nil, Bor}
+use Rattle.std.specs.Prelude.{◌||◌, ◌==◌, ◌-◌, not, filter, None}
 use Rattle.std.specs.List.{list_any}
 use Rattle.std.specs.Str.{bytes_eq}
 use Rattle.std.proofs.lemmas.Bool.{eqb-true}
@@ -8,6 +8,7 @@ use Rattle.std.proofs.lemmas.List.{map-append}
 use Rattle.cip_plugin.specs.Who.{Who}
 use Rattle.cip_roster.specs.Closed.{Back, back}
 use Rattle.cip_solve.specs.Kits.{Stock, IsFew, is_off, less_off}
+use Rattle.cip_rows.proofs.KeptRows.{length-filtered}
 
 -- ---- names
 
@@ -41,14 +42,6 @@ filter_mapped : {A B : Type 0} (p : B → Bool) (f : A → B) (xs : List A) → 
 filter_mapped p f [] = refl
 filter_mapped p f (x ∷ xs) = mapped_by p f x xs (p (f x)) refl (filter_mapped p f xs)
 
-few_by : {A : Type 0} (p : A → Bool) (x : A) (xs : List A) (b : Bool) → p x ≡ b → length (filter p xs) ≤ length xs → length (filter p (x ∷ xs)) ≤ length (x ∷ xs)
-few_by p x xs true e rest = omega (arith, ap length (filter_cond p x xs true e), rest)
-few_by p x xs false e rest = omega (arith, ap length (filter_cond p x xs false e), rest)
-
-filter_few : {A : Type 0} (p : A → Bool) (xs : List A) → length (filter p xs) ≤ length xs
-filter_few p [] = omega arith
-filter_few p (x ∷ xs) = few_by p x xs (p x) refl (filter_few p xs)
-
 -- ---- one plugin more
 
 -- it passes, and goes behind what is there
@@ -70,10 +63,6 @@ kept_same p kept x rest whole all e w h = ap (λ ys. kept ++ ys) (sym (ap (filte
 pub spent_same : {A B : Type 0} (left : A → B) (p : A → Bool) (spent : List B) (x : A) (rest whole : List A) (all : List B) → p x ≡ false → whole ≡ x ∷ rest → spent ++ map left (filter p whole) ≡ all → spent ++ map left (filter p rest) ≡ all
 spent_same left p spent x rest whole all e w h = ap (λ ys. spent ++ map left ys) (sym (ap (filter p) w ∙ filter_cond p x rest false e)) ∙ h
 
--- all of a list, as a range
-pub whole_range : {A : Type 0} (xs : List A) (n : ℕ) → length xs ≤ n → slice_range xs 0 n ≡ xs
-whole_range xs n h = take_all (n - 0) xs (omega (arith, h))
-
 -- none is left
 pub spent_all : {A B : Type 0} (left : A → B) (p : A → Bool) (spent first : List B) (done start whole : List A) → done ≡ [] → start ≡ whole → spent ++ map left (filter p done) ≡ first ++ map left (filter p start) → spent ≡ first ++ map left (filter p whole)
 spent_all left p spent first done start whole d s h =
@@ -82,7 +71,7 @@ spent_all left p spent first done start whole d s h =
 -- ---- the kit
 
 pub still_few : (names : List (List ℕ)) (stock : Stock) → IsFew stock → IsFew (less_off names stock)
-still_few names stock few = omega (arith, few, filter_few (λ who. not (is_off names who)) stock.start)
+still_few names stock few = omega (arith, few, length-filtered (λ who. not (is_off names who)) stock.start)
 
 all_stay : (whos : List Who) → filter (λ who. not (is_off [] who)) whos ≡ whos
 all_stay [] = refl

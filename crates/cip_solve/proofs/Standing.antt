@@ -9,9 +9,9 @@ use Rattle.cip_calls.specs.Relaxation.{IsRelaxedBound}
 use Rattle.cip_domain.specs.Changes.{Region}
 use Rattle.cip_rows.specs.RowPools.{Pool}
 use Rattle.cip_tree.specs.Nodes.{TakenNode, box_of}
-use Rattle.cip_calls.specs.NodeRows.{usable_rows}
-use Rattle.cip_calls.specs.Relaxing.{node_program, IsMark}
-use Rattle.cip_calls.specs.Mark.{Mark}
+use Rattle.cip_node.specs.NodeRows.{usable_rows}
+use Rattle.cip_node.specs.Relaxing.{node_program, IsMark}
+use Rattle.cip_node.specs.Mark.{Mark}
 use Rattle.cip_calls.specs.CoreStates.{CoreState, reduced_of, held_of, rows_lent, IsAtWork}
 use Rattle.cip_calls.specs.StepsBack.{StepsTaken, point_back, FitsBack}
 use Rattle.cip_calls.specs.Later.{IsLater, IsLaterAt}

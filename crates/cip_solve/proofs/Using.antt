@@ -50,11 +50,6 @@ pub told_behind : {X V A E : Type 0} (state : X → State) (items : V → List (
 told_behind state items x y v w (Ok z) ws c e same kept used = used_behind state items x y v w [] c e same kept (used_first [] ws (state y) c (items w) e used)
 told_behind state items x y v w (Err z) ws c e same kept used = tt
 
--- what holds of each answer
-pub all_ok : {A E : Type 0} (r : Result A E) (P : A → Type 0) → ((x : A) → P x) → IfOk r P
-all_ok (Ok x) P h = h x
-all_ok (Err e) P h = tt
-
 -- by what is known whether there is an answer or not
 pub from_ok : {A E : Type 0} (r : Result A E) (P : Type 0) (Q : A → Type 0) → OnOk r P → ((x : A) → P → Q x) → IfOk r Q
 from_ok (Ok x) P Q h so = so x h
@@ -72,11 +67,6 @@ in_further qs ws (stage.Place found split) a b c h m e settled first second = us
 -- and what is used behind a node that is open
 pub in_then : (ws : List Ask) (a b c : State) (h m e : List (ℕ × Judged)) → All (λ seat. is_settled seat ≡ true) b.seats → Used ws a h b m → Used [] b m c e → Used ws a h c e
 in_then ws a b c h m e settled first second = used_first ws [] a c h e (used_further ws [] a b c h m e settled first second)
-
--- a turn behind others
-pub if_further : (turned : Option Reached) (a b c : State) (h m e : List (ℕ × Judged)) → All (λ seat. is_settled seat ≡ true) b.seats → Used [] a h b m → IsUsedIf turned b m c e → IsUsedIf turned a h c e
-if_further None a b c h m e settled first second = used_further [] [] a b c h m e settled first second
-if_further (Some reached) a b c h m e settled first second = in_further [] asks_in_pass reached a b c h m e settled first second
 
 -- ---- the end
 

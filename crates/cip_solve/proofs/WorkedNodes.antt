@@ -7,9 +7,9 @@ use Rattle.cip_problem.specs.Program.{Sides, Program}
 use Rattle.cip_problem.specs.WellFormed.{columns}
 use Rattle.cip_problem.specs.Box.{IsInBox}
 use Rattle.cip_problem.specs.Log.{End, Split, Closed, Parked, Entry, Node}
+use Rattle.cip_problem.proofs.Log.Entering.{contains_here}
 use Rattle.cip_search.specs.SearchState.{WayBack, IsGiven, IsWideBack}
 use Rattle.cip_search.specs.Relaxation.{IsRelaxedBound}
-use Rattle.cip_search.proofs.Members.{here}
 use Rattle.cip_search.proofs.Relaxed.{wider}
 use Rattle.cip_search.specs.SearchAnswers.{IsSplitEnd, AreRelaxed, AreOfEntries}
 use Rattle.cip_search.proofs.WorkLogs.{unmarked_more, marked_more, later_given, relaxed_more}
@@ -57,7 +57,7 @@ one_longer mid new ended end e =
 
 -- the log gave the node that was taken up
 pub given_taken : (core : CoreState) (node : TakenNode) → IsTakenUp core node → IsGiven (reduced_of core) core.tree.root.bound core.tree.log (held_of core) (shown core.tree node)
-given_taken core node up = up.nodes.kept.searched.given (shown core.tree node) (here (shown core.tree node) (core.tree.open_ ++ core.tree.parked))
+given_taken core node up = up.nodes.kept.searched.given (shown core.tree node) (contains_here (shown core.tree node) (core.tree.open_ ++ core.tree.parked))
 
 -- the numbers of the marks, with that of a node that may have one
 numbers_more : (marks more : List (ℕ × Mark)) → numbers_of (marks ++ more) ≡ numbers_of marks ++ numbers_of more
@@ -136,7 +136,7 @@ module _ (mid new : CoreState) (node : TakenNode) (mark : Option Mark) (end : No
       let e = entry_of_end mid new h.ended mark end h.end_ in
       let entry : Entry = record { node = node.number; bound = h.ended.bound; end = e.end } in
       let g = given_taken mid node up in
-      let box = h.same u ∙ (up.nodes.boxes (h.later.untouched u)).boxes (shown mid.tree node) g.given (here (shown mid.tree node) (mid.tree.open_ ++ mid.tree.parked)) g.found in
+      let box = h.same u ∙ (up.nodes.boxes (h.later.untouched u)).boxes (shown mid.tree node) g.given (contains_here (shown mid.tree node) (mid.tree.open_ ++ mid.tree.parked)) g.found in
       subst (λ log. AreMet program start log (marks ++ more)) (sym (logged_more e))
       (met_more program start mid.tree.log entry marks mark t (met_here mid new node h.ended mark g h.later.reduced bare box h.met))
 

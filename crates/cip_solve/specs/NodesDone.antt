@@ -7,7 +7,7 @@ use Rattle.cip_events.specs.Events.{event_at}
 use Rattle.cip_events.specs.declared.events.EventKind.TheVariants.{NodeFocused}
 use Rattle.cip_plugin.specs.Calls.{Ask, Branch, OnEvent}
 use Rattle.cip_plugin.specs.Seats.{State}
-use Rattle.cip_calls.specs.Mark.{Mark}
+use Rattle.cip_node.specs.Mark.{Mark}
 use Rattle.cip_tree.specs.Nodes.{TakenNode, box_of, shown}
 use Rattle.cip_calls.specs.CoreStates.{CoreState, reduced_of, IsKeptIn}
 use Rattle.cip_calls.specs.Later.{IsLater, IsNarrower}

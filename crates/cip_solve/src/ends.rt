@@ -1,6 +1,5 @@
 //! How the work on a node with plugins ends.
-use cip_calls::Mark;
-use cip_node::NodeEnd;
+use cip_node::{Mark, NodeEnd};
 
 /// How a node ended, and what was met in the work on it.
 #[derive(Drop)]

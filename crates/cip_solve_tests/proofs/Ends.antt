@@ -1,5 +1,5 @@
 -- What wishes, calls and refusals keep.
-use Rattle.std.proofs.Common.{◌≡◌, ℕ, ◌+◌, List, [], ◌∷◌, ◌++◌, length, Option, Some, All, ap, sym, subst, refl, get_or, ◌<◌}
+use Rattle.std.proofs.Common.{◌≡◌, ℕ, ◌+◌, List, [], ◌∷◌, length, All, sym, subst}
 use Rattle.std.specs.Prelude.{slice_get, IsSome, Result, Ok, Err, OnOk, MatchResult}
 use Rattle.cip_events.specs.declared.words.Word.{Word}
 use Rattle.cip_plugin.specs.Calls.{Ask}
@@ -8,7 +8,7 @@ use Rattle.cip_plugin.specs.declared.kinds.Kind.{Kind}
 use Rattle.cip_plugin.specs.declared.proposals.Wish.{Wish}
 use Rattle.cip_plugin.specs.declared.faults.WishFault.{WishFault}
 use Rattle.cip_plugin.specs.Seats.{Seat, State, held_count}
-use Rattle.cip_plugin.specs.Steps.{Step, Notes, Runs}
+use Rattle.cip_plugin.specs.Steps.{Notes, Runs}
 use Rattle.cip_plugin.specs.Calling.{all_turns}
 use Rattle.cip_roster.specs.Turns.{CalledKind}
 use Rattle.cip_roster.specs.Wished.{Ran, WasGranted, WasRefused}
@@ -20,10 +20,6 @@ pub ran_wish : {A : Type 0} (wish : Wish) (a b : State) (result : Result A WishF
     → MatchResult result (λ _. WasGranted wish a b) (λ fault. WasRefused wish fault a b) → Ran a b
 ran_wish wish a b (Ok x) came = record { steps = came.granted.steps; run = came.granted.run }
 ran_wish wish a b (Err fault) came = record { steps = []; run = came.same }
-
--- some steps, and then others
-pub ran_both : (a b c : State) → Ran a b → Ran b c → Ran a c
-ran_both a b c first second = ran_more a b c first.steps first.run second
 
 -- no plugin is lost
 pub ran_count : (a b : State) → Ran a b → length b.seats + held_count b.places ≡ length a.seats + held_count a.places

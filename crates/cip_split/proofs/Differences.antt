@@ -1,12 +1,12 @@
 -- Where two rows differ, by the columns that were touched.
 use Rattle.std.proofs.Common.{◌≡◌, ℕ, zero, suc, ◌+◌, ◌<◌, ◌≤◌, Bool, true, false, not, true≢false, List, [], ◌∷◌, length, get_or, None, Some, Contains, refl, sym, ap, ◌∙◌, subst, arith, inl, inr}
 use Rattle.std.proofs.lemmas.Bool.{cases_lt, cases_eq}
+use Rattle.std.proofs.lemmas.List.{get_or_default}
 use Rattle.cip_rational.specs.Rational.{ℚ, zeroℚ}
 use Rattle.cip_rational.proofs.Rational.Compare.{ℚ_discrete}
 use Rattle.cip_frac.specs.Order.{same_rational, same_from_equal, equal_from_same}
 use Rattle.cip_cert.specs.Touched.{Tells}
 use Rattle.cip_split.specs.SplitChecks.{first_difference}
-use Rattle.cip_cert.proofs.Pools.{same_default}
 
 -- ---- a walk
 
@@ -28,11 +28,11 @@ agrees_more ds es touched i least result b here before j h l = elim (cases_eq j 
 
 pub agrees_all : (ds es : List ℚ) (touched : List ℕ) (i least : ℕ) → length touched ≤ i → ((j : ℕ) → j < i → get_or touched j 0 < least → AgreeAt ds es (get_or touched j 0)) → (column : ℕ) → Contains touched column → column < least → AgreeAt ds es column
 agrees_all ds es touched i least end passed column (j, l, e) h =
-    let same : get_or touched j 0 ≡ column = same_default touched j 0 column l ∙ e in
+    let same : get_or touched j 0 ≡ column = get_or_default touched j 0 column l ∙ e in
     subst (AgreeAt ds es) same (passed j (omega (arith, l, end)) (omega (arith, same, h)))
 
 coefficient_at : (ds : List ℚ) (column : ℕ) (a : ℚ) → column < length ds → a ≡ get_or ds column a → get_or ds column zeroℚ ≡ a
-coefficient_at ds column a h e = same_default ds column zeroℚ a h ∙ sym e
+coefficient_at ds column a h e = get_or_default ds column zeroℚ a h ∙ sym e
 
 same_of : (a b : ℚ) → not (same_rational a b) ≡ false → a ≡ b
 same_of a b e = either (same_rational a b) refl e

@@ -43,10 +43,6 @@ pub ok_unless : {A : Type 0} (Q : A → Type 0) (o : Option SplitFormFault) (r :
 ok_unless Q None r f = f refl
 ok_unless Q (Some fault) r f = tt
 
-pub ok_same : {A : Type 0} (r : Result A SplitFormFault) → IfOk r (λ a. r ≡ Ok a)
-ok_same (Ok a) = refl
-ok_same (Err fault) = tt
-
 pub ok_on_side : {A : Type 0} (name : CutFault → SplitFormFault) (r : Result A CutFault) → IfOk (on_side name r) (λ a. r ≡ Ok a)
 ok_on_side name (Ok a) = refl
 ok_on_side name (Err fault) = tt

@@ -1,12 +1,9 @@
 -- Numbers that are kept up to 2^127-1.
 use Rattle.std.proofs.Common.{◌≡◌, ℕ, ◌*◌, ◌^◌, ◌<◌, ◌≤◌, Bool, true, false, cond, leb, None, Some, refl, ap, arith, leb-true, leb-false, lit≤}
-use Rattle.std.proofs.lemmas.Bool.{le-leb, lt-leb}
+use Rattle.std.proofs.lemmas.Bool.{lt-leb}
 use Rattle.std.proofs.Math.Nat.{one-le-pow, pow-le-pow_right, le_trans, le-mul_of_pos_right}
 use Rattle.cip_rational.specs.Range.{largest}
 use Rattle.cip_text.specs.Amounts.{capped}
-
-pub capped_some : (n : ℕ) → n ≤ largest → capped n ≡ Some n
-capped_some n h = ap (λ b. cond b (Some n) None) (le-leb n largest h)
 
 pub capped_none : (n : ℕ) → largest < n → capped n ≡ None
 capped_none n h = ap (λ b. cond b (Some n) None) (lt-leb n largest h)
@@ -28,9 +25,6 @@ capped_over n e = go (leb n largest) refl e
 -- a power of ten above 38 is too large
 pub power_over : (k : ℕ) → 38 < k → largest < 10 ^ k
 power_over k h = let p : 10 ^ 39 ≤ 10 ^ k = pow-le-pow_right {n = 10} (lit≤ tt) h in le_trans (lit≤ tt) p
-
-pub power_small : (k : ℕ) → k ≤ 38 → 10 ^ k ≤ largest
-power_small k h = le_trans (pow-le-pow_right {n = 10} (lit≤ tt) h) (lit≤ tt)
 
 pub power_some : (k : ℕ) → 0 < 10 ^ k
 power_some k = one-le-pow k 10 (lit≤ tt)

@@ -4,18 +4,13 @@ use Rattle.std.specs.List.{slice_split, filter, before_first, after_first, posit
 use Rattle.std.proofs.lemmas.Bool.{ltb-true, ltb-false}
 use Rattle.std.proofs.lemmas.List.{take_all, drop_all, length-drop}
 use Rattle.std.proofs.lemmas.List.Sums.{fails_before_first}
-use Rattle.std.proofs.lemmas.List.Splits.{slice_split_first, slice_split_none, slice_split-cons_yes}
+use Rattle.std.proofs.lemmas.List.Splits.{slice_split_first, slice_split_none}
 use Rattle.cip_text_rules.specs.Lines.{Record, is_line_feed, is_blank, is_filled, without_empty_end, lines, fields, record_of}
 use Rattle.cip_text_rules.specs.LineTexts as texts
 use Rattle.cip_text_rules.specs.LineTexts.{Numbered, records_in}
+use Rattle.cip_text_rules.proofs.Cuts.{has_first, end_of_more}
 use Rattle.cip_text.specs.LineStarts.{begins_blank}
 use Rattle.cip_text.specs.TextLines.{records_with}
-
--- a text has a first piece
-record HasFirst (pieces : List (List ℕ)) : Type 0 where
-  first : List ℕ
-  others : List (List ℕ)
-  are : pieces ≡ first ∷ others
 
 module _ (p : ℕ → Bool) (xs : List ℕ) where
   whole : length xs ≤ position_or_len p xs → slice_split p xs ≡ xs ∷ []
@@ -26,16 +21,6 @@ module _ (p : ℕ → Bool) (xs : List ℕ) where
 
   after_whole : length xs ≤ position_or_len p xs → after_first p xs ≡ []
   after_whole h = drop_all (position_or_len p xs + 1) xs (omega (arith, h))
-
-has_first : (p : ℕ → Bool) (xs : List ℕ) → HasFirst (slice_split p xs)
-has_first p xs = go (ltb (position_or_len p xs) (length xs)) refl
-  where
-    go : (b : Bool) → ltb (position_or_len p xs) (length xs) ≡ b → HasFirst (slice_split p xs)
-    go true e = record { first = before_first p xs; others = slice_split p (after_first p xs); are = slice_split_first p xs 0 (ltb-true _ _ e) }
-    go false e = record { first = xs; others = []; are = whole p xs (ltb-false _ _ e) }
-
-end_of_more : (piece : List ℕ) (pieces : List (List ℕ)) → HasFirst pieces → without_empty_end (piece ∷ pieces) ≡ piece ∷ without_empty_end pieces
-end_of_more piece pieces h = rw (h.are)
 
 -- ---- lines
 
@@ -56,9 +41,6 @@ first_line xs some = go (ltb (position_or_len is_line_feed xs) (length xs)) refl
         ∙ sym (ap (λ l. l ∷ lines (after_first is_line_feed xs)) (before_whole is_line_feed xs h) ∙ ap (λ l. xs ∷ lines l) (after_whole is_line_feed xs h))
 
 -- ---- fields
-
-pub blank_first : (x : ℕ) (xs : List ℕ) → is_blank x ≡ true → fields (x ∷ xs) ≡ fields xs
-blank_first x xs e = ap (filter is_filled) (slice_split-cons_yes is_blank x xs e)
 
 filled_first : (xs : List ℕ) → 0 < length xs → begins_blank xs ≡ false → is_filled (before_first is_blank xs) ≡ true
 filled_first [] h e = absurd (omega arith)

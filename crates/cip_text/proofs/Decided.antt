@@ -8,8 +8,9 @@ use Rattle.std.proofs.lemmas.List.{length-take-le, get_or-take}
 use Rattle.std.proofs.Math.Nat.{pow-le-pow_right, le-mul_of_pos_right, mul-le-mul_right}
 use Rattle.cip_rational.specs.Range.{largest}
 use Rattle.cip_rational.specs.Numeral.{Exact, Huge, TooFine, scaled, whole_numeral, decimal_numeral, digits_value, size_of, zeros_at_end, is_zero_digit}
+use Rattle.cip_rational.proofs.InRange.{power_small}
 use Rattle.cip_text.specs.Amounts.{capped}
-use Rattle.cip_text.proofs.Amounts.{capped_value, capped_over, power_over, power_small, power_some, product_over, product_far}
+use Rattle.cip_text.proofs.Amounts.{capped_value, capped_over, power_over, power_some, product_over, product_far}
 use Rattle.cip_text.proofs.DigitLists.{IsCut, cut_digits, value_below, value_some, digits_take, last_kept}
 
 pub scaled_up : (negative : Bool) (size up down : ℕ) → 0 < size → down ≤ up → scaled negative size up down ≡ whole_numeral negative (size * 10 ^ (up - down))
@@ -22,9 +23,6 @@ scaled_down negative (suc n) up down some h = ap (λ b. cond b (whole_numeral ne
 
 pub whole_huge : (negative : Bool) (n : ℕ) → largest < n → whole_numeral negative n ≡ Huge negative
 whole_huge negative n h = ap (λ b. cond b (Exact negative n 1) (Huge negative)) (lt-leb n largest h)
-
-pub whole_exact : (negative : Bool) (n : ℕ) → n ≤ largest → whole_numeral negative n ≡ Exact negative n 1
-whole_exact negative n h = ap (λ b. cond b (Exact negative n 1) (Huge negative)) (le-leb n largest h)
 
 decimal_by : (negative : Bool) (size places : ℕ) (a b : Bool) → nat_lt (largest * 10 ^ places) size ≡ a → (nat_le size largest && nat_le places 38) ≡ b
     → decimal_numeral negative size places ≡ cond a (Huge negative) (cond b (Exact negative size (10 ^ places)) TooFine)

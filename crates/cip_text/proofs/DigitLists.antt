@@ -1,15 +1,16 @@
 -- Lists of decimal digits and the numbers that they say.
-use Rattle.std.proofs.Common.{◌≡◌, ℕ, ◌+◌, ◌-◌, ◌*◌, ◌^◌, ◌<◌, ◌≤◌, Bool, true, false, ◌&&◌, List, [], ◌∷◌, ◌++◌, length, map, take, drop, get_or, refl, sym, ap, subst, ◌∙◌, arith, leb-true, reverse}
+use Rattle.std.proofs.Common.{◌≡◌, ℕ, ◌+◌, ◌-◌, ◌*◌, ◌^◌, ◌<◌, ◌≤◌, true, false, List, [], ◌∷◌, ◌++◌, length, map, take, drop, get_or, sym, ap, subst, ◌∙◌, arith, leb-true, reverse}
 use Rattle.std.specs.Char.{is_ascii_digit}
 use Rattle.std.specs.Int.Digits.{number_from_digits, number_from_digits_after, AllBelowBase}
 use Rattle.std.specs.List.{list_all, prefix_len}
-use Rattle.std.proofs.lemmas.List.{take_more, map-append, length-map, take-append-drop, take_all, take-take, take-append-le, length-take-le, length-drop, get_or-take, get_or-drop, get_or-reverse, length-reverse}
+use Rattle.std.proofs.lemmas.List.{take_more, map-append, length-map, take-append-drop, take_all, take-take, length-take-le, length-drop, get_or-take, get_or-drop, get_or-reverse, length-reverse}
 use Rattle.std.proofs.Math.Seq.{take-append-add}
 use Rattle.std.proofs.lemmas.List.Folds.{list_all-append}
 use Rattle.std.proofs.lemmas.List.Sums.{prefix_len_stops, AllPass-from_list_all}
 use Rattle.std.proofs.lemmas.Int.Digits.{number_after_append, number_after_ge, number_lt}
 use Rattle.std.proofs.Math.Nat.{pow-suc}
 use Rattle.cip_rational.specs.Numeral.{digits_value, zeros_at_end, is_zero_digit}
+use Rattle.cip_rational.proofs.InRange.{both_left, both_right}
 
 abbrev pub digit : ℕ → ℕ
 digit byte = byte - 48
@@ -47,14 +48,6 @@ value_split xs ys = after_split 0 xs ys ∙ number_after (digits_value xs) (map 
 is_below : (x : ℕ) → is_ascii_digit x ≡ true → x - 48 < 10
 is_below x e = grind (arith, leb-true)
 
-pub both_left : (a b : Bool) → (a && b) ≡ true → a ≡ true
-both_left true b e = refl
-both_left false b e = e
-
-pub both_right : (a b : Bool) → (a && b) ≡ true → b ≡ true
-both_right true b e = e
-both_right false b e = absurd (cc)
-
 all_below : (ds : List ℕ) → list_all is_ascii_digit ds ≡ true → AllBelowBase 10 (map digit ds)
 all_below [] e = tt
 all_below (x ∷ ds) e = (is_below x (both_left _ _ e), all_below ds (both_right _ _ e))
@@ -75,9 +68,6 @@ pub digits_drop : (j : ℕ) (ds : List ℕ) → list_all is_ascii_digit ds ≡ t
 digits_drop j ds e = digits_right (take j ds) (drop j ds) (ap (list_all is_ascii_digit) (take-append-drop j ds) ∙ e)
 
 -- ---- the first digits on both sides of a point
-
-pub first_whole : (xs ys : List ℕ) (n : ℕ) → n ≤ length xs → take n (xs ++ ys) ≡ take n xs
-first_whole xs ys n h = take-append-le n xs ys h
 
 pub first_both : (xs ys : List ℕ) (n : ℕ) → length xs ≤ n → take n (xs ++ ys) ≡ xs ++ take (n - length xs) ys
 first_both xs ys n h =

@@ -1,11 +1,10 @@
 -- What is told of texts.
-use Rattle.std.proofs.Common.{◌≡◌, ℕ, List, Option, None, Result, Ok, Err, ap, ◌∙◌}
-use Rattle.cip_text_rules.specs.LineTexts.{Reading, outcome_of, HasResult, HasFault}
+use Rattle.std.proofs.Common.{ℕ, List, Result, Ok, Err}
+use Rattle.cip_text_rules.specs.LineTexts.{Reading}
 use Rattle.cip_text_rules.specs.LineStream.{stream_of, FaultsOfEndedLines}
-use Rattle.cip_text.specs.declared.faults.KnownFault.{KnownFault}
 use Rattle.cip_text.specs.declared.text_faults.TextFault.{TextFault}
 use Rattle.cip_text.specs.PieceCuts.{Cut, known_fault}
-use Rattle.cip_text.specs.PieceStands.{StandsAt, outcome_with}
+use Rattle.cip_text.specs.PieceStands.{StandsAt}
 use Rattle.cip_text.specs.EndedFaults.{IsKnownFault}
 use Rattle.cip_text.specs.TextFaults.{by_number, IsSaid, IsToldBy}
 use Rattle.cip_text.proofs.Streams.{quiet, faulty}
@@ -14,11 +13,3 @@ use Rattle.cip_text.proofs.Streams.{quiet, faulty}
 pub told_by : {F K S I X : Type 0} (reading : Reading K I X) (steps : Reading S I X) → FaultsOfEndedLines reading steps → (text : List ℕ) (cut : Cut) (known : S) → StandsAt cut known (stream_of steps text) → (number_of : F → ℕ) (answer : Result (Unit {0}) (TextFault F)) → IsSaid number_of (known_fault steps.long cut) answer → IsToldBy number_of (IsKnownFault reading text) answer
 told_by reading steps law text cut known stands number_of (Ok _) s = quiet reading steps law text cut known stands s
 told_by reading steps law text cut known stands number_of (Err fault) s = faulty reading steps law text cut known stands (by_number number_of fault) s
-
--- of a text that has ended and has a fault
-pub ended_fault : {F K I X : Type 0} (reading : Reading K I X) (text : List ℕ) (known : Option KnownFault) (value : X) → outcome_of reading text ≡ outcome_with known value → (number_of : F → ℕ) (fault : TextFault F) → IsSaid number_of known (Err fault) → HasFault reading text fault.line (number_of fault.kind)
-ended_fault reading text known value e number_of fault s = record { faulty = e ∙ ap (λ f. outcome_with f value) s }
-
--- of one that has none
-pub ended_value : {K I X : Type 0} (reading : Reading K I X) (text : List ℕ) (known : Option KnownFault) (value : X) → outcome_of reading text ≡ outcome_with known value → known ≡ None → HasResult reading text value
-ended_value reading text known value e none = record { means = e ∙ ap (λ f. outcome_with f value) none }

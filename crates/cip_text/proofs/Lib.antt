@@ -5,7 +5,6 @@ pub mod Decided
 pub mod DigitLists
 pub mod FaultsTold
 pub mod FeedCuts
-pub mod FieldsOfLine
 pub mod Grown
 pub mod OneLine
 pub mod Places

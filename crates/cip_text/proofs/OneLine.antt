@@ -1,26 +1,19 @@
 -- The record of a text of one line.
-use Rattle.std.proofs.Common.{◌≡◌, ℕ, true, false, Bool, ◌||◌, List, [], ◌∷◌, ◌++◌, map, Option, None, Some, MatchOption, refl, sym, ap, ◌∙◌}
+use Rattle.std.proofs.Common.{◌≡◌, ℕ, false, List, [], ◌∷◌, ◌++◌, map, Option, None, Some, MatchOption, refl, sym, ap, ◌∙◌}
 use Rattle.std.specs.Prelude.{option_map}
 use Rattle.std.specs.List.{list_any}
 use Rattle.cip_text_rules.specs.Lines.{Record, is_line_feed, HasNoLineFeed, lines, record_of}
 use Rattle.cip_text_rules.proofs.Cuts.{lines_last}
 use Rattle.cip_text_rules.specs.LineTexts as texts
 use Rattle.cip_text_rules.specs.LineTexts.{Numbered, records_in}
+use Rattle.cip_text_rules.proofs.Quiet.{left_false, right_false}
 use Rattle.cip_text.specs.TextLines.{records_with, content_of, numbered}
 use Rattle.cip_text.specs.declared.text_lines.TextLine.{TextLine}
-
-pub left_none : (a b : Bool) → (a || b) ≡ false → a ≡ false
-left_none true b h = cc
-left_none false b h = refl
-
-pub right_none : (a b : Bool) → (a || b) ≡ false → b ≡ false
-right_none true b h = cc
-right_none false b h = h
 
 -- no byte is a line feed
 pub without_feed : (line : List ℕ) → list_any is_line_feed line ≡ false → HasNoLineFeed line
 without_feed [] h = tt
-without_feed (b ∷ bs) h = (left_none (is_line_feed b) (list_any is_line_feed bs) h, without_feed bs (right_none (is_line_feed b) (list_any is_line_feed bs) h))
+without_feed (b ∷ bs) h = (left_false (is_line_feed b) (list_any is_line_feed bs) h, without_feed bs (right_false (is_line_feed b) (list_any is_line_feed bs) h))
 
 -- the records of one line
 one_record : (comment : ℕ) (line : List ℕ) → HasNoLineFeed line → records_with comment 1 (lines line) ≡ map (texts.numbered 1) (records_in (record_of comment line)) ++ []

@@ -1,7 +1,6 @@
 -- The fraction of a size and a number below.
 use Rattle.std.proofs.Common.{◌≡◌, ℕ, zero, suc, ◌<◌, ◌≤◌, ℤ, pos, ◌*ℤ◌, unsigned_abs, to_z, of_z, Bool, true, false, refl, sym, ap, subst, ◌∙◌, arith, lit<}
 use Rattle.std.specs.Int.{w128}
-use Rattle.std.proofs.lemmas.Int.{ints}
 use Rattle.std.proofs.Math.Nat.{one-mul}
 use Rattle.cip_rational.specs.Rational.{◌*ℚ◌, ratio, integer, inverse, numerator, is_ratio}
 use Rattle.cip_rational.specs.Range.{largest, fits_range}
@@ -14,6 +13,7 @@ use Rattle.cip_frac.specs.FractionFault.{quotient_of, IsFaultOf}
 use Rattle.cip_frac.proofs.Casts.{kept}
 use Rattle.cip_rational.specs.Numeral.{signed}
 use Rattle.cip_rational.proofs.InRange.{IsSound}
+use Rattle.cip_rational.proofs.Integers.{times_one}
 use Rattle.cip_text.specs.declared.reading.Reading.{Reading}
 use Rattle.cip_text.specs.declared.reading.Reading.TheVariants.{Fits, NoNumber, Large, Fine}
 use Rattle.cip_text.specs.Readings.{said, FitsRange}
@@ -27,15 +27,12 @@ inverse_is k =
     let n : numerator (inverse (integer (pos (suc k)))) ≡ pos 1 = e.0 ∙ ap pos (denominator-integer (pos (suc k))) in
     sym (is_ratio (inverse (integer (pos (suc k))))) ∙ rw (n, e.1) refl
 
-by_one : (p : ℤ) → p *ℤ pos 1 ≡ p
-by_one p = omega (arith, ints)
-
 quotient_ratio : (p : ℤ) (d : ℕ) → 0 < d → quotient_of p (pos d) ≡ ratio p d
 unfolding quotient_of
 quotient_ratio p zero h = absurd (omega arith)
 quotient_ratio p (suc k) h =
     ap (λ x. x *ℚ inverse (integer (pos (suc k)))) (sym (integer_ratio p)) ∙ ap (λ x. ratio p 1 *ℚ x) (inverse_is k)
-    ∙ ratio-mul p (pos 1) 1 (suc k) (lit< tt) h ∙ ap (ratio (p *ℤ pos 1)) (one-mul (suc k)) ∙ ap (λ z. ratio z (suc k)) (by_one p)
+    ∙ ratio-mul p (pos 1) 1 (suc k) (lit< tt) h ∙ ap (ratio (p *ℤ pos 1)) (one-mul (suc k)) ∙ ap (λ z. ratio z (suc k)) (times_one p)
 
 abs_signed : (negative : Bool) (size : ℕ) → unsigned_abs (signed negative size) ≡ size
 abs_signed false size = refl

@@ -1,22 +1,23 @@
 -- What is kept of a text stands for its stream, behind bytes, line feeds and the end.
-use Rattle.std.proofs.Common.{◌≡◌, ◌≢◌, ℕ, zero, suc, ◌+◌, ◌-◌, ◌<◌, ◌≤◌, ◌==◌, Bool, true, false, cond, ◌&&◌, ◌||◌, List, [], ◌∷◌, ◌++◌, length, take, Option, None, Some, refl, sym, ap, subst, ◌∙◌, arith}
-use Rattle.std.specs.Prelude.{fold, nat_le, nat_lt, is_none, option_map, IfSome}
+use Rattle.std.proofs.Common.{◌≡◌, ℕ, suc, ◌+◌, ◌-◌, ◌≤◌, ◌==◌, Bool, true, false, cond, ◌&&◌, ◌||◌, List, [], ◌∷◌, ◌++◌, length, take, Option, None, Some, refl, sym, ap, subst, ◌∙◌, arith}
+use Rattle.std.specs.Prelude.{fold, nat_le, nat_lt, is_none, option_map}
 use Rattle.std.specs.List.{count_by, list_any}
 use Rattle.std.proofs.lemmas.List.{append-nil, append_assoc}
 use Rattle.std.proofs.lemmas.List.Sums.{fold-append, sum_by-cons}
-use Rattle.std.proofs.lemmas.Bool.{cond-true, cond-false, le-leb, lt-leb, le-ltb, lt-ltb, leb-true, ltb-true, eqb-true, false_from_ne_true}
+use Rattle.std.proofs.lemmas.Bool.{cond-true, cond-false, le-ltb, leb-true, eqb-true, false_from_ne_true}
 use Rattle.cip_problem.specs.Limits.{longest_text}
 use Rattle.cip_text_rules.specs.Lines.{is_line_feed, is_filled}
 use Rattle.cip_text_rules.specs.LineTexts.{Reading, Outcome, Means, Faulty, outcome_at, too_long, outcome_of}
-use Rattle.cip_text_rules.specs.LineStream.{Progress, Going, Failed, line_read, Stream, no_stream, byte_read, stream_with, stream_of, outcome_from, last_progress, closed, read_outcome, LineFault, fault_in, progress_fault, ended_fault, TextsAreRead, FaultsOfEndedLines, FaultsStay}
+use Rattle.cip_text_rules.specs.LineStream.{Going, line_read, Stream, no_stream, byte_read, stream_with, stream_of, outcome_from, last_progress, closed, read_outcome, fault_in, progress_fault, ended_fault, TextsAreRead, FaultsOfEndedLines, FaultsStay}
 use Rattle.cip_text_rules.specs.LineStream as plain
-use Rattle.cip_text_rules.proofs.LineBytes.{failed_items}
+use Rattle.cip_text_rules.proofs.LineBytes.{looked_at}
+use Rattle.cip_text_rules.proofs.Quiet.{left_false, right_false}
+use Rattle.cip_text_rules.proofs.LineFaults.{failed_line}
 use Rattle.cip_text.specs.declared.faults.KnownFault.{KnownFault}
 use Rattle.cip_text.specs.PieceFaults.{line_fault, first_fault, stays, fault_when_long, has_kind_to}
-use Rattle.cip_text.specs.PieceCuts.{Cut, no_bytes, with_bytes, with_tail, with_feed, known_fault, last_line, end_fault}
+use Rattle.cip_text.specs.PieceCuts.{Cut, with_bytes, with_feed, known_fault, last_line, end_fault}
 use Rattle.cip_text.specs.PieceStands.{progress_of, progress_after, StandsAt, IsRead, IsLastRead, outcome_with}
 use Rattle.cip_text.specs.EndedFaults.{lines_ended, IsKnownFault, KnownFaultsStay}
-use Rattle.cip_text.proofs.OneLine.{left_none, right_none}
 
 -- ---- bytes without line feed
 
@@ -37,8 +38,8 @@ tail_read r [] s h = λ i. record { progress = s.progress; ended = s.ended; line
     none : (n : ℕ) → n ≡ n + 0
     none n = omega arith
 tail_read r (b ∷ bs) s h =
-    let other : is_line_feed b ≡ false = left_none (is_line_feed b) (list_any is_line_feed bs) h in
-    let rest : list_any is_line_feed bs ≡ false = right_none (is_line_feed b) (list_any is_line_feed bs) h in
+    let other : is_line_feed b ≡ false = left_false (is_line_feed b) (list_any is_line_feed bs) h in
+    let rest : list_any is_line_feed bs ≡ false = right_false (is_line_feed b) (list_any is_line_feed bs) h in
     ap (λ t. fold (byte_read r) t bs) (cond-false (is_line_feed b) (ended_line r s) (longer_line s b) other)
     ∙ tail_read r bs (longer_line s b) rest
     ∙ (λ i. record { progress = s.progress; ended = s.ended; line = append_assoc s.line (b ∷ []) bs i; size = more s.size (length bs) i })
@@ -61,9 +62,6 @@ kept r cut known s bytes none h = subst (StandsAt (with_bytes cut bytes) known) 
 })
 
 -- ---- the line feed
-
-failed_line : {K I X : Type 0} (r : Reading K I X) (first kind number : ℕ) (line : List ℕ) → line_read r (Failed first kind) number line ≡ Failed first kind
-failed_line r first kind number line = failed_items r first kind number (r.items line)
 
 -- the progress behind that line
 pub line_is : {K I X : Type 0} (r : Reading K I X) (cut : Cut) (known after : K) (kind : Option ℕ) (s : Stream K) → StandsAt cut known s → IsRead r cut known after kind
@@ -95,32 +93,6 @@ fed r cut known after kind s h told = record {
 }
 
 -- ---- the bytes that are looked at
-
-size_after : {K I X : Type 0} (r : Reading K I X) (s : Stream K) (b : ℕ) → (byte_read r s b).size ≡ s.size + 1
-size_after r s b = go (is_line_feed b)
-  where
-    go : (t : Bool) → (cond t (ended_line r s) (longer_line s b)).size ≡ s.size + 1
-    go true = refl
-    go false = refl
-
-full : {K I X : Type 0} (r : Reading K I X) (bytes : List ℕ) (s : Stream K) → longest_text < s.size → fold (stream_with r) s bytes ≡ s
-full r [] s h = refl
-full r (b ∷ bs) s h =
-    ap (λ t. fold (stream_with r) t bs) (cond-false (nat_le s.size longest_text) (byte_read r s b) s (lt-leb s.size longest_text h)) ∙ full r bs s h
-
-looked_at : {K I X : Type 0} (r : Reading K I X) (bytes : List ℕ) (n : ℕ) (s : Stream K) → s.size + n ≡ longest_text + 1 → fold (stream_with r) s bytes ≡ fold (byte_read r) s (take n bytes)
-looked_at r bytes zero s e = full r bytes s (omega (arith, e)) ∙ ap (fold (byte_read r) s) (sym (nothing bytes))
-  where
-    nothing : (xs : List ℕ) → take zero xs ≡ []
-    nothing [] = refl
-    nothing (x ∷ xs) = refl
-looked_at r [] (suc n) s e = refl
-looked_at r (b ∷ bs) (suc n) s e =
-    ap (λ t. fold (stream_with r) t bs) (cond-true (nat_le s.size longest_text) (byte_read r s b) s (le-leb s.size longest_text (omega (arith, e))))
-    ∙ looked_at r bs n (byte_read r s b) (ap (λ m. m + n) (size_after r s b) ∙ step s.size n longest_text e)
-  where
-    step : (m k l : ℕ) → m + suc k ≡ l + 1 → (m + 1) + k ≡ l + 1
-    step m k l e = omega (arith, e)
 
 -- the stream behind one piece more
 pub piece_read : {K I X : Type 0} (r : Reading K I X) (text piece : List ℕ) (size : ℕ) → (stream_of r text).size ≡ size → size ≤ longest_text + 1 → stream_of r (text ++ piece) ≡ fold (byte_read r) (stream_of r text) (take (longest_text + 1 - size) piece)
@@ -313,50 +285,6 @@ ends reading steps law text cut known after kind h told = sym (law text) ∙ clo
 
 -- ---- kinds
 
-kind_to : (most kind : ℕ) → 0 < kind → kind ≤ most → (nat_lt 0 kind && nat_le kind most) ≡ true
-kind_to most kind some few = ap (λ b. b && nat_le kind most) (lt-ltb 0 kind some) ∙ le-leb kind most few
-
--- the first fault behind a line has a kind in range
-pub first_to : (most line : ℕ) (f : Option KnownFault) (kind : Option ℕ) → has_kind_to most f ≡ true → IfSome kind (λ k. (0 < k) × (k ≤ most)) → has_kind_to most (first_fault f line kind) ≡ true
-first_to most line None None h k = refl
-first_to most line None (Some kind) h k = kind_to most kind k.0 k.1
-first_to most line (Some f) kind h k = h
-
-long_to : (most long last : ℕ) (f : Option KnownFault) → 0 < long → long ≤ most → has_kind_to most f ≡ true → has_kind_to most (Some (fault_when_long long last f)) ≡ true
-long_to most long last None some few h = kind_to most long some few
-long_to most long last (Some f) some few h = go (stays long last f)
-  where
-    go : (b : Bool) → has_kind_to most (Some (cond b f (record { line = last; kind = long }))) ≡ true
-    go true = h
-    go false = kind_to most long some few
-
--- the fault that is known
-pub known_to : (most long : ℕ) (cut : Cut) → 0 < long → long ≤ most → has_kind_to most cut.fault ≡ true → has_kind_to most (known_fault long cut) ≡ true
-known_to most long cut some few h = go (nat_le cut.size longest_text || cut.filled)
-  where
-    go : (b : Bool) → has_kind_to most (cond b cut.fault (Some (fault_when_long long cut.ended cut.fault))) ≡ true
-    go true = h
-    go false = long_to most long cut.ended cut.fault some few h
-
--- the fault at the end
-pub end_to : (most long : ℕ) (cut : Cut) (last_kind end_kind : Option ℕ) → 0 < long → long ≤ most → has_kind_to most cut.fault ≡ true → IfSome last_kind (λ k. (0 < k) × (k ≤ most)) → IfSome end_kind (λ k. (0 < k) × (k ≤ most)) → has_kind_to most (end_fault long cut last_kind end_kind) ≡ true
-end_to most long cut last_kind end_kind some few h a b = go (nat_le cut.size longest_text)
-  where
-    f : Option KnownFault
-    f = first_fault cut.fault (cut.ended + 1) last_kind
-
-    go : (t : Bool) → has_kind_to most (cond t (first_fault f (last_line cut + 1) end_kind) (Some (fault_when_long long (last_line cut) f))) ≡ true
-    go true = first_to most (last_line cut + 1) f end_kind (first_to most (cut.ended + 1) cut.fault last_kind h a) b
-    go false = long_to most long (last_line cut) f some few (first_to most (cut.ended + 1) cut.fault last_kind h a)
-
--- the kind of a fault in range
-pub some_kind : (most : ℕ) (f : KnownFault) → has_kind_to most (Some f) ≡ true → 0 < f.kind
-some_kind most f h = go (nat_lt 0 f.kind) refl h
-  where
-    go : (b : Bool) → nat_lt 0 f.kind ≡ b → (b && nat_le f.kind most) ≡ true → 0 < f.kind
-    go true e h = ltb-true 0 f.kind e
-    go false e h = absurd (cc)
-
 pub few_kinds : (most : ℕ) (f : KnownFault) → has_kind_to most (Some f) ≡ true → f.kind ≤ most
 few_kinds most f h = go (nat_lt 0 f.kind) h
   where
@@ -398,31 +326,7 @@ ends_with reading steps law text cut read_cut known after kind end_kind fault h 
     ends reading steps law text cut known after kind h told
     ∙ ap (λ o. outcome_with o (steps.result after)) (ap (λ k. end_fault steps.long cut kind k) (sym f) ∙ ap (λ c. end_fault steps.long c kind end_kind) (sym e) ∙ sym g)
 
--- before the first byte
-pub first_stands : {K I X : Type 0} (r : Reading K I X) (cut : Cut) (known : K) → cut ≡ no_bytes → known ≡ r.start → StandsAt cut known (no_stream r)
-first_stands r cut known e f = subst (λ (c : Cut). StandsAt c known (no_stream r)) (sym e) (record { progress = ap Going (sym f); ended = refl; filled = refl; line = λ none. refl; size = refl })
-
 -- ---- lines whose last bytes aren't kept
-
--- a line that was joined to what was kept of it
-pub joined_read : {K I X : Type 0} (r : Reading K I X) (cut joined : Cut) (known after : K) (kind : Option ℕ) (tail : List ℕ) → joined ≡ with_tail cut tail → IsRead r joined known after kind → IsRead r (with_bytes cut tail) known after kind
-joined_read r cut joined known after kind tail e told = λ none.
-    ap (line_read r (Going known) (cut.ended + 1)) (ap (λ f. cond (is_none f) (cut.line ++ tail) cut.line) none)
-    ∙ subst (λ (c : Cut). IsRead r c known after kind) e told none
-
--- a line of which nothing was kept
-pub alone_read : {K I X : Type 0} (r : Reading K I X) (cut : Cut) (known after : K) (kind : Option ℕ) (tail : List ℕ) → is_filled cut.line ≡ false → ((number : ℕ) → line_read r (Going known) number tail ≡ progress_after number kind after) → IsRead r (with_bytes cut tail) known after kind
-alone_read r cut known after kind tail e told = λ none.
-    ap (line_read r (Going known) (cut.ended + 1)) (ap (λ f. cond (is_none f) (cut.line ++ tail) cut.line) none ∙ ap (λ line. line ++ tail) (nothing cut.line e))
-    ∙ told (cut.ended + 1)
-  where
-    nothing : (line : List ℕ) → is_filled line ≡ false → line ≡ []
-    nothing [] e = refl
-    nothing (byte ∷ bytes) e = absurd (cc)
-
--- a line that isn't read, behind a fault
-pub fault_read : {K I X : Type 0} (r : Reading K I X) (cut : Cut) (known after : K) (kind : Option ℕ) (tail : List ℕ) → cut.fault ≢ None → IsRead r (with_bytes cut tail) known after kind
-fault_read r cut known after kind tail some = λ none. absurd (some none)
 
 -- a line that these bytes and a line feed end, by the cut behind it
 pub line_ended_with : {K I X : Type 0} (r : Reading K I X) (cut ended_cut : Cut) (known after : K) (kind : Option ℕ) (s : Stream K) (tail : List ℕ) → list_any is_line_feed tail ≡ false → StandsAt cut known s → IsRead r (with_bytes cut tail) known after kind → ended_cut ≡ with_feed (with_bytes cut tail) kind → StandsAt ended_cut after (fold (byte_read r) s (tail ++ 10 ∷ []))

@@ -4,7 +4,7 @@ use Rattle.std.specs.Char.{is_ascii_digit}
 use Rattle.std.specs.List.{list_all, list_any, before_first, after_first}
 use Rattle.std.proofs.lemmas.List.Folds.{list_all-append}
 use Rattle.cip_rational.specs.Numeral.{Numeral, NotANumber, is_minus, without_sign, are_digits, digits_value, is_exponent_mark, is_point, mantissa, exponent, whole_digits, decimals, is_unsigned, zeros_at_end, size_of, scaled, unsigned_numeral}
-use Rattle.cip_text.proofs.DigitLists.{both_right}
+use Rattle.cip_rational.proofs.InRange.{both_right}
 use Rattle.cip_text.proofs.Places.{none_after}
 
 pub mantissa_left : (xs ys : List ℕ) → eqb (length xs) 0 ≡ false → list_all is_ascii_digit xs ≡ true → list_all is_ascii_digit ys ≡ are_digits (xs ++ ys)

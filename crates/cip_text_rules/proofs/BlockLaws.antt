@@ -3,7 +3,7 @@ use Rattle.std.proofs.Common.{◌≡◌, ◌⊎◌, inl, inr, ℕ, ◌<◌, ◌�
 use Rattle.std.specs.Prelude.{⊤, ◌↔◌, nat_lt, nat_le, is_none, is_some, unwrap_or}
 use Rattle.std.specs.List.{AllByRecursion, list_any}
 use Rattle.std.specs.Str.{bytes_eq}
-use Rattle.std.proofs.lemmas.Bool.{eq-eqb, eqb-true, ltb-true, leb-true}
+use Rattle.std.proofs.lemmas.Bool.{eq-eqb, eqb-true, ltb-true, leb-true, not_from_false, or_from, and_from}
 use Rattle.std.proofs.lemmas.List.{length-map}
 use Rattle.std.proofs.lemmas.List.Folds.{list_any-append}
 use lib.Chars.{codes}
@@ -11,7 +11,7 @@ use Rattle.cip_problem.specs.Program.{Program}
 use Rattle.cip_problem.specs.Box.{sides_at}
 use Rattle.cip_problem.specs.WellFormed.{columns}
 use Rattle.cip_text_rules.specs.MpsWords.{is_in, meaning_in}
-use Rattle.cip_text_rules.proofs.Quiet.{kept, left_false, right_false, or_false}
+use Rattle.cip_text_rules.proofs.Quiet.{kept, left_false, right_false}
 use Rattle.cip_text_rules.proofs.MpsNames.{bytes_flip}
 use Rattle.cip_text_rules.specs.LineTexts.{items_in, HasResult}
 use Rattle.cip_text_rules.specs.LineStatements.{AreQuiet, known_of, IsDescribed}
@@ -22,7 +22,8 @@ use Rattle.cip_problem.specs.BlockMeaning.{no_part, part_at, row_at, HasEntry, I
 use Rattle.cip_text_rules.specs.NamedRows.{NamedRow, is_named, block_named, row_blocks}
 use Rattle.cip_text_rules.specs.BlockRules.{BlockFacts, no_blocks, block_rules, block_fault, block_facts_with, blocks_with_saying, block_end_rules, block_count, is_no_block, block_reading}
 use Rattle.cip_text_rules.specs.BlockStatements.{AreNamedOnce, named_by, AreOfNames}
-use Rattle.cip_text_rules.proofs.BlockNumbers.{within, within_below, below_within, passes_at, passes_below, passes_item, passes_map, row_in, chosen, none_of, part_of, numbers_length, not_empty, empty_has, one_number, both_left, both_right, both, EntryAt, entry_found, entry_there}
+use Rattle.cip_text_rules.proofs.BlockNumbers.{within, within_below, below_within, passes_at, passes_below, passes_item, passes_map, row_in, chosen, none_of, part_of, numbers_length, not_empty, empty_has, one_number, EntryAt, entry_found, entry_there}
+use Rattle.cip_rational.proofs.InRange.{both_left, both_right}
 
 -- ---- tests
 
@@ -33,10 +34,6 @@ not_false false e = absurd (cc)
 pub not_true : (b : Bool) → not b ≡ true → b ≡ false
 not_true false e = refl
 not_true true e = absurd (cc)
-
-false_not : (b : Bool) → b ≡ false → not b ≡ true
-false_not false e = refl
-false_not true e = absurd (cc)
 
 pub block_is : (b : ℕ) (o : Option ℕ) → is_block b o ≡ true → o ≡ Some b
 block_is b None e = absurd (cc)
@@ -71,7 +68,7 @@ master_rows program n named k = row_in is_none (row_blocks program named) k
 
 -- a column of a block is among the blocks with it
 among : (program : Program) (n : ℕ) (named : List NamedRow) (b j : ℕ) → within n b ≡ true → is_column_of program (row_blocks program named) b j ≡ true → has_number (blocks_with program n (row_blocks program named) j) b ≡ true
-among program n named b j h e = chosen (λ block. is_column_of program (row_blocks program named) block j) n b ∙ both (within n b) (is_column_of program (row_blocks program named) b j) h e
+among program n named b j h e = chosen (λ block. is_column_of program (row_blocks program named) block j) n b ∙ and_from (within n b) (is_column_of program (row_blocks program named) b j) h e
 
 -- ---- rows
 
@@ -120,7 +117,7 @@ placed program n named s k h = go (row_block program named k) refl
           is_block = subst (λ (m : ℕ). b < m) (sym (numbers_length (block_part program (row_blocks program named)) 0 n)) (within_below n b w);
           is_row =
               part_rows program n named b k
-              ∙ both (within n b) (passes_at (is_block b) (row_blocks program named) k) w
+              ∙ and_from (within n b) (passes_at (is_block b) (row_blocks program named) k) w
               (row_passes (is_block b) program named k h ∙ is_this b (row_block program named k) e);
         })
 
@@ -149,7 +146,7 @@ has_entry_of program n named b j e =
     let f : EntryAt b j (row_blocks program named) program.rows = entry_found b j (row_blocks program named) program.rows c in
     record {
       row = f.row;
-      is_row = part_rows program n named b f.row ∙ both (within n b) _ w f.of_block;
+      is_row = part_rows program n named b f.row ∙ and_from (within n b) _ w f.of_block;
       entry = f.entry;
     }
 
@@ -158,8 +155,8 @@ entry_column program n named b j hb hj h =
     let p : passes_at (is_block b) (row_blocks program named) h.row ≡ true = both_right (within n b) _ (sym (part_rows program n named b h.row) ∙ h.is_row) in
     let w : within n b ≡ true = both_left (within n b) _ (sym (part_rows program n named b h.row) ∙ h.is_row) in
     part_columns program n named b j
-    ∙ both (within n b) _ w
-    (both (within (columns program) j) _ (below_within (columns program) j hj) (entry_there b j (row_blocks program named) program.rows h.row p h.entry))
+    ∙ and_from (within n b) _ w
+    (and_from (within (columns program) j) _ (below_within (columns program) j hj) (entry_there b j (row_blocks program named) program.rows h.row p h.entry))
 
 entries : (program : Program) (n : ℕ) (named : List NamedRow) → Sorted program n named → (b j k : ℕ) → has_number (part_at (blocks_of program n (row_blocks program named)) b).columns j ≡ true → k < length program.row_names → stands_on j (row_at program k) ≡ true → has_number (part_at (blocks_of program n (row_blocks program named)) b).rows k ≡ true ⊎ has_number (blocks_of program n (row_blocks program named)).master_rows k ≡ true
 entries program n named s b j k e h t = go (row_block program named k) refl
@@ -184,7 +181,7 @@ entries program n named s b j k e h t = go (row_block program named k) refl
         let cc_ : is_column_of program (row_blocks program named) c j ≡ true = entry_there c j (row_blocks program named) program.rows k p t in
         let one : nat_lt 1 (length (blocks_with program n (row_blocks program named) j)) ≡ false = none_of (is_linking program n (row_blocks program named)) (columns program) j s.apart wj in
         let same : c ≡ b = one_number (blocks_with program n (row_blocks program named) j) c b one (among program n named c j wc cc_) (among program n named b j wb cb) in
-        inl (part_rows program n named b k ∙ both (within n b) _ wb (row_passes (is_block b) program named k h ∙ is_this b (row_block program named k) (d ∙ ap Some same)))
+        inl (part_rows program n named b k ∙ and_from (within n b) _ wb (row_passes (is_block b) program named k h ∙ is_this b (row_block program named k) (d ∙ ap Some same)))
 
 bounded : (program : Program) (n : ℕ) (named : List NamedRow) → Sorted program n named → (b j : ℕ) → has_number (part_at (blocks_of program n (row_blocks program named)) b).columns j ≡ true → is_bounded (sides_at program.bounds j) ≡ true
 bounded program n named s b j e =
@@ -223,7 +220,7 @@ first_of [] e = let h : 0 < length {A = ℕ} [] = ltb-true 0 (length {A = ℕ} [
 first_of (x ∷ xs) e = (x, ap (λ t. t || has_number xs x) (eq-eqb x x refl))
 
 is_free : (program : Program) (n : ℕ) (named : List NamedRow) (j : ℕ) → j < columns program → ((b : ℕ) → has_number (part_at (blocks_of program n (row_blocks program named)) b).columns j ≡ false) → has_number (blocks_of program n (row_blocks program named)).free_columns j ≡ true
-is_free program n named j h none = free_is program n named j ∙ both (within (columns program) j) _ wj (false_not _ (go (nat_lt 0 (length (blocks_with program n (row_blocks program named) j))) refl))
+is_free program n named j h none = free_is program n named j ∙ and_from (within (columns program) j) _ wj (not_from_false _ (go (nat_lt 0 (length (blocks_with program n (row_blocks program named) j))) refl))
   where
     wj : within (columns program) j ≡ true
     wj = below_within (columns program) j h
@@ -233,7 +230,7 @@ is_free program n named j h none = free_is program n named j ∙ both (within (c
     go true e =
         let f = first_of (blocks_with program n (row_blocks program named) j) e in
         let all : (within n f.0 && is_column_of program (row_blocks program named) f.0 j) ≡ true = sym (chosen (λ block. is_column_of program (row_blocks program named) block j) n f.0) ∙ f.1 in
-        let there : has_number (part_at (blocks_of program n (row_blocks program named)) f.0).columns j ≡ true = part_columns program n named f.0 j ∙ both (within n f.0) _ (both_left (within n f.0) _ all) (both (within (columns program) j) _ wj (both_right (within n f.0) _ all)) in
+        let there : has_number (part_at (blocks_of program n (row_blocks program named)) f.0).columns j ≡ true = part_columns program n named f.0 j ∙ and_from (within n f.0) _ (both_left (within n f.0) _ all) (and_from (within (columns program) j) _ wj (both_right (within n f.0) _ all)) in
         let gone = none f.0 in
         absurd (cc)
 
@@ -269,7 +266,7 @@ pub record Fits (program : Program) (facts : BlockFacts) : Type 0 where
 pub fits_first : (program : Program) → Fits program no_blocks
 fits_first program = record { place = tt; below = tt; counted = λ n e. absurd (cc); once = tt; known = tt }
 
-all_push : {X : Type 0} (P : X → Type 0) (xs : List X) (x : X) → AllByRecursion P xs → P x → AllByRecursion P (xs ++ x ∷ [])
+pub all_push : {X : Type 0} (P : X → Type 0) (xs : List X) (x : X) → AllByRecursion P xs → P x → AllByRecursion P (xs ++ x ∷ [])
 all_push P [] x h e = (e, tt)
 all_push P (y ∷ ys) x h e = (h.0, all_push P ys x h.1 e)
 
@@ -285,8 +282,8 @@ once_push : (named : List NamedRow) (row : NamedRow) → AreNamedOnce named → 
 once_push [] row h e = (refl, tt)
 once_push (r ∷ rs) row h e = (
   list_any-append (λ x. bytes_eq r.name x.name) rs (row ∷ [])
-      ∙ or_false (is_named rs r.name) (bytes_eq r.name row.name || false) h.0
-      (or_false (bytes_eq r.name row.name) false (bytes_flip r.name row.name ∙ left_false (bytes_eq row.name r.name) _ e) refl),
+      ∙ or_from (is_named rs r.name) (bytes_eq r.name row.name || false) h.0
+      (or_from (bytes_eq r.name row.name) false (bytes_flip r.name row.name ∙ left_false (bytes_eq row.name r.name) _ e) refl),
   once_push rs row h.1 (right_false (bytes_eq row.name r.name) _ e),
 )
 
@@ -395,7 +392,7 @@ rows_are program n named = record {
     λ e. (row_named program n named b k e).1,
     λ e.
         part_rows program n named b k
-        ∙ both (within n b) _ (below_within n b (subst (λ (m : ℕ). b < m) (numbers_length (block_part program (row_blocks program named)) 0 n) hb))
+        ∙ and_from (within n b) _ (below_within n b (subst (λ (m : ℕ). b < m) (numbers_length (block_part program (row_blocks program named)) 0 n) hb))
         (row_passes (is_block b) program named k h ∙ is_this b (row_block program named k) e),
   );
   of_master = λ k h. (

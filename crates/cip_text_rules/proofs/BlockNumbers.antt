@@ -2,10 +2,11 @@
 use Rattle.std.proofs.Common.{◌≡◌, ℕ, zero, suc, ◌+◌, ◌<◌, ◌==◌, Bool, true, false, cond, ◌&&◌, ◌||◌, List, [], ◌∷◌, length, map, Option, refl, sym, ap, ◌∙◌, arith, get_or}
 use Rattle.std.specs.Prelude.{nat_lt}
 use Rattle.std.specs.List.{filter, list_any}
-use Rattle.std.proofs.lemmas.Bool.{eq-eqb, eqb-true, false_from_ne_true, lt-ltb}
+use Rattle.std.proofs.lemmas.Bool.{eq-eqb, eqb-true, false_from_ne_true, lt-ltb, or_from, or_left, and_from, or_right}
 use Rattle.cip_problem.specs.Program.{Row, no_row}
-use Rattle.cip_text_rules.proofs.Quiet.{left_false, right_false, or_false}
+use Rattle.cip_text_rules.proofs.Quiet.{left_false, right_false}
 use Rattle.cip_problem.specs.BlockParts.{numbers_from, has_number, rows_where, is_block, stands_on, has_entry}
+use Rattle.cip_rational.proofs.InRange.{both_left, both_right}
 
 -- ---- one of so many
 
@@ -54,14 +55,6 @@ other_number a k h = false_from_ne_true (a == k) (λ e. let q : a ≡ k = eqb-tr
 higher_number : (a k : ℕ) → k < a → (a == k) ≡ false
 higher_number a k h = false_from_ne_true (a == k) (λ e. let q : a ≡ k = eqb-true a k e in omega (arith, h, q))
 
-or_first : (a b : Bool) → a ≡ true → (a || b) ≡ true
-or_first true b e = refl
-or_first false b e = absurd (cc)
-
-pub or_second : (a b : Bool) → b ≡ true → (a || b) ≡ true
-or_second true b e = refl
-or_second false b e = e
-
 or_behind : (a b : Bool) → a ≡ false → (a || b) ≡ b
 or_behind false b e = refl
 or_behind true b e = absurd (cc)
@@ -73,7 +66,7 @@ rows_less test a [] k h = refl
 rows_less test a (b ∷ bs) k h = go (test b) (rows_less test (a + 1) bs k (omega (arith, h)))
   where
     go : (t : Bool) → has_number (rows_where test (a + 1) bs) k ≡ false → has_number (cond t (a ∷ rows_where test (a + 1) bs) (rows_where test (a + 1) bs)) k ≡ false
-    go true e = or_false (a == k) _ (higher_number a k h) e
+    go true e = or_from (a == k) _ (higher_number a k h) e
     go false e = e
 
 pub rows_at : (test : Option ℕ → Bool) (a : ℕ) (bs : List (Option ℕ)) (k : ℕ) → has_number (rows_where test a bs) (a + k) ≡ passes_at test bs k
@@ -81,7 +74,7 @@ rows_at test a [] k = refl
 rows_at test a (b ∷ bs) zero = go (test b) (rows_less test (a + 1) bs (a + 0) (omega arith))
   where
     go : (t : Bool) → has_number (rows_where test (a + 1) bs) (a + 0) ≡ false → has_number (cond t (a ∷ rows_where test (a + 1) bs) (rows_where test (a + 1) bs)) (a + 0) ≡ t
-    go true e = or_first (a == a + 0) _ (eq-eqb a (a + 0) (omega arith))
+    go true e = or_left (a == a + 0) _ (eq-eqb a (a + 0) (omega arith))
     go false e = e
 rows_at test a (b ∷ bs) (suc k) = go (test b) (ap (has_number (rows_where test (a + 1) bs)) (add_suc a k) ∙ rows_at test (a + 1) bs k)
   where
@@ -105,11 +98,8 @@ chosen_less p a zero k h = refl
 chosen_less p a (suc n) k h = go (p a) (chosen_less p (a + 1) n k (omega (arith, h)))
   where
     go : (t : Bool) → has_number (filter p (numbers_from (a + 1) n)) k ≡ false → has_number (cond t (a ∷ filter p (numbers_from (a + 1) n)) (filter p (numbers_from (a + 1) n))) k ≡ false
-    go true e = or_false (a == k) _ (higher_number a k h) e
+    go true e = or_from (a == k) _ (higher_number a k h) e
     go false e = e
-
-and_true : (b : Bool) → (true && b) ≡ b
-and_true b = refl
 
 chosen_at : (p : ℕ → Bool) (a n k : ℕ) → has_number (filter p (numbers_from a n)) (a + k) ≡ (within n k && p (a + k))
 chosen_at p a zero k = refl
@@ -119,7 +109,7 @@ chosen_at p a (suc n) zero = go (p a) refl (chosen_less p (a + 1) n (a + 0) (ome
     same = omega arith
 
     go : (t : Bool) → p a ≡ t → has_number (filter p (numbers_from (a + 1) n)) (a + 0) ≡ false → has_number (cond t (a ∷ filter p (numbers_from (a + 1) n)) (filter p (numbers_from (a + 1) n))) (a + 0) ≡ p (a + 0)
-    go true q e = or_first (a == a + 0) _ (eq-eqb a (a + 0) (sym same)) ∙ sym (ap p same ∙ q)
+    go true q e = or_left (a == a + 0) _ (eq-eqb a (a + 0) (sym same)) ∙ sym (ap p same ∙ q)
     go false q e = e ∙ sym (ap p same ∙ q)
 chosen_at p a (suc n) (suc k) = go (p a) (ap (has_number (filter p (numbers_from (a + 1) n))) (add_suc a k) ∙ chosen_at p (a + 1) n k ∙ ap (λ x. within n k && p x) (sym (add_suc a k)))
   where
@@ -188,19 +178,6 @@ one_number (x ∷ y ∷ xs) b c e h k = let p : nat_lt 1 (length (x ∷ y ∷ xs
 
 -- ---- entries
 
-pub both_left : (a b : Bool) → (a && b) ≡ true → a ≡ true
-both_left true b e = refl
-both_left false b e = e
-
-pub both_right : (a b : Bool) → (a && b) ≡ true → b ≡ true
-both_right true b e = e
-both_right false b e = absurd (cc)
-
-pub both : (a b : Bool) → a ≡ true → b ≡ true → (a && b) ≡ true
-both true true e d = refl
-both true false e d = d
-both false b e d = e
-
 -- a row of the block that has an entry of the column
 pub record EntryAt (block column : ℕ) (bs : List (Option ℕ)) (rows : List Row) : Type 0 where
   pub row : ℕ
@@ -223,5 +200,5 @@ entry_there block column (b ∷ bs) [] k h e = absurd (nothing k e)
     nothing : (n : ℕ) → stands_on column (get_or [] n no_row) ≡ true → ⊥
     nothing zero e = cc
     nothing (suc n) e = cc
-entry_there block column (b ∷ bs) (row ∷ rows) zero h e = or_first (is_block block b && stands_on column row) _ (both (is_block block b) (stands_on column row) h e)
-entry_there block column (b ∷ bs) (row ∷ rows) (suc k) h e = or_second (is_block block b && stands_on column row) _ (entry_there block column bs rows k h e)
+entry_there block column (b ∷ bs) (row ∷ rows) zero h e = or_left (is_block block b && stands_on column row) _ (and_from (is_block block b) (stands_on column row) h e)
+entry_there block column (b ∷ bs) (row ∷ rows) (suc k) h e = or_right (is_block block b && stands_on column row) _ (entry_there block column bs rows k h e)

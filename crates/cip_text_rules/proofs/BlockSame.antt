@@ -110,15 +110,15 @@ put_changed : (rows : List RowPlace) (o : Option ℕ) (place : RowPlace) → put
 put_changed rows None place = refl
 put_changed rows (Some k) place = refl
 
-map_same : {X : Type 0} (xs : List X) → map (λ x. x) xs ≡ xs
+pub map_same : {X : Type 0} (xs : List X) → map (λ x. x) xs ≡ xs
 map_same [] = refl
 map_same (x ∷ xs) = ap (λ ys. x ∷ ys) (map_same xs)
 
-in_any : (names : List (List ℕ)) (name : List ℕ) → is_in names name ≡ list_any (bytes_eq name) names
+pub in_any : (names : List (List ℕ)) (name : List ℕ) → is_in names name ≡ list_any (bytes_eq name) names
 in_any [] name = refl
 in_any (other ∷ names) name = is_in-cons other names name ∙ ap (λ b. bytes_eq name other || b) (in_any names name)
 
-are_apart : (names : List (List ℕ)) → StandOnce names → AreApart names
+pub are_apart : (names : List (List ℕ)) → StandOnce names → AreApart names
 are_apart [] d = tt
 are_apart (name ∷ names) d = (in_any names name ∙ d.0, are_apart names d.1)
 

@@ -7,7 +7,7 @@ use Rattle.std.specs.List.{AllByRecursion, list_any}
 use Rattle.std.proofs.lemmas.List.{append-nil}
 use Rattle.std.proofs.lemmas.List.Folds.{list_any-append}
 use Rattle.std.proofs.lemmas.Int.{ints}
-use Rattle.std.proofs.lemmas.Bool.{eq-eqb, eqb-true, cond-true, cond-false, leb-true, false_from_ne_true}
+use Rattle.std.proofs.lemmas.Bool.{eq-eqb, eqb-true, cond-true, cond-false, leb-true, false_from_ne_true, and_left, or_from}
 use Rattle.cip_rational.specs.Rational.{zeroℚ, ratio}
 use Rattle.cip_text_rules.specs.Program.{Term}
 use Rattle.cip_text_rules.specs.Lines.{Record}
@@ -21,7 +21,7 @@ use Rattle.cip_text_rules.specs.MpsProgram.{number, number_or_zero, number_at, t
 use Rattle.cip_text_rules.specs.MpsRules.{has_twins, has_coefficient}
 use Rattle.cip_text_rules.specs.MpsOutcome.{no_context, said_in, is_last, mps_records}
 use Rattle.cip_text_rules.specs.MpsStatements.{coefficient_in, NameOnce, AreCoefficients}
-use Rattle.cip_text_rules.proofs.Quiet.{Keeps, left_false, right_false, or_false}
+use Rattle.cip_text_rules.proofs.Quiet.{Keeps, left_false, right_false}
 use Rattle.cip_text_rules.proofs.Outcomes.{invariant}
 use Rattle.cip_text_rules.proofs.MpsNames.{bytes_flip, bytes_same, bytes_other, number_same}
 
@@ -33,12 +33,12 @@ both_flip a b c d e f = rw (e, f)
 once_append : (xs ys : List Coefficient) → NameOnce xs → NameOnce ys → AllByRecursion (λ y. has_coefficient xs y.column y.row ≡ false) ys → NameOnce (xs ++ ys)
 once_append [] ys h k a = k
 once_append (x ∷ xs) ys h k a =
-    (list_any-append (λ entry. bytes_eq x.row entry.row && bytes_eq x.column entry.column) xs ys ∙ or_false _ _ h.0 (behind ys a), once_append xs ys h.1 k (tails ys a))
+    (list_any-append (λ entry. bytes_eq x.row entry.row && bytes_eq x.column entry.column) xs ys ∙ or_from _ _ h.0 (behind ys a), once_append xs ys h.1 k (tails ys a))
   where
     behind : (zs : List Coefficient) → AllByRecursion (λ y. has_coefficient (x ∷ xs) y.column y.row ≡ false) zs → has_coefficient zs x.column x.row ≡ false
     behind [] a = refl
     behind (z ∷ zs) a =
-        or_false _ _
+        or_from _ _
         (both_flip (bytes_eq x.row z.row) (bytes_eq x.column z.column) (bytes_eq z.row x.row) (bytes_eq z.column x.column) (bytes_flip x.row z.row) (bytes_flip x.column z.column)
         ∙ left_false _ _ a.0) (behind zs a.1)
 
@@ -50,17 +50,13 @@ once_append (x ∷ xs) ys h k a =
 abbrev numbers_of : List ℕ → List Value → List Coefficient
 numbers_of column values = map (λ value. record { column = column; row = value.row; number = value.number }) values
 
-not_both : (a b : Bool) → a ≡ false → (a && b) ≡ false
-not_both false b e = refl
-not_both true b e = absurd (cc)
-
 line_once : (column : List ℕ) (values : List Value) → has_twins values ≡ false → NameOnce (numbers_of column values)
 line_once column [] e = tt
 line_once column (v ∷ vs) e = (others vs (left_false _ _ e), line_once column vs (right_false _ _ e))
   where
     others : (ws : List Value) → list_any (λ other. bytes_eq v.row other.row) ws ≡ false → has_coefficient (numbers_of column ws) column v.row ≡ false
     others [] e = refl
-    others (w ∷ ws) e = or_false _ _ (not_both (bytes_eq v.row w.row) (bytes_eq column column) (left_false _ _ e)) (others ws (right_false _ _ e))
+    others (w ∷ ws) e = or_from _ _ (and_left (bytes_eq v.row w.row) (bytes_eq column column) (left_false _ _ e)) (others ws (right_false _ _ e))
 
 line_new : (entries : List Coefficient) (column : List ℕ) (values : List Value) → list_any (λ value. has_coefficient entries column value.row) values ≡ false → AllByRecursion (λ y. has_coefficient entries y.column y.row ≡ false) (numbers_of column values)
 line_new entries column [] e = tt

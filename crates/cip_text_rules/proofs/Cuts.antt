@@ -10,12 +10,12 @@ use Rattle.cip_text_rules.specs.Lines.{is_line_feed, is_blank, is_filled, HasNoL
 -- ---- lines
 
 -- a text has a first piece
-record HasFirst (pieces : List (List ℕ)) : Type 0 where
-  first : List ℕ
-  others : List (List ℕ)
-  are : pieces ≡ first ∷ others
+pub record HasFirst (pieces : List (List ℕ)) : Type 0 where
+  pub first : List ℕ
+  pub others : List (List ℕ)
+  pub are : pieces ≡ first ∷ others
 
-has_first : (test : ℕ → Bool) (text : List ℕ) → HasFirst (slice_split test text)
+pub has_first : (test : ℕ → Bool) (text : List ℕ) → HasFirst (slice_split test text)
 has_first test [] = record { first = []; others = []; are = refl }
 has_first test (byte ∷ bytes) = cut (test byte) (slice_split test bytes)
   where
@@ -27,7 +27,7 @@ has_first test (byte ∷ bytes) = cut (test byte) (slice_split test bytes)
     cut true pieces = record { first = []; others = pieces; are = refl }
     cut false pieces = onto pieces
 
-end_of_more :
+pub end_of_more :
     (piece : List ℕ) (pieces : List (List ℕ)) → HasFirst pieces
     → without_empty_end (piece ∷ pieces) ≡ piece ∷ without_empty_end pieces
 end_of_more piece pieces h = rw (h.are)

@@ -27,7 +27,7 @@ use Rattle.cip_text_rules.proofs.SemiColumns.{choices_formed}
 
 -- ---- the limits
 
-one_more : (b : Bool) (n most : ℕ) → n ≤ most → (b && nat_le most n) ≡ false → cond b (n + 1) n ≤ most
+pub one_more : (b : Bool) (n most : ℕ) → n ≤ most → (b && nat_le most n) ≡ false → cond b (n + 1) n ≤ most
 one_more true n most h e = let k : n < most = leb-false most n e in omega arith
 one_more false n most h e = h
 

@@ -8,7 +8,9 @@ use Rattle.cip_text_rules.specs.MpsFacts.{GivenRow, GivenColumn, Coefficient, Fa
 use Rattle.cip_text_rules.specs.MpsRules.{values_in, numbers_in, has_wide_side}
 use Rattle.cip_text_rules.proofs.Quiet.{Keeps, left_false, right_false}
 use Rattle.cip_text_rules.proofs.Told.{IsTold, AreSound, AreTold, are_told}
-use Rattle.cip_text_rules.proofs.LookUps.{all_append, all_weaker, is_in-left, is_in-push, AreApart, apart_push}
+use Rattle.cip_text_rules.proofs.LookUps.{all_weaker, is_in-left, is_in-push, AreApart, apart_push}
+use Rattle.cip_text_rules.proofs.LineBytes.{all_append}
+use Rattle.cip_text_rules.proofs.BlockLaws.{not_false}
 
 pub record IsKnown (rows columns : List (List ℕ)) (entry : Coefficient) : Type 0 where
   pub row : is_in rows entry.row ≡ true
@@ -76,10 +78,6 @@ columns_apart_with columns (c ∷ others) h = go (is_in (names_of columns) c.nam
     go : (b : Bool) → is_in (names_of columns) c.name ≡ b → AreApart (names_of (cond b columns (columns ++ c ∷ [])))
     go true e = h
     go false e = subst AreApart (sym (column_names_push columns c)) (apart_push (names_of columns) c.name h e)
-
-not_false : (b : Bool) → not b ≡ false → b ≡ true
-not_false true e = refl
-not_false false e = absurd (cc)
 
 values_known : (names : List (List ℕ)) (values : List Value) → list_any (λ value. not (is_in names value.row)) values ≡ false → AllByRecursion (λ value. is_in names value.row ≡ true) values
 values_known names [] e = tt

@@ -4,13 +4,13 @@ mod Good
 mod Owned
 mod PointLaws
 mod PointSame
-mod ProgramSame
+pub mod ProgramSame
 mod ReadLines
 mod Rising
 mod SemiNamed
 mod SemiTried
 mod Sound
-mod SoundState
+pub mod SoundState
 mod Taken
 mod TestsSame
 mod Tried

@@ -94,7 +94,7 @@ at_other r s b bs e c =
       last = ap (λ t. last_line (fold (byte_read r) t bs)) step ∙ c.last ∙ ap (λ text. s.ended + length (lines text)) same;
     }
 
-all_append : {X : Type 0} (P : X → Type 0) (xs ys : List X) → AllByRecursion P xs → AllByRecursion P ys → AllByRecursion P (xs ++ ys)
+pub all_append : {X : Type 0} (P : X → Type 0) (xs ys : List X) → AllByRecursion P xs → AllByRecursion P ys → AllByRecursion P (xs ++ ys)
 all_append P [] ys h k = k
 all_append P (x ∷ xs) ys h k = (h.0, all_append P xs ys h.1 k)
 
@@ -108,7 +108,7 @@ comes_to {K = K} r (b ∷ bs) s h = go (is_line_feed b) refl (λ t k. comes_to r
 
 -- ---- the bytes that are looked at
 
-size_after : {K I X : Type 0} (r : Reading K I X) (s : Stream K) (b : ℕ) → (byte_read r s b).size ≡ s.size + 1
+pub size_after : {K I X : Type 0} (r : Reading K I X) (s : Stream K) (b : ℕ) → (byte_read r s b).size ≡ s.size + 1
 size_after r s b = go (is_line_feed b)
   where
     go : (t : Bool) → (cond t (ended_line r s) (longer_line s b)).size ≡ s.size + 1
@@ -122,12 +122,12 @@ sizes r (b ∷ bs) s = sizes r bs (byte_read r s b) ∙ ap (λ n. n + length bs)
     add_suc : (m n : ℕ) → (m + 1) + n ≡ m + suc n
     add_suc m n = omega arith
 
-full : {K I X : Type 0} (r : Reading K I X) (bytes : List ℕ) (s : Stream K) → longest_text < s.size → fold (stream_with r) s bytes ≡ s
+pub full : {K I X : Type 0} (r : Reading K I X) (bytes : List ℕ) (s : Stream K) → longest_text < s.size → fold (stream_with r) s bytes ≡ s
 full r [] s h = refl
 full r (b ∷ bs) s h =
     ap (λ t. fold (stream_with r) t bs) (cond-false (nat_le s.size longest_text) (byte_read r s b) s (lt-leb s.size longest_text h)) ∙ full r bs s h
 
-looked_at : {K I X : Type 0} (r : Reading K I X) (bytes : List ℕ) (n : ℕ) (s : Stream K) → s.size + n ≡ longest_text + 1 → fold (stream_with r) s bytes ≡ fold (byte_read r) s (take n bytes)
+pub looked_at : {K I X : Type 0} (r : Reading K I X) (bytes : List ℕ) (n : ℕ) (s : Stream K) → s.size + n ≡ longest_text + 1 → fold (stream_with r) s bytes ≡ fold (byte_read r) s (take n bytes)
 looked_at r bytes zero s e = full r bytes s (omega (arith, e)) ∙ ap (fold (byte_read r) s) (sym (nothing bytes))
   where
     nothing : (xs : List ℕ) → take zero xs ≡ []
@@ -143,7 +143,7 @@ looked_at r (b ∷ bs) (suc n) s e =
 
 -- ---- a text
 
-take_all : (n : ℕ) (xs : List ℕ) → length xs ≤ n → take n xs ≡ xs
+pub take_all : (n : ℕ) (xs : List ℕ) → length xs ≤ n → take n xs ≡ xs
 take_all zero [] h = refl
 take_all (suc n) [] h = refl
 take_all zero (x ∷ xs) h = absurd (omega arith)

@@ -9,6 +9,7 @@ use Rattle.cip_text_rules.specs.LineTexts.{Reading, Outcome, Means, Faulty, outc
 use Rattle.cip_text_rules.specs.LineStream.{Progress, Going, Failed, progress_at, line_read, Stream, no_stream, byte_read, stream_with, stream_of, outcome_from, last_line, last_progress, closed, read_outcome, LineFault, fault_in, progress_fault, ended_fault, FaultsOfEndedLines, FaultsStay}
 use Rattle.cip_text_rules.proofs.LineBytes.{text_is_read, read_items, failed_items, ended_line, longer_line}
 use Rattle.cip_text_rules.proofs.LineSame.{StandsFor, same_outcome}
+use Rattle.cip_text_rules.proofs.TakenTexts.{filled_more}
 
 -- ---- the line of a fault
 
@@ -32,7 +33,7 @@ items_of {K = K} r n (item ∷ items) known = go (r.fault known item) (λ k. ite
 line_of : {K I X : Type 0} (r : Reading K I X) (known : K) (n : ℕ) (line : List ℕ) → Line n (line_read r (Going known) n line)
 line_of r known n line = items_of r n (r.items line) known
 
-failed_line : {K I X : Type 0} (r : Reading K I X) (first kind n : ℕ) (line : List ℕ) → line_read r (Failed first kind) n line ≡ Failed first kind
+pub failed_line : {K I X : Type 0} (r : Reading K I X) (first kind n : ℕ) (line : List ℕ) → line_read r (Failed first kind) n line ≡ Failed first kind
 failed_line r first kind n line = failed_items r first kind n (r.items line)
 
 line_up_to : {K : Type 0} (n : ℕ) (p : Progress K) → Line n p → IsUpTo n p
@@ -219,10 +220,6 @@ known_back r s l k e h = go (nat_le s.size longest_text) refl (is_filled s.line)
 
 -- ---- what stays
 
-is_filled-push : (xs : List ℕ) (b : ℕ) → is_filled (xs ++ b ∷ []) ≡ true
-is_filled-push [] b = refl
-is_filled-push (x ∷ xs) b = refl
-
 feed_stays : {K I X : Type 0} (r : Reading K I X) (s : Stream K) → IsRight s → (fault : LineFault) → progress_fault s.progress ≡ Some fault → ended_fault r (ended_line r s) ≡ Some fault
 feed_stays r s t fault e = go (nat_le (s.size + 1) longest_text) refl
   where
@@ -244,7 +241,7 @@ other_stays r s b fault e = go (nat_le (s.size + 1) longest_text) refl
   where
     go : (a : Bool) → nat_le (s.size + 1) longest_text ≡ a → ended_fault r (longer_line s b) ≡ Some fault
     go true p = from_known r (longer_line s b) fault (short p e)
-    go false p = from_known r (longer_line s b) fault (inside p (is_filled-push s.line b) e)
+    go false p = from_known r (longer_line s b) fault (inside p (filled_more s.line b) e)
 
 stays : {K I X : Type 0} (r : Reading K I X) (s : Stream K) (b : ℕ) → IsRight s → (fault : LineFault) → Known r s fault → ended_fault r (stream_with r s b) ≡ Some fault
 stays r s b t fault (short p e) = ap (ended_fault r) (cond-true (nat_le s.size longest_text) (byte_read r s b) s p) ∙ go (is_line_feed b)

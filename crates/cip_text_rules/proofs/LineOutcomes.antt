@@ -179,10 +179,10 @@ some_outcome {X = X} r text = go (outcome_of r text) refl
 never_both : {K I X : Type 0} (r : Reading K I X) (text : List ℕ) (value : X) (line kind : ℕ) → HasResult r text value → ¬ HasFault r text line kind
 never_both r text value line kind h = λ f. let d : Means value ≡ Faulty line kind = sym h.means ∙ f.faulty in cc
 
-one_result : {K I X : Type 0} (r : Reading K I X) (text : List ℕ) (p q : X) → HasResult r text p → HasResult r text q → p ≡ q
+pub one_result : {K I X : Type 0} (r : Reading K I X) (text : List ℕ) (p q : X) → HasResult r text p → HasResult r text q → p ≡ q
 one_result r text p q h k = let d : Means p ≡ Means q = sym h.means ∙ k.means in cc
 
-one_fault : {K I X : Type 0} (r : Reading K I X) (text : List ℕ) (line kind other_line other_kind : ℕ) → HasFault r text line kind → HasFault r text other_line other_kind → (line ≡ other_line) × (kind ≡ other_kind)
+pub one_fault : {K I X : Type 0} (r : Reading K I X) (text : List ℕ) (line kind other_line other_kind : ℕ) → HasFault r text line kind → HasFault r text other_line other_kind → (line ≡ other_line) × (kind ≡ other_kind)
 one_fault {X = X} r text line kind other_line other_kind h k =
     let d : ◌≡◌ {A = Outcome X} (Faulty line kind) (Faulty other_line other_kind) = sym h.faulty ∙ k.faulty in
     let p : line ≡ other_line = cc in

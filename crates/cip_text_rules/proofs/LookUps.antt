@@ -4,20 +4,17 @@ use Rattle.std.specs.Prelude.{is_some, ⊤}
 use Rattle.std.specs.Str.{bytes_eq}
 use Rattle.std.specs.Option.{option_map}
 use Rattle.std.specs.List.{AllByRecursion}
+use Rattle.std.proofs.lemmas.Bool.{or_from}
 use Rattle.cip_text_rules.specs.MpsWords.{next, number_in, is_in}
 use Rattle.cip_text_rules.specs.MpsFacts.{GivenRow, GivenColumn}
 use Rattle.cip_text_rules.specs.MpsBounds.{Bounded, unbounded}
 use Rattle.cip_text_rules.specs.MpsRules.{row_in, column_in}
-use Rattle.cip_text_rules.proofs.Quiet.{left_false, right_false, or_false}
+use Rattle.cip_text_rules.proofs.Quiet.{left_false, right_false}
 use Rattle.cip_text_rules.proofs.MpsNames.{bytes_same, bytes_self, bytes_flip}
 use Rattle.cip_text_rules.specs.MpsState.{RowRead, no_row, item_at}
 use Rattle.cip_text_rules.specs.MpsSteps.{changed}
 
 -- ---- lists
-
-pub all_append : {X : Type 0} (P : X → Type 0) (xs ys : List X) → AllByRecursion P xs → AllByRecursion P ys → AllByRecursion P (xs ++ ys)
-all_append P [] ys h k = k
-all_append P (x ∷ xs) ys h k = (h.0, all_append P xs ys h.1 k)
 
 pub all_weaker : {X : Type 0} (P Q : X → Type 0) → ((x : X) → P x → Q x) → (xs : List X) → AllByRecursion P xs → AllByRecursion Q xs
 all_weaker P Q f [] h = tt
@@ -101,8 +98,8 @@ pub apart_push : (xs : List (List ℕ)) (name : List ℕ) → AreApart xs → is
 apart_push [] name h e = (refl, tt)
 apart_push (x ∷ xs) name h e =
     let other : (bytes_eq name x || is_in xs name) ≡ false = sym (is_in-cons x xs name) ∙ e in
-    let here : is_in (name ∷ []) x ≡ false = is_in-cons name [] x ∙ or_false _ _ (bytes_flip x name ∙ left_false _ _ other) refl in
-    (is_in-append xs (name ∷ []) x ∙ or_false _ _ h.0 here, apart_push xs name h.1 (right_false _ _ other))
+    let here : is_in (name ∷ []) x ≡ false = is_in-cons name [] x ∙ or_from _ _ (bytes_flip x name ∙ left_false _ _ other) refl in
+    (is_in-append xs (name ∷ []) x ∙ or_from _ _ h.0 here, apart_push xs name h.1 (right_false _ _ other))
 
 -- ---- rows
 
@@ -134,7 +131,7 @@ row_in_none (r ∷ rs) name e = go (bytes_eq name r.name) refl e (row_in_none rs
   where
     go : (b : Bool) → bytes_eq name r.name ≡ b → cond b (Some r) (row_in rs name) ≡ None → (row_in rs name ≡ None → is_in (map (λ row. row.name) rs) name ≡ false) → is_in (r.name ∷ map (λ row. row.name) rs) name ≡ false
     go true p e h = absurd (cc)
-    go false p e h = is_in-cons r.name (map (λ row. row.name) rs) name ∙ or_false _ _ p (h e)
+    go false p e h = is_in-cons r.name (map (λ row. row.name) rs) name ∙ or_from _ _ p (h e)
 
 -- ---- columns
 

@@ -18,6 +18,7 @@ use Rattle.cip_text_rules.specs.LpSound.{IsSoundLp}
 use Rattle.cip_text_rules.specs.LpStatements.{number_in_form, amount_value}
 use Rattle.cip_text_rules.proofs.LpEvents.{unbroken}
 use Rattle.cip_text_rules.proofs.LpForms.{all_put, rises_put, terms_below, none_next, own_number, other_number}
+use Rattle.cip_text_rules.proofs.SoundState.{row_limit}
 
 -- ---- columns
 
@@ -92,10 +93,6 @@ same_entries facts name = go (is_in facts.column_names name)
 
 -- ---- forms
 
-entry_room : (b : Bool) (n most : ℕ) → n ≤ most → (not b && nat_le most n) ≡ false → cond b n (n + 1) ≤ most
-entry_room true n most h e = h
-entry_room false n most h e = let k : n < most = leb-false most n e in omega arith
-
 cost_kept : (facts : LpFacts) (amount : Amount) (column : ℕ) → column < length facts.column_names → has_term facts.form column ≡ false → IsSoundLp facts → IsSoundLp (with_cost facts amount column)
 cost_kept facts amount column l e h = record {
   costs = length-set facts.costs column _ ∙ h.costs;
@@ -120,7 +117,7 @@ term_kept facts amount column l e m h = record {
   few_columns = h.few_columns;
   few_rows = h.few_rows;
   room = h.room;
-  few_entries = entry_room amount.zero facts.entries most_entries h.few_entries m;
+  few_entries = row_limit amount.zero facts.entries most_entries h.few_entries m;
   form = all_put (λ t. t.column < length facts.column_names) (form_term column amount) facts.form l h.form;
   rising = rises_put (form_term column amount) facts.form e h.rising;
   rows = h.rows;

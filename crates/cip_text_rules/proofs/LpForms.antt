@@ -3,12 +3,12 @@ use Rattle.std.proofs.Common.{◌≡◌, ℕ, ◌<◌, ◌==◌, Bool, true, fal
 use Rattle.std.specs.Prelude.{nat_lt, All}
 use Rattle.std.specs.List.{list_all}
 use Rattle.std.proofs.lemmas.List.Elements.{All-nil, All-cons, All-head, All-tail}
-use Rattle.std.proofs.lemmas.Bool.{ltb-true, ltb-false, lt-ltb, eqb-true, eqb-false, eq-eqb, ne_eqb, and_parts, and_from}
+use Rattle.std.proofs.lemmas.Bool.{ltb-true, ltb-false, lt-ltb, eqb-true, eqb-false, eq-eqb, ne_eqb, and_parts, and_from, or_from}
 use Rattle.cip_rational.specs.Rational.{ℚ, zeroℚ}
 use Rattle.cip_problem.specs.Activity.{StandsBelow}
 use Rattle.cip_problem.specs.Program.{Term}
 use Rattle.cip_text_rules.specs.MpsStatements.{coefficient_in}
-use Rattle.cip_text_rules.proofs.Quiet.{or_false, left_false, right_false}
+use Rattle.cip_text_rules.proofs.Quiet.{left_false, right_false}
 use Rattle.cip_text_rules.specs.LpFacts.{FormTerm, form_with, has_term, terms_of}
 use Rattle.cip_text_rules.specs.LpSound.{form_rises}
 use Rattle.cip_text_rules.specs.LpStatements.{number_in_form}
@@ -60,9 +60,6 @@ rises_put t (o ∷ os) e h =
         (list_all_put (λ other. nat_lt o.column other.column) t os (lt-ltb o.column t.column (omega (arith, n, m))) a) k
 
 -- ---- numbers
-
-value_at : FormTerm → ℚ
-value_at t = cond t.zero zeroℚ t.value
 
 same_first : (t : FormTerm) (rest : ℚ) → cond (t.column == t.column) (cond t.zero zeroℚ t.value) rest ≡ cond t.zero zeroℚ t.value
 same_first t rest = go (t.column == t.column) (eq-eqb t.column t.column refl)
@@ -129,5 +126,5 @@ pub none_next : (n : ℕ) (form : List FormTerm) → All (λ t. t.column < n) fo
 none_next n [] h = refl
 none_next n (o ∷ os) h =
     let l : o.column < n = All-head (λ (t : FormTerm). t.column < n) o os h in
-    or_false (o.column == n) (has_term os n) (ne_eqb o.column n (λ e. let f : o.column ≡ n = e in absurd (omega arith)))
+    or_from (o.column == n) (has_term os n) (ne_eqb o.column n (λ e. let f : o.column ≡ n = e in absurd (omega arith)))
     (none_next n os (All-tail (λ (t : FormTerm). t.column < n) o os h))

@@ -43,7 +43,7 @@ formed facts h = record {
   choices = λ column. tt;
 }
 
-end_reached : (text : List ℕ) (program : Program) → HasLpProgram text program → IsEndReached is_end lp_tokens text program
+pub end_reached : (text : List ℕ) (program : Program) → HasLpProgram text program → IsEndReached is_end lp_tokens text program
 end_reached text program h = elim (result_found is_end lp_tokens text program h).1 [ inl r ↦ r | inr n ↦ absurd (never n) ]
   where
     never : NeedsNoEnd is_end lp_tokens text program → ⊥

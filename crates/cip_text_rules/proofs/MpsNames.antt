@@ -31,7 +31,7 @@ bytes_flip a b = go (bytes_eq a b) refl
 
 -- ---- numbers
 
-next_some : (o : Option ℕ) (k : ℕ) → next o ≡ Some (suc k) → o ≡ Some k
+pub next_some : (o : Option ℕ) (k : ℕ) → next o ≡ Some (suc k) → o ≡ Some k
 next_some None k e = absurd (cc)
 next_some (Some j) k e = let p : suc j ≡ suc k = cc in let q : j ≡ k = cc in ap Some q
 

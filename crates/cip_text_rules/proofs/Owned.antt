@@ -4,15 +4,17 @@ use Rattle.std.specs.Prelude.{fold, is_some, replicate, nat_lt, All, IfSome}
 use Rattle.std.specs.List.{filter, list_any}
 use Rattle.std.proofs.lemmas.List.{length-set, length-replicate, get_or-set_same, get_or-set_other}
 use Rattle.std.proofs.lemmas.List.Elements.{All-head, All-tail}
-use Rattle.std.proofs.lemmas.Bool.{eq-eqb, eqb-true, false_from_ne_true, or_cases}
+use Rattle.std.proofs.lemmas.Bool.{eq-eqb, eqb-true, false_from_ne_true, or_cases, or_from, or_left, and_from, and_right, or_right}
 use Rattle.cip_problem.specs.Activity.{StandsBelow}
 use Rattle.cip_problem.specs.Program.{Term, Row, Program}
 use Rattle.cip_problem.specs.WellFormed.{columns}
-use Rattle.cip_text_rules.proofs.Quiet.{left_false, right_false, or_false}
+use Rattle.cip_text_rules.proofs.Quiet.{left_false, right_false}
 use Rattle.cip_problem.specs.BlockParts.{numbers_from, has_number, is_block, stands_on, has_entry, is_column_of, blocks_with, is_linking}
-use Rattle.cip_text_rules.proofs.BlockNumbers.{within, within_below, below_within, passes_below, passes_item, chosen, none_of, not_empty, one_number, or_second, both_left, both_right, both, EntryAt, entry_found}
+use Rattle.cip_text_rules.proofs.BlockNumbers.{within, within_below, below_within, passes_below, passes_item, chosen, none_of, not_empty, one_number, EntryAt, entry_found}
 use Rattle.cip_text_rules.specs.BlockOwners.{Owners, no_owners, owner_at, owned_at, entry_owned, row_owned, owners_from, owners_of, OwnersTell}
 use Rattle.cip_text_rules.proofs.BlockLaws.{not_false, not_true, block_is, is_this}
+use Rattle.cip_text_rules.proofs.SemiNamed.{or_none, or_assoc}
+use Rattle.cip_rational.proofs.InRange.{both_left, both_right}
 
 -- ---- what the owners are, by the entries that were met
 
@@ -58,14 +60,6 @@ tells_same n met other owners same t = record {
 
 -- ---- tests
 
-or_left : (a b : Bool) → a ≡ true → (a || b) ≡ true
-or_left true b e = refl
-or_left false b e = absurd (cc)
-
-and_false : (a b : Bool) → b ≡ false → (a && b) ≡ false
-and_false true b e = e
-and_false false b e = refl
-
 -- one entry more
 abbrev met_with : Met → (block column : ℕ) → Met
 met_with met block column b j = met b j || (block == b && column == j)
@@ -74,10 +68,10 @@ met_before : (met : Met) (block column b j : ℕ) → met b j ≡ true → met_w
 met_before met block column b j e = or_left (met b j) (block == b && column == j) e
 
 met_now : (met : Met) (block column : ℕ) → met_with met block column block column ≡ true
-met_now met block column = or_second (met block column) (block == block && column == column) (both (block == block) (column == column) (eq-eqb block block refl) (eq-eqb column column refl))
+met_now met block column = or_right (met block column) (block == block && column == column) (and_from (block == block) (column == column) (eq-eqb block block refl) (eq-eqb column column refl))
 
 met_elsewhere : (met : Met) (block column b j : ℕ) → j ≢ column → met b j ≡ false → met_with met block column b j ≡ false
-met_elsewhere met block column b j n e = or_false (met b j) (block == b && column == j) e (and_false (block == b) (column == j) (false_from_ne_true (column == j) (λ q. n (sym (eqb-true column j q)))))
+met_elsewhere met block column b j n e = or_from (met b j) (block == b && column == j) e (and_right (block == b) (column == j) (false_from_ne_true (column == j) (λ q. n (sym (eqb-true column j q)))))
 
 linked_before : (n : ℕ) (met : Met) (block column : ℕ) → Linked n met → Linked n (met_with met block column)
 linked_before n met block column l = record {
@@ -210,14 +204,6 @@ row_tells n None row met owners s t = tells_same n met (λ b j. met b j || false
     or_nothing false = refl
 row_tells n (Some block) row met owners s t = terms_tell n block row.terms met owners s t
 
-or_same : (a b c : Bool) → ((a || b) || c) ≡ (a || (b || c))
-or_same true b c = refl
-or_same false b c = refl
-
-or_none : (m : Bool) → m ≡ (m || false)
-or_none true = refl
-or_none false = refl
-
 rows_tell : (n : ℕ) (bs : List (Option ℕ)) (rows : List Row) (met : Met) (owners : Owners) → All (λ row. StandsBelow n row.terms) rows → Tells n met owners → Tells n (λ b j. met b j || has_entry b j bs rows) (owners_from owners bs rows)
 rows_tell n [] rows met owners s t = tells_same n met (λ b j. met b j || false) owners (λ b j. or_none (met b j)) t
 rows_tell n (block ∷ bs) [] met owners s t = tells_same n met (λ b j. met b j || false) owners (λ b j. or_none (met b j)) t
@@ -225,7 +211,7 @@ rows_tell n (block ∷ bs) (row ∷ rows) met owners s t =
     tells_same n (λ b j. (met b j || (is_block b block && stands_on j row)) || has_entry b j bs rows)
     (λ b j. met b j || ((is_block b block && stands_on j row) || has_entry b j bs rows))
     (owners_from (row_owned block row owners) bs rows)
-    (λ b j. or_same (met b j) (is_block b block && stands_on j row) (has_entry b j bs rows))
+    (λ b j. or_assoc (met b j) (is_block b block && stands_on j row) (has_entry b j bs rows))
     (rows_tell n bs rows (λ b j. met b j || (is_block b block && stands_on j row)) (row_owned block row owners) (All-tail (λ r. StandsBelow n r.terms) row rows s)
     (row_tells n block row met owners (All-head (λ r. StandsBelow n r.terms) row rows s) t))
 
@@ -258,7 +244,7 @@ block_within program count bs h b j e =
     below_within count b (subst (λ (x : Option ℕ). IfSome x (λ c. c < count)) o (h f.row None l))
 
 among : (program : Program) (count : ℕ) (bs : List (Option ℕ)) → All (λ o. IfSome o (λ b. b < count)) bs → (b j : ℕ) → is_column_of program bs b j ≡ true → has_number (blocks_with program count bs j) b ≡ true
-among program count bs h b j e = chosen (λ block. is_column_of program bs block j) count b ∙ both (within count b) (is_column_of program bs b j) (block_within program count bs h b j e) e
+among program count bs h b j e = chosen (λ block. is_column_of program bs block j) count b ∙ and_from (within count b) (is_column_of program bs b j) (block_within program count bs h b j e) e
 
 -- a test that no two numbers pass chooses one at the most
 none_chosen : (p : ℕ → Bool) (a n : ℕ) → ((k : ℕ) → p (a + k) ≡ false) → length (filter p (numbers_from a n)) ≡ 0
@@ -295,7 +281,7 @@ any_within p n k w e = go (list_any p (numbers_from 0 n)) refl
 
 no_number : (p : ℕ → Bool) (a n : ℕ) → ((k : ℕ) → within n k ≡ true → p (a + k) ≡ false) → list_any p (numbers_from a n) ≡ false
 no_number p a zero h = refl
-no_number p a (suc n) h = or_false (p a) (list_any p (numbers_from (a + 1) n)) (ap p same ∙ h 0 refl) (no_number p (a + 1) n (λ k w. ap p (add_suc a k) ∙ h (suc k) w))
+no_number p a (suc n) h = or_from (p a) (list_any p (numbers_from (a + 1) n)) (ap p same ∙ h 0 refl) (no_number p (a + 1) n (λ k w. ap p (add_suc a k) ∙ h (suc k) w))
   where
     same : a ≡ a + 0
     same = omega arith

@@ -7,8 +7,8 @@ use Rattle.cip_text_rules.specs.LpWords.{LpPart, WordMeaning, OpensPart, OpensWi
 use Rattle.cip_text_rules.specs.LpTokens.{is_comment, line_pieces, Token, Opening, OutsideSection, Reserved, plain_word, token_of, has_colon, opening_unless, tokens_with, front_tokens, tokens_of, tokens_from}
 use Rattle.cip_text_rules.specs.LpParts.{ends_with, is_short, hangs_on, hangs}
 use Rattle.cip_text_rules.specs.LpBytes.{LpBytes, is_cut}
-use Rattle.cip_text_rules.proofs.PieceEnds.{not_false}
 use Rattle.cip_text_rules.proofs.PartedPieces.{comment_rest, stops_comment, ends_stop, parted}
+use Rattle.cip_text_rules.proofs.BlockLaws.{not_true}
 
 -- ---- pieces as tokens
 
@@ -98,5 +98,5 @@ cut_tokens m b more c h = go (is_comment b) (ends_with m.rest b) refl refl h
   where
     go : (s t : Bool) → is_comment b ≡ s → ends_with m.rest b ≡ t → (s || (t && not (m.front && hangs (line_pieces m.rest)))) ≡ true → tokens_from m.front (m.rest ++ b ∷ more) ≡ tokens_from m.front m.rest ++ tokens_from false (b ∷ more)
     go true t e f h = at_comment m.front m.rest b more c e
-    go false true e f h = at_end m.front m.rest b more c f (not_false (m.front && hangs (line_pieces m.rest)) h)
+    go false true e f h = at_end m.front m.rest b more c f (not_true (m.front && hangs (line_pieces m.rest)) h)
     go false false e f h = absurd (cc)

@@ -6,45 +6,30 @@ use Rattle.std.specs.Int.{is_in_range}
 use Rattle.std.specs.List.{prefix_len}
 use Rattle.std.proofs.lemmas.List.{drop-append-le, take-append-le}
 use Rattle.std.proofs.lemmas.List.Sums.{prefix_len-le-length}
-use Rattle.std.proofs.lemmas.Bool.{cond-false, eqb-true, false_from_ne_true}
+use Rattle.std.proofs.lemmas.Bool.{cond-false, eqb-true, false_from_ne_true, or_from}
 use Rattle.cip_rational.specs.Numeral.{is_sign, is_exponent_mark, is_point}
 use Rattle.cip_text_rules.specs.LpWords.{begins_name, is_name_byte, begins_number, digits_length, sign_length, signed_length, exponent_length, decimals_length, mantissa_length, has_digit, number_length, Relation, AtMost, EqualTo, AtLeast, Piece, WordPiece, NumberPiece, SignPiece, ColonPiece, RelationPiece, NoPiece, equal_relation, mark_piece, is_double, number_piece, first_piece, first_rest}
 use Rattle.cip_text_rules.specs.LpParts.{is_relation_mark, joins}
-
--- ---- truth values
-
-pub or_left : (a b : Bool) → (a || b) ≡ false → a ≡ false
-or_left true b h = h
-or_left false b h = refl
-
-pub or_right : (a b : Bool) → (a || b) ≡ false → b ≡ false
-or_right true b h = absurd (cc)
-or_right false b h = h
-
-pub or_none : (a b : Bool) → a ≡ false → b ≡ false → (a || b) ≡ false
-or_none a b h k = λ i. h i || k i
-
-pub not_false : (a : Bool) → not a ≡ true → a ≡ false
-not_false true h = absurd (cc)
-not_false false h = refl
+use Rattle.cip_text_rules.proofs.BlockLaws.{not_true}
+use Rattle.cip_text_rules.proofs.Quiet.{left_false, right_false}
 
 -- ---- bytes
 
 -- a byte that no name goes on with
 pub no_digit : (b : ℕ) → is_name_byte b ≡ false → is_ascii_digit b ≡ false
 no_digit b h =
-    or_left (is_in_range 48 57 b) (is_in_range 65 90 b)
-    (or_left (is_in_range 48 57 b || is_in_range 65 90 b) (is_in_range 97 122 b)
-    (or_left (is_ascii_alphanumeric b) (b == 95 || (b == 46 || (b == 35 || b == 36))) h))
+    left_false (is_in_range 48 57 b) (is_in_range 65 90 b)
+    (left_false (is_in_range 48 57 b || is_in_range 65 90 b) (is_in_range 97 122 b)
+    (left_false (is_ascii_alphanumeric b) (b == 95 || (b == 46 || (b == 35 || b == 36))) h))
 
 pub no_point : (b : ℕ) → is_name_byte b ≡ false → is_point b ≡ false
-no_point b h = or_left (b == 46) (b == 35 || b == 36) (or_right (b == 95) (b == 46 || (b == 35 || b == 36)) (or_right (is_ascii_alphanumeric b) (b == 95 || (b == 46 || (b == 35 || b == 36))) h))
+no_point b h = left_false (b == 46) (b == 35 || b == 36) (right_false (b == 95) (b == 46 || (b == 35 || b == 36)) (right_false (is_ascii_alphanumeric b) (b == 95 || (b == 46 || (b == 35 || b == 36))) h))
 
 other_than : (b c : ℕ) → is_name_byte b ≡ false → is_name_byte c ≡ true → (b == c) ≡ false
 other_than b c h k = false_from_ne_true (b == c) (λ e. let t : is_name_byte b ≡ is_name_byte c = ap is_name_byte (eqb-true b c e) in absurd (cc (h, t, k)))
 
 pub no_mark : (b : ℕ) → is_name_byte b ≡ false → is_exponent_mark b ≡ false
-no_mark b h = or_none (b == 101) (b == 69) (other_than b 101 h refl) (other_than b 69 h refl)
+no_mark b h = or_from (b == 101) (b == 69) (other_than b 101 h refl) (other_than b 69 h refl)
 
 -- the last of these bytes, if there is one, doesn't go on with this one
 abbrev pub stops : List ℕ → ℕ → Bool
@@ -67,14 +52,14 @@ abbrev joins_mark : ℕ → ℕ → Bool
 joins_mark x b = (is_exponent_mark x && is_sign b) || (is_relation_mark x && is_relation_mark b)
 
 pub no_name : (x : ℕ) (xs : List ℕ) (b : ℕ) → stops (x ∷ xs) b ≡ true → is_name_byte b ≡ false
-no_name x [] b h = or_left (is_name_byte b) (joins_mark x b) (not_false (joins x b) h)
+no_name x [] b h = left_false (is_name_byte b) (joins_mark x b) (not_true (joins x b) h)
 no_name x (y ∷ ys) b h = no_name y ys b h
 
 no_exponent_sign : (x b : ℕ) → stops (x ∷ []) b ≡ true → (is_exponent_mark x && is_sign b) ≡ false
-no_exponent_sign x b h = or_left (is_exponent_mark x && is_sign b) (is_relation_mark x && is_relation_mark b) (or_right (is_name_byte b) (joins_mark x b) (not_false (joins x b) h))
+no_exponent_sign x b h = left_false (is_exponent_mark x && is_sign b) (is_relation_mark x && is_relation_mark b) (right_false (is_name_byte b) (joins_mark x b) (not_true (joins x b) h))
 
 no_relation : (x b : ℕ) → stops (x ∷ []) b ≡ true → (is_relation_mark x && is_relation_mark b) ≡ false
-no_relation x b h = or_right (is_exponent_mark x && is_sign b) (is_relation_mark x && is_relation_mark b) (or_right (is_name_byte b) (joins_mark x b) (not_false (joins x b) h))
+no_relation x b h = right_false (is_exponent_mark x && is_sign b) (is_relation_mark x && is_relation_mark b) (right_false (is_name_byte b) (joins_mark x b) (not_true (joins x b) h))
 
 -- ---- numbers
 
@@ -194,13 +179,13 @@ number_stop xs b ys h k =
 
 -- neither of `<`, `=` and `>`
 not_less : (x : ℕ) → is_relation_mark x ≡ false → (x == 60) ≡ false
-not_less x h = or_left (x == 60) (x == 61 || x == 62) h
+not_less x h = left_false (x == 60) (x == 61 || x == 62) h
 
 not_equal : (x : ℕ) → is_relation_mark x ≡ false → (x == 61) ≡ false
-not_equal x h = or_left (x == 61) (x == 62) (or_right (x == 60) (x == 61 || x == 62) h)
+not_equal x h = left_false (x == 61) (x == 62) (right_false (x == 60) (x == 61 || x == 62) h)
 
 not_more : (x : ℕ) → is_relation_mark x ≡ false → (x == 62) ≡ false
-not_more x h = or_right (x == 61) (x == 62) (or_right (x == 60) (x == 61 || x == 62) h)
+not_more x h = right_false (x == 61) (x == 62) (right_false (x == 60) (x == 61 || x == 62) h)
 
 -- one of two bytes is none of these
 one_of : (x b : ℕ) → (is_relation_mark x && is_relation_mark b) ≡ false → (is_relation_mark x ≡ false) ⊎ (is_relation_mark b ≡ false)

@@ -5,18 +5,20 @@ use Rattle.std.specs.List.{AllByRecursion, AllZip, list_any}
 use Rattle.std.specs.Str.{bytes_eq}
 use Rattle.std.proofs.lemmas.List.{append-nil, append_assoc}
 use Rattle.std.proofs.lemmas.List.Folds.{list_any-append}
+use Rattle.std.proofs.lemmas.Bool.{or_from}
 use Rattle.cip_rational.specs.Rational.{ℚ, zeroℚ}
 use Rattle.cip_problem.specs.Program.{Program}
 use Rattle.cip_rational.specs.Numeral.{Numeral, value_of}
 use Rattle.cip_text_rules.specs.MpsWords.{is_in}
 use Rattle.cip_text_rules.specs.MpsProgram.{number_or_zero}
-use Rattle.cip_text_rules.proofs.Quiet.{kept, left_false, right_false, or_false}
+use Rattle.cip_text_rules.proofs.Quiet.{kept, left_false, right_false}
 use Rattle.cip_text_rules.proofs.MpsNames.{bytes_same, bytes_self}
 use Rattle.cip_text_rules.specs.LineTexts.{Numbered, items_in, HasResult}
 use Rattle.cip_text_rules.specs.LineStatements.{AreQuiet, known_after, known_of, IsDescribed}
 use Rattle.cip_text_rules.proofs.LineOutcomes.{described}
 use Rattle.cip_text_rules.specs.PointRules.{PointLine, BadLine, ValueLine, Given, given_in, is_given, number_given, point_rules, lacks_column, point_given, point_reading}
 use Rattle.cip_text_rules.specs.PointStatements.{given_by, IsGivenOnce, IsPointOf}
+use Rattle.cip_text_rules.proofs.BlockLaws.{not_false}
 
 -- ---- what is known are the lines
 
@@ -35,10 +37,6 @@ abbrev pub AreNew : Program → List Given → List Given → Type 0
 AreNew program before [] = ⊤
 AreNew program before (g ∷ others) =
     ((is_in program.column_names g.column ≡ true) × ((is_given before g.column ≡ false) × (is_none (value_of g.number) ≡ false))) × AreNew program (before ++ g ∷ []) others
-
-not_false : (b : Bool) → not b ≡ false → b ≡ true
-not_false true e = refl
-not_false false e = absurd (cc)
 
 are_new : (program : Program) (items : List (Numbered PointLine)) (given : List Given) → AreQuiet (point_reading program) given items → AreNew program given (given_of items)
 are_new program [] given q = tt
@@ -62,7 +60,7 @@ not_before name before g = list_any-append (λ x. bytes_eq name x.column) before
 not_again : (program : Program) (name : List ℕ) (before rest : List Given) → is_given before name ≡ true → AreNew program before rest → is_given rest name ≡ false
 not_again program name before [] h n = refl
 not_again program name before (g ∷ rest) h n =
-    or_false (bytes_eq name g.column) (is_given rest name) (other (bytes_eq name g.column) refl)
+    or_from (bytes_eq name g.column) (is_given rest name) (other (bytes_eq name g.column) refl)
     (not_again program name (before ++ g ∷ []) rest (not_before name before g ∙ ap (λ b. b || (bytes_eq name g.column || false)) h) n.1)
   where
     other : (b : Bool) → bytes_eq name g.column ≡ b → bytes_eq name g.column ≡ false
@@ -120,7 +118,7 @@ given_once (g ∷ rest) name o e = go (bytes_eq name g.column) refl e (given_onc
           number = r.number;
           after = r.after;
           are_given = ap (λ x. g ∷ x) r.are_given;
-          none_before = or_false (bytes_eq name g.column) (is_given r.before name) p r.none_before;
+          none_before = or_from (bytes_eq name g.column) (is_given r.before name) p r.none_before;
           none_after = r.none_after;
           is_value = r.is_value;
         }

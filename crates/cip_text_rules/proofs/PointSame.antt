@@ -18,6 +18,8 @@ use Rattle.cip_text_rules.proofs.LineSame.{StandsFor}
 use Rattle.cip_problem.specs.NamesOnce.{StandOnce}
 use Rattle.cip_text_rules.specs.PointRules.{PointLine, BadLine, ValueLine, Given, given_in, is_given, number_given, point_rules, point_fault, point_reading}
 use Rattle.cip_text_rules.specs.PointSteps.{no_values, value_held, point_tests, put_value, values_with, point_steps}
+use Rattle.cip_text_rules.proofs.BlockLaws.{all_push}
+use Rattle.cip_text_rules.proofs.BlockSame.{map_same, are_apart}
 
 -- ---- values
 
@@ -81,18 +83,6 @@ put_changed : (values : List (Option ℚ)) (o : Option ℕ) (value : Option ℚ)
 put_changed values None value = refl
 put_changed values (Some k) value = refl
 
-map_same : {X : Type 0} (xs : List X) → map (λ x. x) xs ≡ xs
-map_same [] = refl
-map_same (x ∷ xs) = ap (λ ys. x ∷ ys) (map_same xs)
-
-in_any : (names : List (List ℕ)) (name : List ℕ) → is_in names name ≡ list_any (bytes_eq name) names
-in_any [] name = refl
-in_any (other ∷ names) name = is_in-cons other names name ∙ ap (λ b. bytes_eq name other || b) (in_any names name)
-
-are_apart : (names : List (List ℕ)) → StandOnce names → AreApart names
-are_apart [] d = tt
-are_apart (name ∷ names) d = (in_any names name ∙ d.0, are_apart names d.1)
-
 given_last : (given : List Given) (g : Given) → is_given given g.column ≡ false → number_given (given ++ g ∷ []) g.column ≡ Some g.number
 given_last [] g e = ap (λ b. cond b (Some g.number) None) (bytes_self g.column)
 given_last (x ∷ xs) g e = go (bytes_eq g.column x.column) e (given_last xs g)
@@ -104,10 +94,6 @@ given_last (x ∷ xs) g e = go (bytes_eq g.column x.column) e (given_last xs g)
 given_other : (given : List Given) (g : Given) (name : List ℕ) → bytes_eq name g.column ≡ false → number_given (given ++ g ∷ []) name ≡ number_given given name
 given_other [] g name e = ap (λ b. cond b (Some g.number) None) e
 given_other (x ∷ xs) g name e = ap (cond (bytes_eq name x.column) (Some x.number)) (given_other xs g name e)
-
-all_push : {X : Type 0} (P : X → Type 0) (xs : List X) (x : X) → AllByRecursion P xs → P x → AllByRecursion P (xs ++ x ∷ [])
-all_push P [] x h e = (e, tt)
-all_push P (y ∷ ys) x h e = (h.0, all_push P ys x h.1 e)
 
 put_is : (program : Program) (given : List Given) (column : List ℕ) (number : Numeral) → StandOnce program.column_names → is_given given column ≡ false → put_value (map (held_for given) program.column_names) (number_in program.column_names column) (value_of number) ≡ map (held_for (given ++ record { column = column; number = number } ∷ [])) program.column_names
 put_is program given column number d e =

@@ -25,7 +25,7 @@ use Rattle.cip_text_rules.proofs.TestsSame.{number_or_zero_is, moves_low_is, tol
 
 -- ---- terms
 
-terms_from-append : (xs ys : List Held) → terms_from (xs ++ ys) ≡ terms_from xs ++ terms_from ys
+pub terms_from-append : (xs ys : List Held) → terms_from (xs ++ ys) ≡ terms_from xs ++ terms_from ys
 terms_from-append [] ys = refl
 terms_from-append (x ∷ xs) ys =
     ap (λ ts. cond (is_zero_value x.value) [] (record { column = x.column; coefficient = x.value } ∷ []) ++ ts) (terms_from-append xs ys)

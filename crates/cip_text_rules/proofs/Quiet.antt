@@ -2,20 +2,16 @@
 use Rattle.std.proofs.Common.{◌≡◌, ℕ, ◌≤◌, ◌==◌, Bool, true, false, ◌&&◌, ◌||◌, cond, List, [], ◌∷◌, length, None, Some, refl, subst, eq-eqb}
 use Rattle.std.specs.Prelude.{nat_le}
 use Rattle.std.specs.List.{AllByRecursion, list_any}
-use Rattle.std.proofs.lemmas.Bool.{leb-true}
+use Rattle.std.proofs.lemmas.Bool.{leb-true, or_left, and_from, or_right}
 use Rattle.std.proofs.Math.Nat.{le_trans, le_refl}
 use Rattle.cip_text_rules.specs.MpsSayings.{Saying}
 use Rattle.cip_text_rules.specs.MpsFacts.{Facts, row_names, column_names}
 use Rattle.cip_text_rules.specs.MpsProgram.{constraints}
 use Rattle.cip_text_rules.specs.MpsRules.{Rule, least, rules, fault_of, is_unknown_section, is_out_of_order, lacks_section, is_miscounted, numbers_in, has_huge_value, has_wide_side, names_unknown_row, names_unknown_column, repeats_row, repeats_value, splits_column, has_bad_row_type, has_bad_bound_type, is_bad_marker, lacks_objective, is_too_many, has_long_name, ranges_free_row, is_out_of_profile, kinds_of, entry_count}
 use Rattle.cip_text_rules.specs.MpsWords.{is_no_number, is_too_fine}
+use Rattle.cip_rational.proofs.InRange.{both_left, both_right}
 
 -- ---- tests
-
-pub or_false : (a b : Bool) → a ≡ false → b ≡ false → (a || b) ≡ false
-or_false false false e d = refl
-or_false false true e d = absurd (cc)
-or_false true b e d = absurd (cc)
 
 pub left_false : (a b : Bool) → (a || b) ≡ false → a ≡ false
 left_false false b e = refl
@@ -36,20 +32,6 @@ kept (r ∷ rs) e = go r.broken refl e (kept rs)
     go true p q h = absurd (cc)
     go false p q h = (p, h q)
 
--- the first kind is that of a broken rule
-both_true : (a b : Bool) → a ≡ true → b ≡ true → (a && b) ≡ true
-both_true true true e d = refl
-both_true true false e d = d
-both_true false b e d = e
-
-or_left : (a b : Bool) → a ≡ true → (a || b) ≡ true
-or_left true b e = refl
-or_left false b e = absurd (cc)
-
-or_right : (a b : Bool) → b ≡ true → (a || b) ≡ true
-or_right true b e = refl
-or_right false b e = e
-
 pub least_broken : (rs : List Rule) (k : ℕ) → least rs ≡ Some k → list_any (λ r. r.kind == k && r.broken) rs ≡ true
 least_broken [] k e = absurd (cc)
 least_broken (r ∷ rs) k e = go r.broken refl e (least_broken rs k)
@@ -57,21 +39,13 @@ least_broken (r ∷ rs) k e = go r.broken refl e (least_broken rs k)
     go : (b : Bool) → r.broken ≡ b → cond b (Some r.kind) (least rs) ≡ Some k → (least rs ≡ Some k → list_any (λ x. x.kind == k && x.broken) rs ≡ true) → list_any (λ x. x.kind == k && x.broken) (r ∷ rs) ≡ true
     go true p q h =
         let same : r.kind ≡ k = cc in
-        or_left (r.kind == k && r.broken) _ (both_true (r.kind == k) r.broken (eq-eqb r.kind k same) p)
+        or_left (r.kind == k && r.broken) _ (and_from (r.kind == k) r.broken (eq-eqb r.kind k same) p)
     go false p q h = or_right (r.kind == k && r.broken) _ (h q)
 
 -- the kinds of rules rise, from this one on
 abbrev pub rising : ℕ → List Rule → Bool
 rising low [] = true
 rising low (r ∷ rs) = nat_le low r.kind && rising r.kind rs
-
-both_left : (a b : Bool) → (a && b) ≡ true → a ≡ true
-both_left true b e = refl
-both_left false b e = e
-
-both_right : (a b : Bool) → (a && b) ≡ true → b ≡ true
-both_right true b e = e
-both_right false b e = absurd (cc)
 
 above : (low : ℕ) (rs : List Rule) → rising low rs ≡ true → AllByRecursion (λ r. r.broken ≡ true → low ≤ r.kind) rs
 above low [] e = tt

@@ -24,7 +24,8 @@ use Rattle.cip_text_rules.proofs.Coefficients.{once_with}
 use Rattle.cip_text_rules.proofs.MpsNames.{bytes_same, same_bytes, number_below, number_same}
 use Rattle.cip_text_rules.specs.MpsState.{is_zero_value}
 use Rattle.cip_text_rules.proofs.Told.{IsTold, is_zero_is, zero_is_zero, said_sound}
-use Rattle.cip_text_rules.proofs.LookUps.{all_append, number_in-left, number_in-push}
+use Rattle.cip_text_rules.proofs.LookUps.{number_in-left, number_in-push}
+use Rattle.cip_text_rules.proofs.LineBytes.{all_append}
 use Rattle.cip_text_rules.proofs.Good.{Good, IsKnown, good_first, good_with, column_names_push}
 
 -- ---- numbers of columns that don't fall

@@ -9,14 +9,11 @@ use Rattle.cip_text_rules.specs.Box.{sides_at}
 use Rattle.cip_text_rules.specs.Choices.{choice_at, open_sides}
 use Rattle.cip_text_rules.specs.WellFormed.{IsChoice}
 use Rattle.cip_text_rules.specs.MpsBounds.{Bounded, own_sides, is_from_zero, are_semi_sides, is_semi, column_sides, choice_of, choices_of}
+use Rattle.cip_text_rules.proofs.BlockLaws.{not_true}
 
 from_zero : (o : Option ℚ) → is_from_zero o ≡ true → IsSomeAnd o (λ side. zeroℚ ≤ℚ side)
 from_zero None e = absurd (cc)
 from_zero (Some side) e = le_of_test e
-
-not_whole : (b : Bool) → not b ≡ true → b ≡ false
-not_whole false e = refl
-not_whole true e = absurd (cc)
 
 choice_formed : (b : Bounded) → IsChoice (choice_of b) (Some b.whole) (column_sides b)
 choice_formed b = go (is_semi b) refl
@@ -28,7 +25,7 @@ choice_formed b = go (is_semi b) refl
         let kind = and_parts b.semi (not b.whole) parts.0 in
         let sides = and_parts (is_some b.high) (is_from_zero b.low) parts.1 in
         record {
-          continuous = ap Some (not_whole b.whole kind.1);
+          continuous = ap Some (not_true b.whole kind.1);
           low = from_zero b.low sides.1;
           high = sides.0;
           open_ = refl;

@@ -3,7 +3,7 @@ use Rattle.std.proofs.Common.{◌≡◌, ◌⊎◌, inl, inr, ℕ, zero, suc, Bo
 use Rattle.std.specs.List.{AllByRecursion, list_any}
 use Rattle.std.specs.Option.{option_map}
 use Rattle.std.specs.Str.{bytes_eq}
-use Rattle.std.proofs.lemmas.Bool.{cond-true, cond-false}
+use Rattle.std.proofs.lemmas.Bool.{cond-true, cond-false, and_left, or_from, and_right}
 use Rattle.std.proofs.lemmas.List.{append-nil}
 use Rattle.std.proofs.lemmas.List.Sums.{fold-append}
 use Rattle.cip_rational.specs.Rational.{zeroℚ, oneℚ}
@@ -19,13 +19,14 @@ use Rattle.cip_text_rules.specs.MpsProgram.{program_of}
 use Rattle.cip_text_rules.specs.MpsRules.{is_end, column_in, is_mixed_by}
 use Rattle.cip_text_rules.specs.MpsOutcome.{no_context, said_in, mps_records}
 use Rattle.cip_text_rules.specs.MpsStatements.{is_semi_kind, has_semi_record, AreNamedSemi, SemisAreNamed}
-use Rattle.cip_text_rules.proofs.Quiet.{Keeps, keeps, or_false, left_false, right_false}
+use Rattle.cip_text_rules.proofs.Quiet.{Keeps, keeps, left_false, right_false}
 use Rattle.cip_text_rules.proofs.Outcomes.{invariant}
 use Rattle.cip_text_rules.proofs.MpsNames.{bytes_same, other_bytes}
+use Rattle.cip_text_rules.proofs.BlockLaws.{not_false}
 
 -- ---- tests
 
-or_none : (t : Bool) → t ≡ (t || false)
+pub or_none : (t : Bool) → t ≡ (t || false)
 or_none true = refl
 or_none false = refl
 
@@ -33,21 +34,9 @@ or_all : (t : Bool) → true ≡ (t || true)
 or_all true = refl
 or_all false = refl
 
-or_assoc : (a b c : Bool) → ((a || b) || c) ≡ (a || (b || c))
+pub or_assoc : (a b c : Bool) → ((a || b) || c) ≡ (a || (b || c))
 or_assoc true b c = refl
 or_assoc false b c = refl
-
-first_false : (a b : Bool) → a ≡ false → (a && b) ≡ false
-first_false false b e = refl
-first_false true b e = absurd (cc)
-
-second_false : (a b : Bool) → b ≡ false → (a && b) ≡ false
-second_false false b e = refl
-second_false true b e = e
-
-held : (t : Bool) → not t ≡ false → t ≡ true
-held true e = refl
-held false e = absurd (cc)
 
 -- ---- an SC record makes the column semi-continuous, and no record takes that back
 
@@ -131,7 +120,7 @@ record AreApart (facts : Facts) : Type 0 where
 no_record : (names : List (List ℕ)) (xs : List GivenBound) (name : List ℕ) → is_in names name ≡ false → AllByRecursion (λ bound. is_in names bound.column ≡ true) xs → has_semi_record xs name ≡ false
 no_record names [] name e a = refl
 no_record names (x ∷ xs) name e a =
-    or_false _ _ (first_false (bytes_eq name x.column) _ (other_bytes name x.column other)) (no_record names xs name e a.1)
+    or_from _ _ (and_left (bytes_eq name x.column) _ (other_bytes name x.column other)) (no_record names xs name e a.1)
   where
     other : ¬ (name ≡ x.column)
     other p = let q : is_in names name ≡ true = subst (λ (n : List ℕ). is_in names n ≡ true) (sym p) a.0 in cc
@@ -153,7 +142,7 @@ known_with facts (ColumnLine column whole values) k h =
     go true = h.known
     go false = all_more facts.columns (record { name = column; whole = whole }) facts.bounds h.known
 known_with facts (BoundLine kind set_name column value) k h =
-    all_push (column_names facts) facts.bounds (record { kind = kind; column = column; value = value }) h.known (held (is_in (column_names facts) column) k.known_column)
+    all_push (column_names facts) facts.bounds (record { kind = kind; column = column; value = value }) h.known (not_false (is_in (column_names facts) column) k.known_column)
 known_with facts other k h =
     subst (λ xs. AllByRecursion (λ bound. is_in (column_names facts) bound.column ≡ true) xs) (sym (append-nil facts.bounds)) h.known
 
@@ -165,7 +154,7 @@ apart_with facts (ColumnLine column whole values) k h name c e =
     new = record { name = column; whole = whole }
 
     fresh : is_in (names_of facts.columns) column ≡ false → is_mixed (so_far facts.bounds new) ≡ false
-    fresh p = second_false (so_far facts.bounds new).whole (so_far facts.bounds new).semi (so_far_semi facts.bounds new ∙ no_record (names_of facts.columns) facts.bounds column p h.known)
+    fresh p = and_right (so_far facts.bounds new).whole (so_far facts.bounds new).semi (so_far_semi facts.bounds new ∙ no_record (names_of facts.columns) facts.bounds column p h.known)
 
     go : (t : Bool) → is_in (names_of facts.columns) column ≡ t → column_in (cond t facts.columns (facts.columns ++ new ∷ [])) name ≡ Some c → is_mixed (so_far facts.bounds c) ≡ false
     go true p d = h.apart name c d

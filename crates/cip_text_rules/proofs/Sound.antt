@@ -13,10 +13,10 @@ use Rattle.cip_text_rules.specs.MpsRules.{least}
 use Rattle.cip_text_rules.proofs.Quiet.{kept}
 use Rattle.cip_text_rules.specs.BlockWords.{Keyword, Presolved, BlockCount, Block, Master, WordPlace, KeywordDue, ZeroDue, CountDue, BlockDue, NamesOf, WordSaying, Opens, OutOfPlace, Zero, Count, Number, RowName, keywords, meaning_said, word_said, number_word, from_zero}
 use Rattle.cip_problem.specs.BlockParts.{most_blocks}
-use Rattle.cip_text_rules.proofs.BlockNumbers.{both_right}
 use Rattle.cip_text_rules.specs.BlockSteps.{RowPlace, Unnamed, place_of, block_at, BlockState, no_state, is_taken, block_tests, begin_block, put_row, state_with}
 use Rattle.cip_text_rules.specs.BlockStepStatements.{IsSoundBlockState}
 use Rattle.cip_text_rules.proofs.BlockLaws.{not_false}
+use Rattle.cip_rational.proofs.InRange.{both_right}
 
 -- the block of a row is among so many
 abbrev IsBelow : ℕ → RowPlace → Type 0

@@ -5,7 +5,7 @@ use Rattle.std.specs.Str.{bytes_eq}
 use Rattle.std.specs.List.{AllByRecursion, list_all, list_any}
 use Rattle.std.proofs.lemmas.List.{length-append, length-set, get_or-set_other}
 use Rattle.std.proofs.lemmas.List.Folds.{list_all-append}
-use Rattle.std.proofs.lemmas.Bool.{and_from, and_parts, lt-ltb, ltb-true, ltb-false, leb-false, eq-eqb}
+use Rattle.std.proofs.lemmas.Bool.{and_from, and_parts, lt-ltb, ltb-true, ltb-false, eq-eqb}
 use Rattle.cip_rational.specs.Rational.{ℚ}
 use Rattle.cip_problem.specs.Limits.{most_rows, most_columns, most_entries}
 use Rattle.cip_text_rules.specs.MpsWords.{number_in, is_in}
@@ -20,26 +20,27 @@ use Rattle.cip_text_rules.specs.MpsState.{Held, RowRead, State, no_row, item_at,
 use Rattle.cip_text_rules.specs.MpsSteps.{changed, holds, tests, with_held, with_right_side, with_range, put_values, new_row, with_name, number_or_next, taken}
 use Rattle.cip_text_rules.specs.MpsSoundState.{held_below, rises, is_sound_row, IsSoundState}
 use Rattle.cip_text_rules.proofs.LookUps.{number_none, number_some}
+use Rattle.cip_text_rules.proofs.Few.{one_more}
 
 -- ---- tests of all
 
-all_set : {X : Type 0} (p : X → Bool) (xs : List X) (k : ℕ) (v : X) → list_all p xs ≡ true → p v ≡ true → list_all p (slice_set xs k v) ≡ true
+pub all_set : {X : Type 0} (p : X → Bool) (xs : List X) (k : ℕ) (v : X) → list_all p xs ≡ true → p v ≡ true → list_all p (slice_set xs k v) ≡ true
 all_set p [] k v h e = refl
 all_set p (x ∷ xs) zero v h e = and_from (p v) (list_all p xs) e (and_parts (p x) (list_all p xs) h).1
 all_set p (x ∷ xs) (suc k) v h e =
     let a = and_parts (p x) (list_all p xs) h in
     and_from (p x) (list_all p (slice_set xs k v)) a.0 (all_set p xs k v a.1 e)
 
-all_at : {X : Type 0} (p : X → Bool) (xs : List X) (k : ℕ) (d : X) → list_all p xs ≡ true → p d ≡ true → p (slice_index_or xs k d) ≡ true
+pub all_at : {X : Type 0} (p : X → Bool) (xs : List X) (k : ℕ) (d : X) → list_all p xs ≡ true → p d ≡ true → p (slice_index_or xs k d) ≡ true
 all_at p [] k d h e = e
 all_at p (x ∷ xs) zero d h e = (and_parts (p x) (list_all p xs) h).0
 all_at p (x ∷ xs) (suc k) d h e = all_at p xs k d (and_parts (p x) (list_all p xs) h).1 e
 
-all_more : {X : Type 0} (p q : X → Bool) → ((x : X) → p x ≡ true → q x ≡ true) → (xs : List X) → list_all p xs ≡ true → list_all q xs ≡ true
+pub all_more : {X : Type 0} (p q : X → Bool) → ((x : X) → p x ≡ true → q x ≡ true) → (xs : List X) → list_all p xs ≡ true → list_all q xs ≡ true
 all_more p q f [] h = refl
 all_more p q f (x ∷ xs) h = let a = and_parts (p x) (list_all p xs) h in and_from (q x) (list_all q xs) (f x a.0) (all_more p q f xs a.1)
 
-all_push : {X : Type 0} (p : X → Bool) (xs : List X) (v : X) → list_all p xs ≡ true → p v ≡ true → list_all p (xs ++ v ∷ []) ≡ true
+pub all_push : {X : Type 0} (p : X → Bool) (xs : List X) (v : X) → list_all p xs ≡ true → p v ≡ true → list_all p (xs ++ v ∷ []) ≡ true
 all_push p xs v h e = list_all-append p xs (v ∷ []) ∙ and_from (list_all p xs) (p v && true) h (and_from (p v) true e refl)
 
 changed_all : {X : Type 0} (d : X) (p : X → Bool) (xs : List X) (o : Option ℕ) (f : X → X) → p d ≡ true → ((x : X) → p x ≡ true → p (f x) ≡ true) → list_all p xs ≡ true → list_all p (changed d xs o f) ≡ true
@@ -110,7 +111,7 @@ put_held n k names rows (v ∷ vs) l t a h = go (number_in names v.row) refl (λ
 -- ---- the rows of a line of COLUMNS are open
 
 -- the last column that a row may have, and hasn't
-below_last : (n c : ℕ) (held : List Held) → n ≤ c + 1 → held_below n held ≡ true → list_any (λ h. h.column == c) held ≡ false → held_below c held ≡ true
+pub below_last : (n c : ℕ) (held : List Held) → n ≤ c + 1 → held_below n held ≡ true → list_any (λ h. h.column == c) held ≡ false → held_below c held ≡ true
 below_last n c [] l b e = refl
 below_last n c (h ∷ hs) l b e =
     let a = and_parts (nat_lt h.column n) (held_below n hs) b in
@@ -162,17 +163,13 @@ more_columns m n l row s =
 none_added : (n : ℕ) → n + 0 ≡ n
 none_added n = omega arith
 
-at_most : (b : Bool) (n most : ℕ) → n ≤ most → (b && nat_le most n) ≡ false → cond b (n + 1) n ≤ most
-at_most true n most h e = let k : n < most = leb-false most n e in omega (arith, k)
-at_most false n most h e = h
-
-row_limit : (b : Bool) (n most : ℕ) → n ≤ most → (not b && nat_le most n) ≡ false → cond b n (n + 1) ≤ most
+pub row_limit : (b : Bool) (n most : ℕ) → n ≤ most → (not b && nat_le most n) ≡ false → cond b n (n + 1) ≤ most
 row_limit true n most h e = h
-row_limit false n most h e = at_most true n most h e
+row_limit false n most h e = one_more true n most h e
 
 column_limit : (b : Bool) (names : List (List ℕ)) (name : List ℕ) (most : ℕ) → length names ≤ most → (not b && nat_le most (length names)) ≡ false → length (cond b names (names ++ name ∷ [])) ≤ most
 column_limit true names name most h e = h
-column_limit false names name most h e = let l = length-append names (name ∷ []) in let k = at_most true (length names) most h e in omega (arith, l, k)
+column_limit false names name most h e = let l = length-append names (name ∷ []) in let k = one_more true (length names) most h e in omega (arith, l, k)
 
 column_lengths : (b : Bool) (names : List (List ℕ)) (columns : List Bounded) (name : List ℕ) (whole : Bool) → length columns ≡ length names → length (cond b columns (columns ++ unbounded whole ∷ [])) ≡ length (cond b names (names ++ name ∷ []))
 column_lengths true names columns name whole e = e

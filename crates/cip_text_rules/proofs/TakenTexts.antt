@@ -5,7 +5,7 @@ use Rattle.std.specs.List.{list_any}
 use Rattle.std.proofs.lemmas.List.{append-nil, append_assoc}
 use Rattle.std.proofs.lemmas.List.Sums.{fold-append}
 use Rattle.std.proofs.lemmas.List.Folds.{list_any-append}
-use Rattle.std.proofs.lemmas.Bool.{cond-true, cond-false, le-leb, lt-leb, le-ltb, ltb-true, ltb-false, eqb-true, eq-eqb, false_from_ne_true}
+use Rattle.std.proofs.lemmas.Bool.{cond-true, cond-false, le-leb, lt-leb, le-ltb, ltb-true, ltb-false, eqb-true, eq-eqb, false_from_ne_true, or_from}
 use Rattle.cip_problem.specs.Limits.{longest_text}
 use Rattle.cip_problem.specs.Program.{Program}
 use Rattle.cip_text_rules.specs.Lines.{is_line_feed, is_filled}
@@ -16,9 +16,9 @@ use Rattle.cip_text_rules.specs.LpTokens.{Token, is_comment, line_pieces, token_
 use Rattle.cip_text_rules.specs.LpOutcome.{LpContext, lp_reading}
 use Rattle.cip_text_rules.specs.LpParts.{ends_with, hangs}
 use Rattle.cip_text_rules.specs.LpBytes.{tokens_read, LpBytes, part_read, behind, in_comment, is_cut, byte_put, feed_put, beyond, last_put, byte_taken, first_bytes, text_taken}
-use Rattle.cip_text_rules.proofs.PieceEnds.{or_left, or_none}
 use Rattle.cip_text_rules.proofs.PartedPieces.{comment_rest}
 use Rattle.cip_text_rules.proofs.PartedTokens.{cut_tokens}
+use Rattle.cip_text_rules.proofs.Quiet.{left_false}
 
 -- ---- tokens behind a fault
 
@@ -94,7 +94,7 @@ feed_line s = record { progress = line_read lp_reading s.progress (s.ended + 1) 
 abbrev longer_line : Stream (Stage LpContext) → ℕ → Stream (Stage LpContext)
 longer_line s b = record { progress = s.progress; ended = s.ended; line = s.line ++ b ∷ []; size = s.size + 1 }
 
-filled_more : (line : List ℕ) (b : ℕ) → is_filled (line ++ b ∷ []) ≡ true
+pub filled_more : (line : List ℕ) (b : ℕ) → is_filled (line ++ b ∷ []) ≡ true
 filled_more [] b = refl
 filled_more (x ∷ line) b = refl
 
@@ -245,7 +245,7 @@ cut_stands m s b few h c cut = go (part_read m) reads (on_line (m.ended + 1) m.s
       size = ap (λ (n : ℕ). n + 1) h.size;
       few = omega (arith, few);
       filled = filled_more s.line b;
-      clean = λ f. or_none (is_comment b) false f refl;
+      clean = λ f. or_from (is_comment b) false f refl;
       reads = e;
     }
     go (Failed line kind) e o = λ k bytes. final bytes (longer_line s b) line kind k (inr (record {
@@ -260,7 +260,7 @@ longer_stands m s b few h c cut = record {
   size = ap (λ (n : ℕ). n + 1) h.size;
   few = omega (arith, few);
   filled = filled_more s.line b ∙ sym (filled_more m.rest b);
-  clean = λ e. list_any-append is_comment m.rest (b ∷ []) ∙ or_none (list_any is_comment m.rest) (list_any is_comment (b ∷ [])) (h.clean c) (or_none (is_comment b) false (or_left (is_comment b) (ends_with m.rest b && not (m.front && hangs (line_pieces m.rest))) cut) refl);
+  clean = λ e. list_any-append is_comment m.rest (b ∷ []) ∙ or_from (list_any is_comment m.rest) (list_any is_comment (b ∷ [])) (h.clean c) (or_from (is_comment b) false (left_false (is_comment b) (ends_with m.rest b && not (m.front && hangs (line_pieces m.rest))) cut) refl);
   reads = λ more. longer_reads m s b h more ∙ ap (λ (bytes : List ℕ). tokens_read (m.ended + 1) (Going m.stage) (tokens_from m.front bytes)) (sym (append_assoc m.rest (b ∷ []) more));
 }
 

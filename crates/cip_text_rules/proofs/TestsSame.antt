@@ -6,7 +6,7 @@ use Rattle.std.specs.Option.{option_map}
 use Rattle.std.specs.List.{AllByRecursion, list_any}
 use Rattle.std.proofs.lemmas.List.{append-nil}
 use Rattle.std.proofs.lemmas.List.Folds.{list_any-append}
-use Rattle.std.proofs.lemmas.Bool.{eq-eqb, eqb-true}
+use Rattle.std.proofs.lemmas.Bool.{eq-eqb, eqb-true, or_from}
 use Rattle.cip_rational.specs.Rational.{ℚ, zeroℚ, absolute}
 use Rattle.cip_rational.specs.Range.{sum_overflows, difference_overflows}
 use Rattle.cip_rational.specs.Numeral.{Numeral}
@@ -17,12 +17,13 @@ use Rattle.cip_text_rules.specs.MpsFacts.{GivenRow, Coefficient, Facts, row_name
 use Rattle.cip_text_rules.specs.MpsBounds.{bounds_so_far, settled, lacks_sides}
 use Rattle.cip_text_rules.specs.MpsProgram.{number, number_or_zero, first_value, right_side, moves_low, unsigned, is_free}
 use Rattle.cip_text_rules.specs.MpsRules.{Rule, rule, least, rules, fault_of, row_in, side_overflows, row_overflows, has_wide_row, has_wide_side, has_huge_value, has_twins, has_coefficient, has_value_for, repeats_value, ranges_free_row, is_free_row, lacks_objective, values_in, is_no_bound, is_mixed_by, is_out_of_profile}
-use Rattle.cip_text_rules.proofs.Quiet.{left_false, right_false, or_false}
+use Rattle.cip_text_rules.proofs.Quiet.{left_false, right_false}
 use Rattle.cip_text_rules.proofs.MpsNames.{same_bytes, other_bytes, number_same}
 use Rattle.cip_text_rules.specs.MpsState.{held_on, held_of, value_for, row_read, state_of, row_at, moves_low_side}
 use Rattle.cip_text_rules.specs.MpsSteps.{or_else, moved_overflows, overflows_with, has_wide_side_now, holds, has_right_side, has_range, repeats_value_now, is_free_at, ranges_free_row_now, is_out_of_profile_now, tests}
 use Rattle.cip_text_rules.proofs.Told.{IsTold, AreSound, told_sound, told_near, is_negative_is, absolute_is}
-use Rattle.cip_text_rules.proofs.LookUps.{all_append, all_weaker, none_number, row_by_number, column_by_number, row_in_name, row_in_none}
+use Rattle.cip_text_rules.proofs.LookUps.{all_weaker, none_number, row_by_number, column_by_number, row_in_name, row_in_none}
+use Rattle.cip_text_rules.proofs.LineBytes.{all_append}
 use Rattle.cip_text_rules.proofs.Good.{Good, IsKnown}
 
 -- ---- lists of rules
@@ -150,7 +151,7 @@ six_is place facts now g s = go (has_huge_value now) refl
 unknown_row : (rows columns : List (List ℕ)) (entries : List Coefficient) (column row : List ℕ) → AllByRecursion (IsKnown rows columns) entries → is_in rows row ≡ false → has_coefficient entries column row ≡ false
 unknown_row rows columns [] column row h e = refl
 unknown_row rows columns (x ∷ xs) column row h e =
-    or_false _ _ (not_both (bytes_eq row x.row) (bytes_eq column x.column) (other_bytes row x.row (λ p. let q : is_in rows row ≡ true = ap (is_in rows) p ∙ h.0.row in cc)))
+    or_from _ _ (not_both (bytes_eq row x.row) (bytes_eq column x.column) (other_bytes row x.row (λ p. let q : is_in rows row ≡ true = ap (is_in rows) p ∙ h.0.row in cc)))
     (unknown_row rows columns xs column row h.1 e)
   where
     not_both : (a b : Bool) → a ≡ false → (a && b) ≡ false
@@ -160,7 +161,7 @@ unknown_row rows columns (x ∷ xs) column row h e =
 unknown_column : (rows columns : List (List ℕ)) (entries : List Coefficient) (column row : List ℕ) → AllByRecursion (IsKnown rows columns) entries → is_in columns column ≡ false → has_coefficient entries column row ≡ false
 unknown_column rows columns [] column row h e = refl
 unknown_column rows columns (x ∷ xs) column row h e =
-    or_false _ _ (not_both (bytes_eq row x.row) (bytes_eq column x.column) (other_bytes column x.column (λ p. let q : is_in columns column ≡ true = ap (is_in columns) p ∙ h.0.column in cc)))
+    or_from _ _ (not_both (bytes_eq row x.row) (bytes_eq column x.column) (other_bytes column x.column (λ p. let q : is_in columns column ≡ true = ap (is_in columns) p ∙ h.0.column in cc)))
     (unknown_column rows columns xs column row h.1 e)
   where
     not_both : (a b : Bool) → b ≡ false → (a && b) ≡ false
@@ -216,7 +217,7 @@ holds_is place facts column row g = ap (holds (number_in (column_names facts) co
 
 unknown_value : (rows : List (List ℕ)) (values : List Value) (row : List ℕ) → AllByRecursion (λ value. is_in rows value.row ≡ true) values → is_in rows row ≡ false → has_value_for values row ≡ false
 unknown_value rows [] row h e = refl
-unknown_value rows (v ∷ vs) row h e = or_false _ _ (other_bytes row v.row (λ p. let q : is_in rows row ≡ true = ap (is_in rows) p ∙ h.0 in cc)) (unknown_value rows vs row h.1 e)
+unknown_value rows (v ∷ vs) row h e = or_from _ _ (other_bytes row v.row (λ p. let q : is_in rows row ≡ true = ap (is_in rows) p ∙ h.0 in cc)) (unknown_value rows vs row h.1 e)
 
 value_is : (values : List Value) (row : List ℕ) → is_some (value_for values row) ≡ has_value_for values row
 value_is [] row = refl

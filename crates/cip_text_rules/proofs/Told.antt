@@ -11,13 +11,14 @@ use Rattle.std.proofs.lemmas.Int.{ints}
 use Rattle.std.proofs.lemmas.Bool.{cond_both, leb-true, leb-false, false_from_ne_true}
 use Rattle.cip_text_rules.specs.MpsStepStatements.{is_far_value, is_positive_value}
 use Rattle.cip_rational.specs.Rational.{ℚ, zeroℚ, ratio, lt_test, absolute, ◌≤ℚ◌, ◌<ℚ◌, integer, le_test}
-use Rattle.cip_rational.proofs.Rational.Ratio.{ratio_same, integer_ratio, ratio-negate, ratio-lt, ratio-le, le-ratio}
+use Rattle.cip_rational.proofs.Rational.Ratio.{integer_ratio, ratio-negate, ratio-lt, ratio-le, le-ratio}
 use Rattle.cip_rational.proofs.Rational.Order.{≤ℚ_refl, ≤ℚ_of_lt, test_of_lt, lt_test_of_le, test_of_le, le_of_test}
 use Rattle.cip_rational.proofs.Rational.Extremes.{absolute_nonneg, absolute_negative}
 use Rattle.cip_rational.proofs.Rational.Rounding.{integer-zero}
 use Rattle.cip_rational.specs.Numeral.{Numeral, numeral_of, Exact, NotANumber, Huge, TooFine, signed, value_of}
 use Rattle.cip_rational.specs.NumeralStatements.{IsInRange}
 use Rattle.cip_rational.proofs.InRange.{IsSound, sound_numeral}
+use Rattle.cip_rational.proofs.Rational.Inverse.{ratio_zero}
 use Rattle.cip_text_rules.specs.Lines.{Record, Section, Entry}
 use Rattle.cip_text_rules.specs.MpsWords.{Part, NoPart, Title, Sense, Rows, Columns, RightSides, Ranges, Bounds, End, BoundKind, section_of, marker_of, bound_kind_of, has_value, bound_number, is_zero, is_negative, is_positive, is_no_number, is_huge, is_too_fine, near_or_huge}
 use Rattle.cip_text_rules.specs.MpsSayings.{Value, Saying, Skipped, Misplaced, ColumnLine, RightSideLine, RangeLine, BoundLine, no_value, LinePlace, opening, section_said, sense_said, row_said, one_value, two_values, is_marker, marker_said, column_said, of_set, right_side_said, range_said, valued_bound, plain_bound, typed_bound, bound_said, fields_said, said}
@@ -30,9 +31,6 @@ use Rattle.cip_text_rules.specs.MpsState.{is_negative_value, is_zero_value}
 
 zero_over_one : ratio (pos 0) 1 ≡ zeroℚ
 zero_over_one = integer_ratio (pos 0) ∙ integer-zero
-
-ratio_zero : (d : ℕ) → 0 < d → ratio (pos 0) d ≡ zeroℚ
-ratio_zero d h = ratio_same (pos 0) (pos 0) d 1 h (lit< tt) (omega (arith, ints)) ∙ zero_over_one
 
 below_zero : (m b : ℕ) → 0 < b → ratio (negsuc m) b <ℚ zeroℚ
 below_zero m b h = subst (λ (x : ℚ). ratio (negsuc m) b <ℚ x) zero_over_one (ratio-lt (pos 0) (negsuc m) 1 b (lit< tt) h (lt m b h))

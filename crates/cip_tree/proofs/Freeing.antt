@@ -34,15 +34,6 @@ All-right P (x ∷ xs) ys h = All-right P xs ys (λ k d l. h (suc k) d (omega (a
 
 -- ---- one after another
 
--- where none is let go, all is as it was
-pub none_released : (slots : Slots) → AreReleased slots slots []
-none_released slots = record {
-  live = λ place slot d e f. e;
-  left = λ place slot e. (All-nil (λ node. node.place ≢ place), (slot.below, e));
-  waiting = omega arith;
-  others = λ test a b. refl;
-}
-
 pub one_released : (old new : Slots) (node : OpenNode) → IsReleased old new node.place → AreSoundSlots new → StandsAs Open old node → AreReleased old new (node ∷ [])
 one_released old new node r kept stands = record {
   live = λ place slot d e f. r.live place slot (λ same. d 0 node (omega arith) (sym same)) e f;

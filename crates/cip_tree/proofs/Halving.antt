@@ -103,7 +103,7 @@ module _ (integral : List Bool) (node : Node) (column : ℕ) (at : ℤ) (wholes 
 alike : (a b : ℕ) → a ≡ b → (a == b) ≡ true
 alike a b e = grind arith
 
-unlike : (a b : ℕ) → a ≢ b → (a == b) ≡ false
+pub unlike : (a b : ℕ) → a ≢ b → (a == b) ≡ false
 unlike a b d = grind arith
 
 -- the choice of a column after a change, which may be of another one

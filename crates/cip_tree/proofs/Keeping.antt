@@ -8,6 +8,7 @@ use Rattle.std.proofs.lemmas.List.Sums.{sum_by-cons, get_or-le-sum_by}
 use Rattle.cip_tree.specs.declared.kept.Stage.TheVariants.{Ended}
 use Rattle.cip_tree.specs.Origins.{Origin}
 use Rattle.cip_tree.specs.Slots.{Slot, Slots, slot_at, origin_is, comes_from, HasParent, IsKeptBut, IsUsed, IsIdle, IsUnused, IsLowered, IsReleased}
+use Rattle.cip_tree.proofs.Halving.{unlike}
 
 -- ---- sums over lists that differ at one place
 
@@ -61,16 +62,10 @@ none_or_slot (Some slot) = inr (slot, refl)
 pub same_slot : (slots : Slots) (place : ℕ) (a b : Slot) → slot_at slots place ≡ Some a → slot_at slots place ≡ Some b → a ≡ b
 same_slot slots place a b e f = same_Some a b (sym e ∙ f)
 
-eq_test : (n : ℕ) → (n == n) ≡ true
+pub eq_test : (n : ℕ) → (n == n) ≡ true
 eq_test n = elim (eqb_tells n n) [
   | inl k ↦ k.0
   | inr k ↦ absurd (k.1 refl)
-]
-
-differ_test : (m n : ℕ) → m ≢ n → (m == n) ≡ false
-differ_test m n d = elim (eqb_tells m n) [
-  | inl k ↦ absurd (d k.1)
-  | inr k ↦ k.0
 ]
 
 -- where a node is given by a split, that node has one below it
@@ -215,7 +210,7 @@ module _ (old new : Slots) (q : ℕ) (slot : Slot) (kept : IsKeptBut (Some q) ol
         let c = kept.counts k (record s { below = w.0 }) w.1 in
         elim w.3 [
           | inl p ↦ omega (arith, c, p.1, child_counts k, ap one_if (ap (λ x. x == k) (sym p.0) ∙ eq_test k))
-          | inr p ↦ omega (arith, c, p.1, child_counts k, ap one_if (differ_test origin.parent k (λ z. p.0 (sym z))))
+          | inr p ↦ omega (arith, c, p.1, child_counts k, ap one_if (unlike origin.parent k (λ z. p.0 (sym z))))
         ]
 
     -- the parent has none left where its count says so

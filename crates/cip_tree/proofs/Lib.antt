@@ -1,5 +1,4 @@
 pub mod Closing
-pub mod Entering
 pub mod Filled
 pub mod Freeing
 pub mod Halving

@@ -3,7 +3,7 @@ use Rattle.cip_tree.specs.declared.notes.Note.{Note}
 use Rattle.cip_tree.specs.Notes.{noted}
 use Rattle.cip_domain.specs.Changes.{Region}
 use Rattle.cip_tree.specs.Nodes.{node_in}
-use Rattle.std.proofs.Common.{◌≡◌, ◌≢◌, ◌⊎◌, inl, inr, ℕ, ◌+◌, ◌-◌, ◌<◌, ◌≤◌, ◌==◌, Bool, true, false, List, [], ◌∷◌, ◌++◌, count_by, get_or, set, Option, None, Some, IfSome, All, refl, sym, ap, ◌∙◌, subst, arith}
+use Rattle.std.proofs.Common.{◌≡◌, ◌≢◌, ◌⊎◌, inl, inr, ℕ, ◌+◌, ◌-◌, ◌<◌, ◌≤◌, ◌==◌, Bool, false, List, [], ◌∷◌, ◌++◌, count_by, get_or, set, Option, None, Some, IfSome, All, refl, sym, ap, ◌∙◌, subst, arith}
 use Rattle.std.specs.List.Sorted.{IsPermutation}
 use Rattle.std.proofs.lemmas.Bool.{cases_eq}
 use Rattle.std.proofs.lemmas.Option.{none-some, same_Some}
@@ -22,16 +22,11 @@ use Rattle.cip_tree.specs.declared.queue.OpenNode.{OpenNode}
 use Rattle.cip_tree.specs.Nodes.{Base}
 use Rattle.cip_tree.specs.Slots.{Slot, Slots, slot_at, open_slot, origin_is, comes_from, above, slot_changes, changes_at, HasParent, AreSoundSlots, IsParted}
 use Rattle.cip_tree.specs.Inside.{node_at, nodes_at, base_of, bases, is_waiting, is_taken, is_aside, has_stage, StandsAs, IsInOrder}
-use Rattle.cip_tree.proofs.Keeping.{one_if, count_changed, sum_same, none_or_slot, same_slot, slot_within}
+use Rattle.cip_tree.proofs.Keeping.{one_if, count_changed, sum_same, none_or_slot, same_slot, slot_within, eq_test}
 use Rattle.cip_tree.proofs.Paths.{KeepsPaths, same_above, same_base, bases_at, IsInWork, in_work, nodes_same, stage_apart, stand_still, changes_still, added_apart}
 use Rattle.cip_tree.proofs.Orders.{taken_not_ended, taken_not_open, taken_not_parked, live_is_idle}
 use Rattle.cip_tree.proofs.Links.{first_above, up_of_kept}
-
-test_itself : (n : ℕ) → (n == n) ≡ true
-test_itself n = grind arith
-
-test_apart : (m n : ℕ) → m ≢ n → (m == n) ≡ false
-test_apart m n d = grind arith
+use Rattle.cip_tree.proofs.Halving.{unlike}
 
 module _ (region : Region) (old new : Slots) (n : ℕ) (notes : List Note) (lp hp : ℕ) (cl ch : Change) (q p : List OpenNode) (ids work : ℕ) (base : Base) (o : IsInOrder old q p ids work) (w : get_or (bases old) n None ≡ Some base) where
   abbrev low_slot : Slot
@@ -131,7 +126,7 @@ module _ (region : Region) (old new : Slots) (n : ℕ) (notes : List Note) (lp h
       where
         by_origin : (s : Slot) (x : Option Origin) → IfSome x (HasParent old s) → origin_is k x ≡ false
         by_origin s None up = refl
-        by_origin s (Some x) up = test_apart x.parent k (λ same. none-some up.parent (sym e ∙ ap (slot_at old) (sym same) ∙ up.found))
+        by_origin s (Some x) up = unlike x.parent k (λ same. none-some up.parent (sym e ∙ ap (slot_at old) (sym same) ∙ up.found))
 
         none_at : (j : ℕ) → one_if (comes_from k (slot_at old j)) ≡ 0
         none_at j = elim (none_or_slot (slot_at old j)) [
@@ -170,11 +165,11 @@ module _ (region : Region) (old new : Slots) (n : ℕ) (notes : List Note) (lp h
       ];
       counts = λ k s e. elim (split_now k s e) [
         | inl b ↦ elim b.4 [
-          | inl m ↦ omega (arith, m.1, child_counts k, ap (λ j. count_by (comes_from j) old) m.0, none_here, ap one_if (ap (λ j. n == j) m.0 ∙ test_itself n))
-          | inr m ↦ omega (arith, ap (λ (t : Slot). t.below) m.1, o.kept.counts k b.0 b.1, child_counts k, ap one_if (test_apart n k (λ x. m.0 (sym x))))
+          | inl m ↦ omega (arith, m.1, child_counts k, ap (λ j. count_by (comes_from j) old) m.0, none_here, ap one_if (ap (λ j. n == j) m.0 ∙ eq_test n))
+          | inr m ↦ omega (arith, ap (λ (t : Slot). t.below) m.1, o.kept.counts k b.0 b.1, child_counts k, ap one_if (unlike n k (λ x. m.0 (sym x))))
         ]
-        | inr (inl l) ↦ omega (arith, ap (λ (t : Slot). t.below) l.1, child_counts k, ap (λ j. count_by (comes_from j) old) l.0, none_from lp h.low_new, ap one_if (test_apart n k (λ x. low_apart (sym (x ∙ l.0)))))
-        | inr (inr r) ↦ omega (arith, ap (λ (t : Slot). t.below) r.1, child_counts k, ap (λ j. count_by (comes_from j) old) r.0, none_from hp h.high_new, ap one_if (test_apart n k (λ x. high_apart (sym (x ∙ r.0)))))
+        | inr (inl l) ↦ omega (arith, ap (λ (t : Slot). t.below) l.1, child_counts k, ap (λ j. count_by (comes_from j) old) l.0, none_from lp h.low_new, ap one_if (unlike n k (λ x. low_apart (sym (x ∙ l.0)))))
+        | inr (inr r) ↦ omega (arith, ap (λ (t : Slot). t.below) r.1, child_counts k, ap (λ j. count_by (comes_from j) old) r.0, none_from hp h.high_new, ap one_if (unlike n k (λ x. high_apart (sym (x ∙ r.0)))))
       ];
       apart = λ j k s t e f g. part_apart j k s t (split_now j s e) (split_now k t f) g;
       used = λ k s e f i. elim (split_now k s e) [

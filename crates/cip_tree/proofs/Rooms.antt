@@ -37,9 +37,6 @@ room_closed nodes work spare parked_spare capacity len after longer r some a b =
 pub room_second : (work spare left : ℕ) → 1 ≤ work → work + 1 ≤ spare → spare ≤ left + 1 → 0 < left
 room_second work spare left some a b = omega (arith, some, a, b)
 
-pub room_entry : (nodes work capacity len : ℕ) → nodes + work + 2 ≤ capacity - len → len < capacity
-room_entry nodes work capacity len a = omega (arith, a)
-
 pub room_split : (nodes more most work spare left rest parked_spare capacity len after longer : ℕ) → 1 ≤ work → more ≡ suc nodes → most ≡ suc more → work + 1 ≤ spare → spare ≤ left + 1 → left ≤ rest + 1 → nodes + work + 1 ≤ parked_spare → nodes + work + 2 ≤ capacity - len → longer ≡ len + 1 → after ≡ capacity → HasRoom most (work - 1) rest parked_spare (after - longer)
 room_split nodes more most work spare left rest parked_spare capacity len after longer some one two a b d parked log e f = record {
   queue = omega (arith, some, a, b, d);

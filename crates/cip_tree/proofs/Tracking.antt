@@ -29,7 +29,7 @@ use Rattle.cip_tree.proofs.Orders.{released_keeps}
 use Rattle.cip_tree.proofs.Freeing.{Anywhere, freed_keeps}
 use Rattle.cip_tree.proofs.Parted as parted
 use Rattle.cip_tree.proofs.Within.{within_itself, within_low, within_high, low_choices, high_choices, split_within, in_wider}
-use Rattle.cip_tree.proofs.Entering.{node_of_kept, node_of_new, node_of_here, node_of_later, given_more, follow_more, taken_more, taken_given, node_of_number}
+use Rattle.cip_problem.proofs.Log.Entering.{node_of_kept, node_of_new, node_of_here, node_of_later, given_more, follow_more, taken_more, taken_given, node_of_number}
 
 -- ---- the first log
 

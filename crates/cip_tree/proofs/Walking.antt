@@ -3,7 +3,7 @@ use Rattle.std.proofs.Common.{◌≡◌, ◌⊎◌, inl, inr, ℕ, zero, suc, �
 use Rattle.std.specs.Prelude.{Result, Ok, Err, IsErr, IfOk}
 use Rattle.std.proofs.lemmas.Bool.{cases_lt}
 use Rattle.std.proofs.lemmas.Option.{none-some, same_Some, slice_get-get_or}
-use Rattle.std.proofs.lemmas.List.{map-append, reverse-append, take_more, take-append-drop, length-take, get_or-take, length_push, get_or_append_left, get_or_default, get_or_push}
+use Rattle.std.proofs.lemmas.List.{map-append, reverse-append, take_more, take-append-drop, length-take, get_or-take, length_push, get_or_append_left, get_or_push}
 use Rattle.std.proofs.lemmas.List.Elements.{All-push, All-take}
 use Rattle.cip_rational.specs.Rational.{ℚ}
 use Rattle.cip_problem.specs.Box.{IsInBox}
@@ -13,7 +13,7 @@ use Rattle.cip_domain.specs.declared.stores.Tightened.{Tightened}
 use Rattle.cip_domain.specs.declared.stores.Tightened.TheVariants.{Yes, Same, Empty}
 use Rattle.cip_domain.specs.Domain.{Domain, region_of, region_at, KeepsMarks, after_tightening}
 use Rattle.cip_domain.specs.Narrowing.{ArePlainPast, IsNarrowed}
-use Rattle.cip_domain.proofs.Marks.{keeps_itself}
+use Rattle.cip_domain.proofs.Marks.{keeps_itself, one_more}
 use Rattle.cip_tree.specs.declared.notes.Note.{Note}
 use Rattle.cip_tree.specs.Origins.{Origin}
 use Rattle.cip_tree.specs.declared.walks.Stop.{Stop}
@@ -117,12 +117,6 @@ walked_kept root slots ids old new e first same w = record {
     there = λ place slot f g. same k d l ∙ s.there place slot f g;
   });
 }
-
--- where a side is tightened the marks so far stand still
-one_more : (before : List Region) (region new : Region) (mark : ℕ) → mark ≤ length before → get_or ((before ++ region ∷ []) ++ new ∷ []) mark new ≡ get_or (before ++ region ∷ []) mark region
-one_more before region new mark l =
-    let within : mark < length (before ++ region ∷ []) = omega (arith, l, length_push before region) in
-    get_or_append_left (before ++ region ∷ []) (new ∷ []) new mark within ∙ get_or_default (before ++ region ∷ []) mark new region within
 
 pub tightening_keeps : (answer : Tightened) (old new : Domain) (column : ℕ) (side : Side) (value : ℚ) → new ≡ after_tightening answer old column side value → KeepsMarks old new
 tightening_keeps Yes old new column side value e = subst (KeepsMarks old) (sym e) (record {

@@ -6,12 +6,12 @@ use Rattle.cip_rational.specs.Rational.{ℚ, integer, ◌≤ℚ◌, IsWhole}
 use Rattle.cip_problem.specs.Program.{Sides, Choice, Plain, Open, Off, On}
 use Rattle.cip_problem.specs.Box.{sides_at, IsInBox}
 use Rattle.cip_problem.specs.Activity.{value_at}
-use Rattle.cip_problem.specs.Choices.{choice_at, Allows, met, zero_sides}
+use Rattle.cip_problem.specs.Choices.{choice_at, met, zero_sides}
 use Rattle.cip_problem.specs.Wholes.{AllHaveWholes}
 use Rattle.cip_problem.specs.Log.{Node, low_half, high_half, low_of, high_of, low_node, high_node, CanSplitAt, CanSplit}
-use Rattle.cip_problem.proofs.Log.Halves.{below_or_above}
-use Rattle.cip_problem.proofs.Points.AtPlaces.{in_box_at}
-use Rattle.cip_problem.proofs.Choices.Meeting.{between_both, between_met, zero_between, set_in_box}
+use Rattle.cip_problem.proofs.Log.Halves.{below_or_above, open_halves_cover}
+use Rattle.cip_problem.proofs.Choices.Meeting.{between_both, between_met}
+use Rattle.cip_problem.proofs.Log.SameHalves.{high_choices_of, low_choices_of}
 use Rattle.cip_domain.specs.Changes.{Region, Change, tightened, narrowed}
 use Rattle.cip_domain.proofs.Boxes.{narrowed-append}
 use Rattle.cip_tree.specs.declared.notes.Note.{Note}
@@ -82,11 +82,6 @@ pub within_later : (region : Region) (outer : List Sides) (changes more : List C
 within_later region outer changes more h =
     within_trans _ (narrowed region more).box outer (subst (λ (r : Region). IsWithin r.box (narrowed region more).box) (sym (narrowed-append region changes more)) (within_changes (narrowed region more) changes)) h
 
--- changes that notes make, in whatever order, make no choice
-quiet_map : (region : Region) (notes : List Note) → (narrowed region (map noted_change notes)).choices ≡ region.choices
-quiet_map region [] = refl
-quiet_map region (n ∷ ns) = set-get_or (narrowed region (map noted_change ns)).choices n.col Plain ∙ quiet_map region ns
-
 quiet_reverse : (region : Region) (notes : List Note) → (narrowed region (noted notes)).choices ≡ region.choices
 quiet_reverse region [] = refl
 quiet_reverse region (n ∷ ns) =
@@ -136,18 +131,6 @@ high_within_of (Open own) node outer column at h = met_within_at node.box outer.
 high_within_of Off node outer column at h = high_half_within node.box outer.box column at h
 high_within_of On node outer column at h = high_half_within node.box outer.box column at h
 
-low_choices_of : (choice : Choice) (node outer : Node) (column : ℕ) (at : ℤ) → node.choices ≡ outer.choices → (low_of choice node column at).choices ≡ (low_of choice outer column at).choices
-low_choices_of Plain node outer column at e = e
-low_choices_of (Open own) node outer column at e = ap (λ t. set t column Off) e
-low_choices_of Off node outer column at e = e
-low_choices_of On node outer column at e = e
-
-high_choices_of : (choice : Choice) (node outer : Node) (column : ℕ) (at : ℤ) → node.choices ≡ outer.choices → (high_of choice node column at).choices ≡ (high_of choice outer column at).choices
-high_choices_of Plain node outer column at e = e
-high_choices_of (Open own) node outer column at e = ap (λ t. set t column On) e
-high_choices_of Off node outer column at e = e
-high_choices_of On node outer column at e = e
-
 wholes_within : (integral : List Bool) (box outer : List Sides) → IsWithin box outer → AllHaveWholes integral box → AllHaveWholes integral outer
 wholes_within [] [] [] h k = k
 wholes_within [] [] (t ∷ ts) h k = absurd h
@@ -196,15 +179,9 @@ in_halves (s ∷ ss) (suc column) at (v ∷ vs) h w = elim (in_halves ss column 
   | inr l ↦ inr (h.0, l)
 ]
 
-in_choices : (node : Node) (column : ℕ) (own : Sides) (at : ℤ) (point : List ℚ) → IsInBox node.box point → Allows (Open own) (value_at point column) → IsInBox (low_of (Open own) node column at).box point ⊎ IsInBox (high_of (Open own) node column at).box point
-in_choices node column own at point h (inl e) =
-    inl (set_in_box node.box column _ point h (between_met (sides_at node.box column) zero_sides (value_at point column) (in_box_at node.box point column h) (zero_between (value_at point column) e)))
-in_choices node column own at point h (inr k) =
-    inr (set_in_box node.box column _ point h (between_met (sides_at node.box column) own (value_at point column) (in_box_at node.box point column h) k))
-
 hold_of : (choice : Choice) (node : Node) (column : ℕ) (at : ℤ) (point : List ℚ) → IsInBox node.box point → IsValueAt choice (value_at point column) → IsInBox (low_of choice node column at).box point ⊎ IsInBox (high_of choice node column at).box point
 hold_of Plain node column at point h w = in_halves node.box column at point h w
-hold_of (Open own) node column at point h w = in_choices node column own at point h w
+hold_of (Open own) node column at point h w = open_halves_cover node column own at point h w
 hold_of Off node column at point h w = absurd w
 hold_of On node column at point h w = absurd w
 

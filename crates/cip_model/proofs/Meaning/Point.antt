@@ -13,10 +13,11 @@ use Rattle.cip_problem.specs.Choices.{choice_at, Allows, KeepsChoices}
 use Rattle.cip_problem.specs.Points.{IsSatisfied, AreWhole, IsFeasible, cost_of}
 use Rattle.cip_problem.proofs.Points.AtPlaces.{IsInBox-long, in_box_at, whole_at, satisfied_at}
 use Rattle.cip_problem.specs.WellFormed.{IsWellFormed, columns}
+use Rattle.cip_problem.proofs.Choices.Decided.{zero_allowed}
 use Rattle.cip_frac.specs.Outcomes.{dot_from}
 use Rattle.cip_frac.proofs.Outcomes.{dot_from-value}
 use Rattle.cip_lin.specs.ChoiceParts.{is_allowed}
-use Rattle.cip_lin.proofs.AllowedValues.{allowed_says, allowed_from, zero_allowed}
+use Rattle.cip_lin.proofs.AllowedValues.{allowed_says, allowed_from}
 use Rattle.cip_lin.specs.RowSums.{activity_from}
 use Rattle.cip_lin.proofs.RowSums.ActivityValue.{activity_from-zero}
 use Rattle.cip_model.specs.declared.verdicts.Place.{Place}
@@ -28,12 +29,12 @@ use Rattle.cip_model.specs.Meaning.{IsKept, IsOutside, IsFractional, IsBroken, R
 
 -- ---- bounds and choices
 
-kept_says : (sides : Sides) (choice : Choice) (value : ℚ) → is_kept sides choice value ≡ true → IsKept sides choice value
+pub kept_says : (sides : Sides) (choice : Choice) (value : ℚ) → is_kept sides choice value ≡ true → IsKept sides choice value
 kept_says sides choice value e =
     let parts = and_parts (is_between sides.low sides.high value) (is_allowed choice value) e in
     record { between = between_of_test sides.low sides.high value parts.0; allowed = allowed_says choice value parts.1 }
 
-not_kept_says : (sides : Sides) (choice : Choice) (value : ℚ) → is_kept sides choice value ≡ false → ¬ IsKept sides choice value
+pub not_kept_says : (sides : Sides) (choice : Choice) (value : ℚ) → is_kept sides choice value ≡ false → ¬ IsKept sides choice value
 not_kept_says sides choice value e h =
     true≢false (sym (and_from (is_between sides.low sides.high value) (is_allowed choice value) (test_of_between sides.low sides.high value h.between) (allowed_from choice value h.allowed)) ∙ e)
 
@@ -85,7 +86,7 @@ abbrev FirstFractionalSays : ℕ → List Bool → List ℚ → Option ℕ → T
 FirstFractionalSays at integral point None = AreWhole integral point
 FirstFractionalSays at integral point (Some column) = FractionalFrom at integral point column
 
-not_IsWhole_of_test : (v : ℚ) → is_whole v ≡ false → ¬ IsWhole v
+pub not_IsWhole_of_test : (v : ℚ) → is_whole v ≡ false → ¬ IsWhole v
 not_IsWhole_of_test v e h = true≢false (sym (test_of_IsWhole v h) ∙ e)
 
 wholes_cons : (at : ℕ) (w : Bool) (integral : List Bool) (v : ℚ) (point : List ℚ) (rest : Option ℕ) (t : Bool) → is_whole v ≡ t → FirstFractionalSays (at + 1) integral point rest → FirstFractionalSays at (w ∷ integral) (v ∷ point) (cond (w && not t) (Some at) rest)
@@ -118,10 +119,10 @@ abbrev FirstBrokenSays : ℕ → List Row → List ℚ → Option Verdict → Ty
 FirstBrokenSays at rows point None = AllByRecursion (λ row. IsSatisfied row point) rows
 FirstBrokenSays at rows point (Some verdict) = RowVerdictSays at rows point verdict
 
-later_broken : {row : Row} {rows : List Row} {point : List ℚ} {number : ℕ} {value : ℚ} → IsBroken rows point number value → IsBroken (row ∷ rows) point (suc number) value
+pub later_broken : {row : Row} {rows : List Row} {point : List ℚ} {number : ℕ} {value : ℚ} → IsBroken rows point number value → IsBroken (row ∷ rows) point (suc number) value
 later_broken h = record { row = h.row; is_row = h.is_row; is_activity = h.is_activity; broken = h.broken }
 
-later_overflows : {row : Row} {rows : List Row} {point : List ℚ} {number : ℕ} → RowOverflows rows point number → RowOverflows (row ∷ rows) point (suc number)
+pub later_overflows : {row : Row} {rows : List Row} {point : List ℚ} {number : ℕ} → RowOverflows rows point number → RowOverflows (row ∷ rows) point (suc number)
 later_overflows h = record { row = h.row; is_row = h.is_row; overflows = h.overflows }
 
 later_say : (at : ℕ) (row : Row) (rows : List Row) (point : List ℚ) (verdict : Verdict) → RowVerdictSays (at + 1) rows point verdict → RowVerdictSays at (row ∷ rows) point verdict

@@ -44,7 +44,7 @@ least_cost_holds cost b value sides e h = column_cases cost b value sides (lt_te
 
 -- ---- all columns
 
-sum_holds : (a c : Option ℚ) (b x y : ℚ) → sum_if_both a c ≡ Some b → ((p : ℚ) → a ≡ Some p → p ≤ℚ x) → ((q : ℚ) → c ≡ Some q → q ≤ℚ y) → b ≤ℚ x +ℚ y
+pub sum_holds : (a c : Option ℚ) (b x y : ℚ) → sum_if_both a c ≡ Some b → ((p : ℚ) → a ≡ Some p → p ≤ℚ x) → ((q : ℚ) → c ≡ Some q → q ≤ℚ y) → b ≤ℚ x +ℚ y
 sum_holds None c b x y e f g = absurd (none-some b e)
 sum_holds (Some p) None b x y e f g = absurd (none-some b e)
 sum_holds (Some p) (Some q) b x y e f g = subst (λ t. t ≤ℚ x +ℚ y) (same_Some _ b e) (+ℚ_mono (f p refl) (g q refl))

@@ -62,7 +62,7 @@ record IsKept (choices : List Choice) (box : List Sides) (point : List ℚ) : Ty
   pub within : IsInBox box point
   pub keeps : KeepsChoices choices point
 
-zero_allowed : (choice : Choice) → Allows choice zeroℚ
+pub zero_allowed : (choice : Choice) → Allows choice zeroℚ
 zero_allowed Plain = tt
 zero_allowed (Open own) = inl refl
 zero_allowed Off = tt
@@ -77,7 +77,7 @@ below_greater (Some high) value s h = tested (le_test zeroℚ high) refl
     tested true e = rw e h
     tested false e = rw e (≤ℚ_trans h (≤ℚ_of_lt (lt_of_le_test e)))
 
-zero_below_greater : (high : Option ℚ) → IfSome (greater (Some zeroℚ) high) (λ side. zeroℚ ≤ℚ side)
+pub zero_below_greater : (high : Option ℚ) → IfSome (greater (Some zeroℚ) high) (λ side. zeroℚ ≤ℚ side)
 zero_below_greater None = ≤ℚ_refl zeroℚ
 zero_below_greater (Some high) = tested (le_test zeroℚ high) refl
   where
@@ -94,7 +94,7 @@ own_open own sides whole value semi h =
     subst (λ (s : Sides). Between s.low s.high value) (sym semi.open_)
     (record { above = above_zero own.low value semi.low h.above; below = below_greater own.high value semi.high h.below })
 
-zero_open : (own sides : Sides) (whole : Option Bool) (value : ℚ) → IsSemi own whole sides → value ≡ zeroℚ → Between sides.low sides.high value
+pub zero_open : (own sides : Sides) (whole : Option Bool) (value : ℚ) → IsSemi own whole sides → value ≡ zeroℚ → Between sides.low sides.high value
 zero_open own sides whole value semi e =
     subst (λ (s : Sides). Between s.low s.high value) (sym semi.open_)
     (subst (λ v. Between (open_sides own).low (open_sides own).high v) (sym e) (record { above = ≤ℚ_refl zeroℚ; below = zero_below_greater own.high }))

@@ -70,7 +70,7 @@ record Comes (program : Program) (box : List Sides) (choices : List Choice) : Ty
   pub each : (column : ℕ) → ComesAt (choice_at program.choices column) (choice_at choices column) (sides_at box column)
 
 -- a column whose choice is open has a place in the list
-open_inside : (choices : List Choice) (column : ℕ) (own : Sides) → choice_at choices column ≡ Open own → column < length choices
+pub open_inside : (choices : List Choice) (column : ℕ) (own : Sides) → choice_at choices column ≡ Open own → column < length choices
 open_inside [] column own e = absurd (cc)
 open_inside (c ∷ cs) zero own e = omega arith
 open_inside (c ∷ cs) (suc column) own e = omega (arith, open_inside cs column own e)

@@ -51,7 +51,7 @@ whole_halves_cover (w ∷ ws) (s ∷ ss) (suc column) at (v ∷ vs) h k e = elim
   | inr l ↦ inr (h.0, l)
 ]
 
-open_halves_cover : (node : Node) (column : ℕ) (own : Sides) (at : ℤ) (point : List ℚ) → IsInBox node.box point → Allows (Open own) (value_at point column) → IsInBox (low_of (Open own) node column at).box point ⊎ IsInBox (high_of (Open own) node column at).box point
+pub open_halves_cover : (node : Node) (column : ℕ) (own : Sides) (at : ℤ) (point : List ℚ) → IsInBox node.box point → Allows (Open own) (value_at point column) → IsInBox (low_of (Open own) node column at).box point ⊎ IsInBox (high_of (Open own) node column at).box point
 open_halves_cover node column own at point h (inl e) =
     inl (set_in_box node.box column _ point h (between_met (sides_at node.box column) zero_sides (value_at point column) (in_box_at node.box point column h) (zero_between (value_at point column) e)))
 open_halves_cover node column own at point h (inr k) =

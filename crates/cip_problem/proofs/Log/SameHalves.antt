@@ -29,13 +29,13 @@ low_box node other column at e f = low_box_of (choice_at node.choices column) no
 pub high_box : (node other : Node) (column : ℕ) (at : ℤ) → node.box ≡ other.box → node.choices ≡ other.choices → (high_node node column at).box ≡ (high_node other column at).box
 high_box node other column at e f = high_box_of (choice_at node.choices column) node other column at e ∙ ap (λ c. (high_of (choice_at c column) other column at).box) f
 
-low_choices_of : (choice : Choice) (node other : Node) (column : ℕ) (at : ℤ) → node.choices ≡ other.choices → (low_of choice node column at).choices ≡ (low_of choice other column at).choices
+pub low_choices_of : (choice : Choice) (node other : Node) (column : ℕ) (at : ℤ) → node.choices ≡ other.choices → (low_of choice node column at).choices ≡ (low_of choice other column at).choices
 low_choices_of Plain node other column at e = e
 low_choices_of (Open own) node other column at e = ap (λ c. slice_set c column Off) e
 low_choices_of Off node other column at e = e
 low_choices_of On node other column at e = e
 
-high_choices_of : (choice : Choice) (node other : Node) (column : ℕ) (at : ℤ) → node.choices ≡ other.choices → (high_of choice node column at).choices ≡ (high_of choice other column at).choices
+pub high_choices_of : (choice : Choice) (node other : Node) (column : ℕ) (at : ℤ) → node.choices ≡ other.choices → (high_of choice node column at).choices ≡ (high_of choice other column at).choices
 high_choices_of Plain node other column at e = e
 high_choices_of (Open own) node other column at e = ap (λ c. slice_set c column On) e
 high_choices_of Off node other column at e = e

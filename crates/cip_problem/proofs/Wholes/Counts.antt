@@ -12,7 +12,7 @@ use Rattle.cip_problem.specs.Wholes.{count, wholes_between, times, assignments, 
 
 -- ---- numbers of choices
 
-none_times : (n : Option ℕ) → times (Some 0) n ≡ Some 0
+pub none_times : (n : Option ℕ) → times (Some 0) n ≡ Some 0
 none_times None = refl
 none_times (Some n) = ap Some (zero-mul n)
 

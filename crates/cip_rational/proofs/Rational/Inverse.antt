@@ -5,24 +5,18 @@ use Rattle.std.proofs.Common.{◌≡◌, ◌⊎◌, inl, inr, ℕ, zero, suc, �
 use Rattle.cip_rational.specs.Rational.{ℚ, ◌*ℚ◌, negate, inverse, ratio, integer, zeroℚ, oneℚ, ◌≤ℚ◌, ◌<ℚ◌, numerator, denominator, is_ratio}
 use Rattle.cip_rational.proofs.Rational.Ratio.{ratio-mul, ratio_same}
 use Rattle.cip_rational.proofs.Rational.Lowest.{denominator-pos, numerator-integer}
-use Rattle.cip_rational.proofs.Rational.Whole.{integer-pos}
-use Rattle.cip_rational.proofs.Rational.Ring.{*ℚ_comm, *ℚ_assoc, *ℚ-one, one-*ℚ, zero-*ℚ, *ℚ-zero, zero_is, one_is, one_is_not_zero, negate_zero, *ℚ-negate, negate-*ℚ, negate_negate}
+use Rattle.cip_rational.proofs.Rational.Ring.{*ℚ_comm, *ℚ_assoc, *ℚ-one, one-*ℚ, zero-*ℚ, *ℚ-zero, one_is_not_zero, negate_zero, *ℚ-negate, negate-*ℚ, negate_negate}
 use Rattle.cip_rational.proofs.Rational.Order.{≤ℚ_of_lt, le_or_lt, ne_of_lt}
 use Rattle.cip_rational.proofs.Rational.Monotone.{*ℚ_mono, *ℚ_nonneg, le_of_*ℚ, lt_of_*ℚ, negate_mono, negate_strict, zero-lt-one}
 use Rattle.cip_rational.proofs.Rational.Compare.{below, same, over, trichotomy}
-
-integer_zero : integer (pos 0) ≡ zeroℚ
-integer_zero = integer-pos 0 ∙ sym zero_is
-
-integer_one : integer (pos 1) ≡ oneℚ
-integer_one = integer-pos 1 ∙ sym one_is
+use Rattle.cip_rational.proofs.Rational.Rounding.{integer-zero, integer-one}
 
 at_numerator : (a : ℚ) (z : ℤ) → numerator a ≡ z → a ≡ ratio z (denominator a)
 at_numerator a z e = sym (is_ratio a) ∙ ap (λ t. ratio t (denominator a)) e
 
-ratio_zero : (d : ℕ) → 0 < d → ratio (pos 0) d ≡ zeroℚ
+pub ratio_zero : (d : ℕ) → 0 < d → ratio (pos 0) d ≡ zeroℚ
 unfolding integer
-ratio_zero d h = ratio_same (pos 0) (pos 0) d 1 h (zero-lt-suc 0) (ap pos (omega arith)) ∙ integer_zero
+ratio_zero d h = ratio_same (pos 0) (pos 0) d 1 h (zero-lt-suc 0) (ap pos (omega arith)) ∙ integer-zero
 
 -- a ratio that is turned round
 turned_round : (y z : ℤ) (d e : ℕ) → 0 < d → 0 < e → up (y *ℤ z) ≡ d * e → down (y *ℤ z) ≡ 0 → ratio y d *ℚ ratio z e ≡ oneℚ
@@ -30,7 +24,7 @@ unfolding integer
 turned_round y z d e p q u v =
     ratio-mul y z d e p q
     ∙ ratio_same (y *ℤ z) (pos 1) (d * e) 1 (mul-pos p q) (zero-lt-suc 0) (same_in _ _ (omega (arith, u, v, product_is (y *ℤ z) (pos 1), product_is (pos 1) (pos (d * e)))))
-    ∙ integer_one
+    ∙ integer-one
 
 pub *ℚ-inverse : (a : ℚ) → ¬ (a ≡ zeroℚ) → a *ℚ inverse a ≡ oneℚ
 unfolding inverse
@@ -47,7 +41,7 @@ unfolding inverse
 
 pub inverse_zero : inverse zeroℚ ≡ zeroℚ
 unfolding inverse ratio zeroℚ
-inverse_zero = rw (sym (ap numerator integer_zero) ∙ numerator-integer (pos 0)) refl
+inverse_zero = rw (sym (ap numerator integer-zero) ∙ numerator-integer (pos 0)) refl
 
 pub inverse_unique : (a b : ℚ) → a *ℚ b ≡ oneℚ → inverse a ≡ b
 inverse_unique a b e =

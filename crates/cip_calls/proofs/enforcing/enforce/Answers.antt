@@ -4,9 +4,10 @@ use Rattle.cip_calls.specs.Waiting.{HasAskedNext}
 use Rattle.cip_calls.proofs.Serving.{used_last}
 use Rattle.cip_calls.proofs.Noting.{come_called}
 use Rattle.cip_calls.specs.Enforcing.{IsVerdict}
-use Rattle.cip_calls.proofs.Said.{alone_none, alone_further, come_more, come_went, run_none, verdict_further}
+use Rattle.cip_calls.proofs.Said.{alone_none, alone_further, come_more, come_went, verdict_further}
 use Rattle.cip_calls.proofs.SoFar.{so_far_none, so_far_more, next_ran, fewer_wait, used_part, used_all, judged_made, end_next}
 use Rattle.cip_calls.proofs.enforcing.enforce.Goals as goal
+use Rattle.cip_roster.proofs.Delivery.{ran_same}
 
 pub loop-id-init : goal.loop-id-init
 loop-id-init g c = record {
@@ -17,7 +18,7 @@ loop-id-init g c = record {
 
 pub returns-in_err-id-clause-come : goal.returns-in_err-id-clause-come
 returns-in_err-id-clause-come g c =
-    come_more _ _ _ _ _ _ _ _ _ _ c.loop-id.invariant.come c.ask_next.ensures.sound (run_none _ _ c.in_err-id.ensures.err)
+    come_more _ _ _ _ _ _ _ _ _ _ c.loop-id.invariant.come c.ask_next.ensures.sound (ran_same _ _ c.in_err-id.ensures.err)
 
 pub returns-in_err-verdict-clause-come : goal.returns-in_err-verdict-clause-come
 returns-in_err-verdict-clause-come g c =

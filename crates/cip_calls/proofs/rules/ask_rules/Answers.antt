@@ -2,9 +2,9 @@ use Rattle.std.proofs.Common.{refl, ◌∙◌, subst}
 use Rattle.cip_plugin.specs.Calls.{Branch}
 use Rattle.cip_calls.specs.Waiting.{HasAskedNext}
 use Rattle.cip_calls.proofs.Noting.{noted_run, run_further}
-use Rattle.cip_calls.proofs.Said.{run_none}
 use Rattle.cip_calls.proofs.SoFar.{so_far_none, so_far_more, so_far_ran, next_ran, fewer_wait, used_part, used_all, judged_made, end_next}
 use Rattle.cip_calls.proofs.rules.ask_rules.Goals as goal
+use Rattle.cip_roster.proofs.Delivery.{ran_same}
 
 pub loop-id-init : goal.loop-id-init
 loop-id-init g c = record {
@@ -15,7 +15,7 @@ loop-id-init g c = record {
 
 pub returns-in_err-id-clause-run : goal.returns-in_err-id-clause-run
 returns-in_err-id-clause-run g c =
-    run_further _ _ _ (so_far_ran Branch _ _ _ _ _ c.loop-id.invariant.so_far) (run_none _ _ c.in_err-id.ensures.err)
+    run_further _ _ _ (so_far_ran Branch _ _ _ _ _ c.loop-id.invariant.so_far) (ran_same _ _ c.in_err-id.ensures.err)
 
 pub returns-in_err-found-clause-run : goal.returns-in_err-found-clause-run
 returns-in_err-found-clause-run g c =

@@ -7,8 +7,9 @@ use Rattle.cip_problem.specs.WellFormed.{IsWellFormed}
 use Rattle.cip_problem.specs.Log.{CanSplitAt}
 use Rattle.cip_domain.specs.Halves.{CanHalve}
 use Rattle.cip_core.specs.CoreStates.{reduced_of}
-use Rattle.cip_calls.proofs.SplitParts.{near_itself, kind_of, plain_from, whole_not_splittable, continuous_not_splittable, both_left}
+use Rattle.cip_calls.proofs.SplitParts.{near_itself, kind_of, whole_not_splittable, continuous_not_splittable, both_left}
 use Rattle.cip_calls.proofs.splits.no_place.Goals as goal
+use Rattle.cip_tree.proofs.Halving.{plain_of}
 
 pub returns-then-not-is_plain : goal.returns-then-not-is_plain
 returns-then-not-is_plain c =
@@ -32,7 +33,7 @@ returns-then-can_halve c =
       named = c.requires.named;
       place = inl (record {
         whole = kind_of (reduced_of core) c.whole.result.now col true kinds (subst IsWellFormed c.reduced.ensures c.whole.ensures.formed) c.requires.named.inside c.if-whole.true;
-        plain = sym choice ∙ plain_from c.at-choice.result (sym c.is_plain.ensures ∙ c.if-not-is_plain.false);
+        plain = sym choice ∙ plain_of c.at-choice.result (sym c.is_plain.ensures ∙ c.if-not-is_plain.false);
         both = both_left (sides_at core.tree.work.box col) core.tree.ids c.args.split.at c.requires.named.near
             (subst (λ s. CanHalve s c.args.split.at) sides (subst (CanHalve c.sides.result) at (c.can_halve.ensures.0 c.if-can_halve.true)));
       });
@@ -46,7 +47,7 @@ returns-then-whole c =
     let kinds : c.whole.result.now ≡ (reduced_of core).integral = c.whole.ensures.whole ∙ ap (λ (p : Program). p.integral) c.reduced.ensures in
     let at : to_z w128 (of_z w128 c.args.split.at) ≡ c.args.split.at = near_itself c.args.split.at c.requires.named.near in
     let sides : c.sides.result ≡ sides_at core.tree.work.box col = c.sides.ensures ∙ ap (λ b. sides_at b col) c.bounds.ensures in (
-      sym choice ∙ plain_from c.at-choice.result (sym c.is_plain.ensures ∙ c.if-not-is_plain.false),
+      sym choice ∙ plain_of c.at-choice.result (sym c.is_plain.ensures ∙ c.if-not-is_plain.false),
       kind_of (reduced_of core) c.whole.result.now col true kinds (subst IsWellFormed c.reduced.ensures c.whole.ensures.formed) c.requires.named.inside c.if-whole.true,
       λ h. absurd (let g : false ≡ true = sym c.if-can_halve.false ∙ c.can_halve.ensures.1 (subst (CanHalve c.sides.result) (sym at) (subst (λ s. CanHalve s c.args.split.at) (sym sides) h)) in cc),
     )

@@ -1,9 +1,9 @@
 use Rattle.std.proofs.Common.{◌≡◌, ◌<◌, false, List, length, get_or, Option, Result, arith, sym, ap, ◌∙◌}
+use Rattle.std.proofs.lemmas.List.{get_or_default}
 use Rattle.cip_rational.specs.Rational.{ℚ, zeroℚ}
 use Rattle.cip_problem.specs.Activity.{value_at}
 use Rattle.cip_cert.specs.Checks.{chain, implied_low, low_allowed}
 use Rattle.cip_cert.specs.declared.faults.CutFault.{CutFault}
-use Rattle.cip_cert.proofs.Pools.{same_default}
 use Rattle.cip_cert.proofs.reductions.low_reduced_row.Goals as goal
 
 pub returns-in-Err-clause-steps : goal.returns-in-Err-clause-steps
@@ -22,7 +22,7 @@ returns-in-Err-low_side-clause-steps c =
       c.rests_row.ensures.columns,
     ) in
     let coefficient : value_at row c.args.column ≡ c.index-entries-column.result =
-    same_default row c.args.column zeroℚ c.index-entries-column.result inside
+    get_or_default row c.args.column zeroℚ c.index-entries-column.result inside
     ∙ sym (c.index-entries-column.is ∙ ap (λ (ds : List ℚ). get_or ds c.args.column c.index-entries-column.result)
     c.entries.ensures.entries) in
     sym (c.in-Ok.ensures.next (λ (ds : List ℚ) (bound : ℚ). chain (implied_low c.args.column whole
@@ -41,7 +41,7 @@ returns-in-Ok-low_side-clause-steps c =
       c.rests_row.ensures.columns,
     ) in
     let coefficient : value_at row c.args.column ≡ c.index-entries-column.result =
-    same_default row c.args.column zeroℚ c.index-entries-column.result inside
+    get_or_default row c.args.column zeroℚ c.index-entries-column.result inside
     ∙ sym (c.index-entries-column.is ∙ ap (λ (ds : List ℚ). get_or ds c.args.column c.index-entries-column.result)
     c.entries.ensures.entries) in
     c.allow_low.ensures

@@ -1,7 +1,7 @@
 use Rattle.std.proofs.Common.{◌+◌, length, refl, sym, ap, subst, ◌∙◌, arith}
+use Rattle.std.proofs.lemmas.List.{get_or_default}
 use Rattle.cip_rational.specs.Rational.{zeroℚ}
 use Rattle.cip_cert.proofs.Cleared.{TellsBelow, below_none, below_zero, below_pushed, below_all}
-use Rattle.cip_cert.proofs.Pools.{same_default}
 use Rattle.cip_cert.proofs.sparse.scan.Goals.{then-not-is_zero, else-not-is_zero}
 use Rattle.cip_cert.proofs.sparse.scan.Goals as goal
 
@@ -40,7 +40,7 @@ loop-at-preserved c = elim c.if-not-is_zero.branch [
       (record {
         tells =
             below_zero c.loop-at.at c.args.entries.now c.loop-at.touched.items
-            (same_default c.args.entries.now c.loop-at.at zeroℚ c.index-entries-at.result c.loop-at-test.true
+            (get_or_default c.args.entries.now c.loop-at.at zeroℚ c.index-entries-at.result c.loop-at-test.true
             ∙ sym c.index-entries-at.is ∙ w.if-not-is_zero.ensures.0 refl)
             c.loop-at.invariant.tells;
         short = omega (arith, c.loop-at.invariant.short);

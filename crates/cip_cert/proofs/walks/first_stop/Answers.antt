@@ -1,6 +1,6 @@
 use Rattle.std.proofs.Common.{◌≡◌, ◌<◌, false, ◌∙◌, arith, length, get_or, sym, refl}
+use Rattle.std.proofs.lemmas.List.{get_or_default}
 use Rattle.cip_rational.specs.Rational.{zeroℚ}
-use Rattle.cip_cert.proofs.Pools.{same_default}
 use Rattle.cip_cert.proofs.Steps.{stops_at, first_found, none_found, passed_more}
 use Rattle.cip_cert.proofs.walks.first_stop.Goals as goal
 
@@ -16,7 +16,7 @@ loop-column-preserved c =
     let inside : column < length whole = omega (arith, c.if-column-whole.false) in
     let within : column < length entries = omega (arith, inside, c.requires.room) in
     passed_more (λ m. stops_at whole entries m ≡ false) c.args.touched.now (length whole) c.loop-column.column-index c.loop-column.invariant
-    (λ h. rw (← same_default entries column c.index-entries-column.result zeroℚ within, ← c.index-entries-column.is) (sym c.stops.ensures ∙ c.if-stops.false))
+    (λ h. rw (← get_or_default entries column c.index-entries-column.result zeroℚ within, ← c.index-entries-column.is) (sym c.stops.ensures ∙ c.if-stops.false))
 
 pub returns-then-stops : goal.returns-then-stops
 returns-then-stops c =
@@ -26,7 +26,7 @@ returns-then-stops c =
     let inside : column < length whole = omega (arith, c.if-column-whole.false) in
     let within : column < length entries = omega (arith, inside, c.requires.room) in
     sym (first_found whole entries c.args.touched.now c.loop-column.column-index column c.requires.tells c.requires.sorted c.loop-column.invariant refl inside within
-    (rw (← same_default entries column c.index-entries-column.result zeroℚ within, ← c.index-entries-column.is) (sym c.stops.ensures ∙ c.if-stops.true)))
+    (rw (← get_or_default entries column c.index-entries-column.result zeroℚ within, ← c.index-entries-column.is) (sym c.stops.ensures ∙ c.if-stops.true)))
 
 pub returns : goal.returns
 returns c = sym (none_found c.args.whole.now c.args.entries.now c.args.touched.now c.loop-column.column-index c.requires.tells c.loop-column-test.false c.loop-column.invariant)

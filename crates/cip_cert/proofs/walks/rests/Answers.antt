@@ -1,7 +1,7 @@
 use Rattle.std.proofs.Common.{◌<◌, ◌≤◌, ◌+◌, ◌∙◌, arith, length, get_or, sym}
+use Rattle.std.proofs.lemmas.List.{get_or_default}
 use Rattle.cip_rational.specs.Rational.{zeroℚ}
 use Rattle.cip_problem.specs.Box.{no_sides}
-use Rattle.cip_cert.proofs.Pools.{same_default}
 use Rattle.cip_cert.proofs.Steps.{untouched, coming_up, rests_more, rests_fail, rests_end, passed_more}
 use Rattle.cip_cert.proofs.walks.rests.Goals as goal
 
@@ -33,8 +33,8 @@ loop-column-preserved c =
       steps =
           rests_more c.args.named c.loop-column.next column c.loop-column.sum c.in-Ok.value c.index-entries-column.result c.index-sides-column.result entries sides _ c.loop-column.invariant.steps not_before within inside
           (λ k a b. untouched entries touched c.loop-column.next i column (length sides) c.requires.tells c.loop-column.invariant.passed (coming_up touched i c.requires.sorted) k a b (omega (arith, b, inside)))
-          (c.index-entries-column.is ∙ same_default entries column _ zeroℚ within)
-          (c.index-sides-column.is ∙ same_default sides column _ no_sides inside)
+          (c.index-entries-column.is ∙ get_or_default entries column _ zeroℚ within)
+          (c.index-sides-column.is ∙ get_or_default sides column _ no_sides inside)
           (sym c.in-Ok.ensures);
       within = omega (arith, inside);
       passed = passed_more (λ m. m < column + 1) touched (length sides) i (λ j h l. omega (arith, c.loop-column.invariant.passed j h l, not_before)) (λ h. omega arith);
@@ -52,8 +52,8 @@ returns-in-Err c =
     let not_before : c.loop-column.next ≤ column = omega (arith, c.if-column-next.false) in
     rests_fail c.args.named c.loop-column.next column c.loop-column.sum c.index-entries-column.result c.in-Err.fault c.index-sides-column.result entries sides _ c.loop-column.invariant.steps not_before within inside
     (λ k a b. untouched entries touched c.loop-column.next i column (length sides) c.requires.tells c.loop-column.invariant.passed (coming_up touched i c.requires.sorted) k a b (omega (arith, b, inside)))
-    (c.index-entries-column.is ∙ same_default entries column _ zeroℚ within)
-    (c.index-sides-column.is ∙ same_default sides column _ no_sides inside)
+    (c.index-entries-column.is ∙ get_or_default entries column _ zeroℚ within)
+    (c.index-sides-column.is ∙ get_or_default sides column _ no_sides inside)
     (sym c.in-Err.ensures)
 
 pub returns : goal.returns

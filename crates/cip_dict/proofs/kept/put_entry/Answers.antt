@@ -1,9 +1,9 @@
 use Rattle.std.proofs.Common.{◌≡◌, sym}
 use Rattle.cip_rational.specs.Rational.{zeroℚ}
-use Rattle.cip_bland.proofs.Zeros.{zero_of}
 use Rattle.cip_dict.proofs.PutBehind.{end_entry, end_kept}
 use Rattle.cip_dict.proofs.Places.{rising_kept}
 use Rattle.cip_dict.proofs.kept.put_entry.Goals as goal
+use Rattle.cip_problem.proofs.Rows.{zero_of_test}
 
 pub returns-then-is_past-clause-put : goal.returns-then-is_past-clause-put
 returns-then-is_past-clause-put c =
@@ -17,7 +17,7 @@ returns-then-is_past-clause-kept c =
 
 pub returns-then-vanishes-clause-put : goal.returns-then-vanishes-clause-put
 returns-then-vanishes-clause-put c =
-    let z : c.args.entry ≡ zeroℚ = zero_of c.args.entry (sym c.if-vanishes.ensures) in
+    let z : c.args.entry ≡ zeroℚ = zero_of_test c.args.entry (sym c.if-vanishes.ensures) in
     λ v. rw z (c.let_go_at.ensures.gone v)
 
 pub is_past-requires : goal.is_past-requires

@@ -1,12 +1,12 @@
 use Rattle.std.proofs.Common.{◌≡◌, ◌∙◌, pos, ap, arith}
 use Rattle.std.proofs.lemmas.Int.{ints}
 use Rattle.cip_rational.specs.Rational.{ratio}
+use Rattle.cip_rational.proofs.Rational.Inverse.{ratio_zero}
 use Rattle.cip_bland.proofs.Zeros.{is_zero_of}
 use Rattle.cip_dict.proofs.Added.{zero_left}
-use Rattle.cip_dict.proofs.WholeParts.{ratio_none}
 use Rattle.cip_dict.proofs.moved.add_over.Goals as goal
 
 pub returns-then-n-eq0 : goal.returns-then-n-eq0
 returns-then-n-eq0 c =
     let n : c.args.n ≡ pos 0 = omega (arith, ints, c.if-n-eq0.true, c.ranges.n) in
-    zero_left c.args.value.now (ratio c.args.n c.args.below) c.args.t (is_zero_of _ (ap (λ m. ratio m c.args.below) n ∙ ratio_none c.args.below c.requires.positive))
+    zero_left c.args.value.now (ratio c.args.n c.args.below) c.args.t (is_zero_of _ (ap (λ m. ratio m c.args.below) n ∙ ratio_zero c.args.below c.requires.positive))

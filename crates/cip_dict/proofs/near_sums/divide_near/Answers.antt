@@ -4,8 +4,9 @@ use Rattle.std.proofs.lemmas.Int.{ints}
 use Rattle.cip_rational.specs.Range.{magnitude}
 use Rattle.cip_dict.specs.WholeLines.{Whole}
 use Rattle.cip_dict.proofs.WholeParts.{read_small, item_below}
-use Rattle.cip_dict.proofs.NearSums.{read_near, divided_next, divided_over, divided_small, divided_step}
+use Rattle.cip_dict.proofs.NearSums.{divided_next, divided_over, divided_small, divided_step}
 use Rattle.cip_dict.proofs.near_sums.divide_near.Goals as goal
+use Rattle.cip_dict.proofs.Added.{read_word}
 
 pub loop-at-init : goal.loop-at-init
 loop-at-init c = refl
@@ -15,7 +16,7 @@ loop-at-preserved c =
     let l : c.loop-at.at < length c.args.numbers.now = c.loop-at-test.true in
     let same : (get_or c.loop-at.numbers c.loop-at.at (0, pos 0)).1 ≡ (get_or c.args.numbers.now c.loop-at.at (0, pos 0)).1 = ap (λ (e : Whole). e.1) (divided_next c.args.g c.loop-at.at c.loop-at.numbers c.args.numbers.now (0, pos 0) c.loop-at.invariant) in
     let near : magnitude (get_or c.args.numbers.now c.loop-at.at (0, pos 0)).1 < 2 ^ 63 = item_below (2 ^ 63) c.args.numbers.now c.loop-at.at (0, pos 0) c.requires.near l in
-    let read : c.from.result ≡ (get_or c.args.numbers.now c.loop-at.at (0, pos 0)).1 = c.from.ensures ∙ ap (λ z. to_z w64 (of_z w64 z)) same ∙ read_near (get_or c.args.numbers.now c.loop-at.at (0, pos 0)).1 near in
+    let read : c.from.result ≡ (get_or c.args.numbers.now c.loop-at.at (0, pos 0)).1 = c.from.ensures ∙ ap (λ z. to_z w64 (of_z w64 z)) same ∙ read_word (get_or c.args.numbers.now c.loop-at.at (0, pos 0)).1 near in
     let wide : to_z w128 (of_z w128 c.from.result) ≡ c.from.result = omega (arith, ints, read, near) in
     let parts : (get_or c.args.numbers.now c.loop-at.at (0, pos 0)).1 ≡ c.in-Some.number *ℤ pos c.args.g = sym (wide ∙ read) ∙ c.in-Some.ensures.0 ∙ ap (λ g. c.in-Some.number *ℤ pos g) c.from-in-loop-at.ensures in
     let kept : to_z w64 (of_z w64 c.in-Some.number) ≡ c.in-Some.number = read_small c.in-Some.number c.in-Some.ensures.1 in

@@ -7,8 +7,8 @@ use Rattle.cip_dict.specs.WholeLines.{over, put_number, AreBelow, wholes_of}
 use Rattle.cip_dict.proofs.Places.{place_zero}
 use Rattle.cip_dict.proofs.WholeParts.{none_over, read_small}
 use Rattle.cip_dict.proofs.WholeLoops.{whole_gap, whole_more, put_none}
-use Rattle.cip_dict.proofs.NearSums.{read_near}
 use Rattle.cip_dict.proofs.near_sums.sum_near.Goals as goal
+use Rattle.cip_dict.proofs.Added.{read_word}
 
 pub loop-step-init : goal.loop-step-init
 loop-step-init c =
@@ -49,7 +49,7 @@ loop-step-preserved c =
     let z : c.substituted_number-z.result ≡ put_number (basic_in c.args.pivot.now.standing.now) c.args.pivot.now.leaving c.args.pivot.now.entering c.args.factors.own c.args.factors.new c.args.row.now c.args.new.now c.loop-step.step.k =
     rw (read_small c.loop-step.step.n c.loop-step.invariant.row_small, read_small c.loop-step.step.y c.loop-step.invariant.new_small, c.loop-step.invariant.row_value l, c.loop-step.invariant.new_value l) at c.substituted_number-z.ensures.value in
     let kept : to_z w128 (of_z w128 c.substituted_number-z.result) ≡ c.substituted_number-z.result = omega (arith, ints, c.substituted_number-z.ensures.small) in
-    let short : to_z w64 (of_z w64 (to_z w128 (of_z w128 c.substituted_number-z.result))) ≡ to_z w128 (of_z w128 c.substituted_number-z.result) = read_near (to_z w128 (of_z w128 c.substituted_number-z.result)) (c.is_near.ensures c.if-not-is_near.false) in
+    let short : to_z w64 (of_z w64 (to_z w128 (of_z w128 c.substituted_number-z.result))) ≡ to_z w128 (of_z w128 c.substituted_number-z.result) = read_word (to_z w128 (of_z w128 c.substituted_number-z.result)) (c.is_near.ensures c.if-not-is_near.false) in
     record {
       within = c.next_step-step-in-loop-step.ensures.within;
       row_value = λ l. c.next_step-step-in-loop-step.ensures.row_value l next.row_place;
@@ -77,7 +77,7 @@ loop-step-smaller c =
 pub returns-in_err-keep_number-clause-near : goal.returns-in_err-keep_number-clause-near
 returns-in_err-keep_number-clause-near c =
     let near = c.is_near.ensures c.if-not-is_near.false in
-    c.in_err-keep_number.ensures.below (2 ^ 63) (rw (read_near (to_z w128 (of_z w128 c.substituted_number-z.result)) near) near) c.loop-step.invariant.near
+    c.in_err-keep_number.ensures.below (2 ^ 63) (rw (read_word (to_z w128 (of_z w128 c.substituted_number-z.result)) near) near) c.loop-step.invariant.near
 
 pub returns-clause-told : goal.returns-clause-told
 returns-clause-told c =

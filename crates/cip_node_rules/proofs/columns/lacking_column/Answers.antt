@@ -3,7 +3,7 @@ use Rattle.cip_problem.specs.Box.{no_sides}
 use Rattle.cip_problem.specs.Wholes.{HasWhole}
 use Rattle.cip_problem.specs.Program.{Sides}
 use Rattle.std.proofs.Common.{◌≡◌, Bool}
-use Rattle.cip_node_rules.proofs.Places.{zip_from}
+use Rattle.cip_problem.proofs.Zips.{zip_from}
 use Rattle.cip_node_rules.proofs.columns.lacking_column.Goals as goal
 
 pub returns : goal.returns

@@ -1,6 +1,6 @@
 use Rattle.std.proofs.Common.{◌≡◌, true, false, Bool, get_or, sym, subst, arith}
 use Rattle.cip_rational.specs.Rational.{ℚ, zeroℚ, IsWhole}
-use Rattle.cip_node_rules.proofs.Places.{zip_from, zip_at}
+use Rattle.cip_problem.proofs.Zips.{zip_from, zip_at}
 use Rattle.cip_node_rules.proofs.values.are_whole.Goals as goal
 
 pub returns-then-not-is_right : goal.returns-then-not-is_right

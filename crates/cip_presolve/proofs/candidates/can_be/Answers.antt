@@ -1,4 +1,4 @@
-use Rattle.cip_presolve.proofs.MayLeave.{fits_by}
+use Rattle.cip_presolve.proofs.FormsKept.{fits_by}
 use Rattle.cip_presolve.proofs.candidates.can_be.Goals as goal
 
 pub returns-then-whole-clause-in_range : goal.returns-then-whole-clause-in_range

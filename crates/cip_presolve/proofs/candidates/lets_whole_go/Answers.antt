@@ -6,7 +6,7 @@ use Rattle.cip_problem.specs.Program.{Sides}
 use Rattle.cip_problem.specs.Box.{sides_at}
 use Rattle.cip_presolve.specs.Forms.{Form}
 use Rattle.cip_presolve.specs.FormEnds.{FormAssigns}
-use Rattle.cip_presolve.proofs.MayLeave.{fits_by}
+use Rattle.cip_presolve.proofs.FormsKept.{fits_by}
 use Rattle.cip_presolve.proofs.candidates.lets_whole_go.Goals as goal
 
 pub returns-then-is_whole : goal.returns-then-is_whole

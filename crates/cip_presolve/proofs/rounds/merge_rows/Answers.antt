@@ -1,12 +1,12 @@
 use Rattle.std.proofs.Common.{◌∙◌}
-use Rattle.cip_presolve.proofs.Chained.{follows}
 use Rattle.cip_presolve.proofs.rounds.merge_rows.Goals as goal
+use Rattle.cip_search.proofs.Pairing.{exact_after}
 
 pub loop-at-preserved : goal.loop-at-preserved
 loop-at-preserved c = record {
-  step = follows _ _ _ c.loop-at.invariant.step c.merge_pair.ensures.step;
+  step = exact_after _ _ _ c.loop-at.invariant.step c.merge_pair.ensures.step;
   rows = c.merge_pair.ensures.rows ∙ c.loop-at.invariant.rows;
 }
 
 pub returns-in_default-clause-step : goal.returns-in_default-clause-step
-returns-in_default-clause-step c = follows _ _ _ c.loop-at.invariant.step c.merge_pair.ensures.step
+returns-in_default-clause-step c = exact_after _ _ _ c.loop-at.invariant.step c.merge_pair.ensures.step

@@ -1,14 +1,14 @@
 use Rattle.std.proofs.Common.{◌∙◌}
-use Rattle.cip_presolve.proofs.Chained.{follows}
 use Rattle.cip_presolve.proofs.rounds.settle_columns.Goals as goal
+use Rattle.cip_search.proofs.Pairing.{exact_after}
 
 pub returns-in-NoPoint-clause-step : goal.returns-in-NoPoint-clause-step
 returns-in-NoPoint-clause-step c =
-    follows c.args.draft.now c.loop-column.draft c.try_fixed.new.self c.loop-column.invariant.step c.try_fixed.ensures.step
+    exact_after c.args.draft.now c.loop-column.draft c.try_fixed.new.self c.loop-column.invariant.step c.try_fixed.ensures.step
 
 pub loop-column-preserved : goal.loop-column-preserved
 loop-column-preserved c = record {
-  step = follows c.args.draft.now c.loop-column.draft c.try_fixed.new.self c.loop-column.invariant.step c.try_fixed.ensures.step;
+  step = exact_after c.args.draft.now c.loop-column.draft c.try_fixed.new.self c.loop-column.invariant.step c.try_fixed.ensures.step;
   rows = c.try_fixed.ensures.rows ∙ c.loop-column.invariant.rows;
   columns = c.try_fixed.ensures.columns ∙ c.loop-column.invariant.columns;
 }

@@ -3,8 +3,8 @@ use Rattle.std.specs.Int.{w128}
 use Rattle.std.proofs.lemmas.Int.{to_z_pos}
 use Rattle.cip_rational.specs.Rational.{integer}
 use Rattle.cip_rational.specs.NumberText.{natural_text, fraction_text}
-use Rattle.cip_report.proofs.WritingLemmas.{whole_text}
 use Rattle.cip_report.proofs.writing.write_moves.Goals as goal
+use Rattle.cip_search.proofs.TraceTexts.{whole_text}
 
 pub returns-clause-taken : goal.returns-clause-taken
 returns-clause-taken g c =

@@ -1,7 +1,8 @@
 use Rattle.std.proofs.Common.{arith}
-use Rattle.cip_rows.proofs.IndexedRows.{no_such_id, other_default}
+use Rattle.cip_rows.proofs.IndexedRows.{no_such_id}
 use Rattle.cip_rows.proofs.index.place_of.Goals as goal
 use Rattle.cip_rows.proofs.index.place_of.Goals.{else-place-rows-via-then-place-rows+else-rows-place, else-place-rows-via-else-place-rows}
+use Rattle.cip_cert.proofs.Pools.{other_default}
 
 pub returns-else-place-rows : goal.returns-else-place-rows
 returns-else-place-rows c =

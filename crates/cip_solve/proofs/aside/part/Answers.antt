@@ -1,8 +1,9 @@
 use Rattle.std.proofs.Common.{◌≡◌, ◌∷◌, ◌∙◌, ◌≤◌, ap, arith, length, rules, vec_len}
 use Rattle.std.specs.Prelude.{not}
 use Rattle.std.specs.Vec.Iter.{drain_items}
-use Rattle.cip_solve.proofs.SetAside.{off_by, kept_more, kept_same, spent_more, spent_same, spent_all, whole_range}
+use Rattle.cip_solve.proofs.SetAside.{off_by, kept_more, kept_same, spent_more, spent_same, spent_all}
 use Rattle.cip_solve.proofs.aside.part.Goals as goal
+use Rattle.cip_roster.proofs.Moving.{whole_range}
 
 pub loop-plugin-preserved-then-is_one_of : goal.loop-plugin-preserved-then-is_one_of
 loop-plugin-preserved-then-is_one_of g c =

@@ -3,8 +3,9 @@ use Rattle.cip_plugin.specs.Calls.{Separate}
 use Rattle.cip_calls.proofs.PassedOn.{come_further}
 use Rattle.cip_calls.proofs.PassedOn.{cuts_not_sides, quiet_left}
 use Rattle.cip_calls.proofs.PassedOn.{accepted_open}
+use Rattle.cip_calls.proofs.Serving.{all_ok}
 use Rattle.cip_solve.proofs.Standing.{found_by, found_stays}
-use Rattle.cip_solve.proofs.Using.{all_ok, used_before}
+use Rattle.cip_solve.proofs.Using.{used_before}
 use Rattle.cip_solve.proofs.separating.cut_once.Goals as goal
 
 pub returns-in_err-came-clause-region : goal.returns-in_err-came-clause-region

@@ -1,11 +1,10 @@
 use Rattle.std.proofs.Common.{◌≡◌, ◌+◌, ◌<◌, ℤ, pos, List, length, get_or, drop, Ok, Err, to_z, of_z, rules, arith, sym, ap, ◌∙◌}
 use Rattle.std.specs.Int.{w128}
 use Rattle.std.proofs.Math.ListN.{drop_of_length-le}
-use Rattle.std.proofs.lemmas.List.{length-set}
+use Rattle.std.proofs.lemmas.List.{length-set, get_or_default}
 use Rattle.cip_rational.specs.Rational.{ℚ, zeroℚ}
 use Rattle.cip_problem.specs.Activity.{value_at}
 use Rattle.cip_cert.specs.declared.splits.FormTerm.{FormTerm}
-use Rattle.cip_cert.proofs.Pools.{same_default}
 use Rattle.cip_split.specs.SplitChecks.{whole_product_added, form_added}
 use Rattle.cip_split.proofs.SplitSteps.{term_added, term_fails}
 use Rattle.cip_split.proofs.form_sums.add_terms.Goals as goal
@@ -19,7 +18,7 @@ loop-term-preserved c =
     let term : FormTerm = get_or form at blank in
     let inside : term.col < length row = omega (arith, c.requires at blank c.loop-term-test.true, c.loop-term.invariant.columns) in
     let before : value_at row term.col ≡ c.index-entries-term.result =
-    same_default row term.col zeroℚ c.index-entries-term.result inside
+    get_or_default row term.col zeroℚ c.index-entries-term.result inside
     ∙ sym (c.index-entries-term.is ∙ ap (λ (es : List ℚ). get_or es term.col c.index-entries-term.result) c.entries.ensures.entries) in
     let coefficient : to_z w128 (of_z w128 term.coef) ≡ term.coef = search rules in
     let value : whole_product_added (value_at row term.col) c.args.factor term.coef ≡ Ok c.in-Ok.value =
@@ -40,7 +39,7 @@ returns-in-Err-clause-steps c =
     let term : FormTerm = get_or form at blank in
     let inside : term.col < length row = omega (arith, c.requires at blank c.loop-term-test.true, c.loop-term.invariant.columns) in
     let before : value_at row term.col ≡ c.index-entries-term.result =
-    same_default row term.col zeroℚ c.index-entries-term.result inside
+    get_or_default row term.col zeroℚ c.index-entries-term.result inside
     ∙ sym (c.index-entries-term.is ∙ ap (λ (es : List ℚ). get_or es term.col c.index-entries-term.result) c.entries.ensures.entries) in
     let coefficient : to_z w128 (of_z w128 term.coef) ≡ term.coef = search rules in
     let fault : whole_product_added (value_at row term.col) c.args.factor term.coef ≡ Err c.in-Err.fault =

@@ -4,7 +4,8 @@ use Rattle.cip_plugin.specs.declared.asking.Given.{Given}
 use Rattle.cip_plugin.specs.Calls.{Separate, Propagate, Search}
 use Rattle.cip_plugin.specs.declared.kinds.Kind.TheVariants as kinds
 use Rattle.cip_roster.proofs.Giving.{kind_seated, both_seated}
-use Rattle.cip_calls.proofs.Calling.{both_asked, one_asked, separators, propagators, heuristics, kind_run, both_run, same_run, either}
+use Rattle.cip_roster.proofs.Delivery.{ran_same}
+use Rattle.cip_calls.proofs.Calling.{both_asked, one_asked, separators, propagators, heuristics, kind_run, both_run, either}
 use Rattle.cip_calls.proofs.Serving.{then_ok}
 use Rattle.cip_calls.proofs.rosters.RosterAsks.ask_all.Goals as goal
 
@@ -36,4 +37,4 @@ pub returns-in-Points-clause-seated : goal.returns-in-Points-clause-seated
 returns-in-Points-clause-seated g c = then_ok {A = Vec (ℕ × Given) Global} {E = AllocError} c.call_heuristics.result _ _ c.call_heuristics.ensures.called (λ (gave : Vec (ℕ × Given) Global) h. kind_seated kinds.Heuristic Search _ _ gave.items h)
 
 pub returns-in-Points-clause-run : goal.returns-in-Points-clause-run
-returns-in-Points-clause-run g c = either {A = Vec (ℕ × Given) Global} {E = AllocError} c.call_heuristics.result _ _ _ c.call_heuristics.ensures.called c.call_heuristics.ensures.err (λ (gave : Vec (ℕ × Given) Global) h. kind_run kinds.Heuristic Search _ _ [] gave.items h) (λ same. same_run _ _ same)
+returns-in-Points-clause-run g c = either {A = Vec (ℕ × Given) Global} {E = AllocError} c.call_heuristics.result _ _ _ c.call_heuristics.ensures.called c.call_heuristics.ensures.err (λ (gave : Vec (ℕ × Given) Global) h. kind_run kinds.Heuristic Search _ _ [] gave.items h) (λ same. ran_same _ _ same)

@@ -1,15 +1,15 @@
 use Rattle.std.proofs.Common.{◌∙◌}
-use Rattle.cip_presolve.proofs.Ruled.{follows}
 use Rattle.cip_presolve.proofs.drafts.Draft.reduce_row.Goals as goal
+use Rattle.cip_search.proofs.Pairing.{exact_after}
 
 pub returns-in-Kept-clause-step : goal.returns-in-Kept-clause-step
 returns-in-Kept-clause-step c =
-    follows c.args.self.now c.clean_row.new.self c.try_single.new.self c.clean_row.ensures.step
-    (follows c.clean_row.new.self c.try_redundant.new.self c.try_single.new.self c.try_redundant.ensures.step c.try_single.ensures.step)
+    exact_after c.args.self.now c.clean_row.new.self c.try_single.new.self c.clean_row.ensures.step
+    (exact_after c.clean_row.new.self c.try_redundant.new.self c.try_single.new.self c.try_redundant.ensures.step c.try_single.ensures.step)
 
 pub returns-in_default : goal.returns-in_default
 returns-in_default c = record {
-  step = follows c.args.self.now c.clean_row.new.self c.try_redundant.new.self c.clean_row.ensures.step c.try_redundant.ensures.step;
+  step = exact_after c.args.self.now c.clean_row.new.self c.try_redundant.new.self c.clean_row.ensures.step c.try_redundant.ensures.step;
   end = c.try_redundant.ensures.end;
   rows = c.try_redundant.ensures.rows ∙ c.clean_row.ensures.rows;
 }

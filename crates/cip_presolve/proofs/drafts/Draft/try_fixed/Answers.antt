@@ -4,8 +4,8 @@ use Rattle.cip_problem.specs.Box.{sides_at}
 use Rattle.cip_presolve.specs.NarrowedPrograms.{with_cost}
 use Rattle.cip_presolve.specs.RowReading.{only_value}
 use Rattle.cip_presolve.proofs.Recosted.{recosted_by}
-use Rattle.cip_presolve.proofs.Ruled.{stays}
 use Rattle.cip_presolve.proofs.drafts.Draft.try_fixed.Goals as goal
+use Rattle.cip_search.proofs.Pairing.{exact_self}
 
 pub returns-in-Some-constant_with-clause-step : goal.returns-in-Some-constant_with-clause-step
 returns-in-Some-constant_with-clause-step c =
@@ -15,7 +15,7 @@ returns-in-Some-constant_with-clause-step c =
     (c.set_cost.ensures ∙ ap (λ z. with_cost c.args.self.now c.args.column z c.in-Some-constant_with.constant) c.zero.ensures)
 
 pub returns-in_default-clause-step : goal.returns-in_default-clause-step
-returns-in_default-clause-step c = stays c.args.self.now
+returns-in_default-clause-step c = exact_self c.args.self.now
 
 pub returns-in_default-clause-rows : goal.returns-in_default-clause-rows
 returns-in_default-clause-rows c = refl
@@ -24,7 +24,7 @@ pub returns-in_default-clause-columns : goal.returns-in_default-clause-columns
 returns-in_default-clause-columns c = refl
 
 pub returns-then-not-is_whole-clause-step : goal.returns-then-not-is_whole-clause-step
-returns-then-not-is_whole-clause-step c = stays c.args.self.now
+returns-then-not-is_whole-clause-step c = exact_self c.args.self.now
 
 pub returns-then-not-is_whole-clause-rows : goal.returns-then-not-is_whole-clause-rows
 returns-then-not-is_whole-clause-rows c = refl
@@ -33,7 +33,7 @@ pub returns-then-not-is_whole-clause-columns : goal.returns-then-not-is_whole-cl
 returns-then-not-is_whole-clause-columns c = refl
 
 pub returns-in-None-clause-step : goal.returns-in-None-clause-step
-returns-in-None-clause-step c = stays c.args.self.now
+returns-in-None-clause-step c = exact_self c.args.self.now
 
 pub returns-in-None-clause-rows : goal.returns-in-None-clause-rows
 returns-in-None-clause-rows c = refl

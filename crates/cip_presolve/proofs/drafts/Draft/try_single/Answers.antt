@@ -1,18 +1,19 @@
 use Rattle.std.proofs.Common.{length, refl, sym, ap, ◌∙◌, arith}
 use Rattle.cip_problem.specs.Program.{Program, no_row}
 use Rattle.cip_presolve.specs.NarrowedPrograms.{with_row}
-use Rattle.cip_presolve.proofs.Ruled.{stays}
-use Rattle.cip_presolve.proofs.Singled.{taken_by, count_same}
+use Rattle.cip_presolve.proofs.Singled.{taken_by}
+use Rattle.cip_presolve.proofs.Merged.{count_same}
 use Rattle.cip_presolve.proofs.drafts.Draft.try_single.Goals as goal
+use Rattle.cip_search.proofs.Pairing.{exact_self}
 
 pub returns-in_default-clause-step : goal.returns-in_default-clause-step
-returns-in_default-clause-step c = stays c.args.self.now
+returns-in_default-clause-step c = exact_self c.args.self.now
 
 pub returns-in_default-clause-rows : goal.returns-in_default-clause-rows
 returns-in_default-clause-rows c = refl
 
 pub returns-then-cross-clause-step : goal.returns-then-cross-clause-step
-returns-then-cross-clause-step c = stays c.args.self.now
+returns-then-cross-clause-step c = exact_self c.args.self.now
 
 pub returns-then-cross-clause-rows : goal.returns-then-cross-clause-rows
 returns-then-cross-clause-rows c = refl
@@ -21,7 +22,7 @@ pub returns-then-cross-clause-end : goal.returns-then-cross-clause-end
 returns-then-cross-clause-end c = c.in-Some.ensures.none (sym c.cross.ensures ∙ c.if-cross.true)
 
 pub returns-then-is_far-clause-step : goal.returns-then-is_far-clause-step
-returns-then-is_far-clause-step c = stays c.args.self.now
+returns-then-is_far-clause-step c = exact_self c.args.self.now
 
 pub returns-then-is_far-clause-rows : goal.returns-then-is_far-clause-rows
 returns-then-is_far-clause-rows c = refl

@@ -1,2 +1,0 @@
--- Lemmas of crates below, for those above.
-pub use Rattle.cip_core.proofs.Told.{told}

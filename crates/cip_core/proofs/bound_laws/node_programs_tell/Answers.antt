@@ -1,5 +1,0 @@
-use Rattle.cip_core.proofs.Told.{told}
-use Rattle.cip_core.proofs.bound_laws.node_programs_tell.Goals as goal
-
-pub returns : goal.returns
-returns c = told

@@ -1,1 +1,0 @@
--- Lemmas of crates below, for those above.

@@ -1,0 +1,5 @@
+pub mod Lists
+pub mod Rounding
+pub mod Solvable
+pub mod Solving
+pub mod Told

@@ -1,0 +1,11 @@
+use Rattle.std.proofs.Common.{◌++◌, map, sym, ap, ◌∙◌}
+use Rattle.std.proofs.lemmas.List.{append-nil}
+use Rattle.cip_cert.specs.declared.rows.PoolRow.{PoolRow}
+use Rattle.cip_relax.proofs.Lists.{map_map}
+use Rattle.cip_relax.proofs.rows.UsableRows.gather.Goals as goal
+
+pub returns-clause-rows : goal.returns-clause-rows
+returns-clause-rows c =
+    let all = sym (append-nil (map (λ kept. kept.now) c.loop-kept.yielded)) ∙ ap (λ l. map (λ kept. kept.now) c.loop-kept.yielded ++ l) (sym c.in-None.ensures.steps.0) ∙ c.loop-kept.invariant.told in
+    c.loop-kept.invariant.rows
+    ∙ sym (map_map (λ (kept : PoolRow). kept.row) (λ kept. kept.now) c.loop-kept.yielded) ∙ ap (map (λ (kept : PoolRow). kept.row)) all
