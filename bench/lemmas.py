@@ -19,7 +19,9 @@ EXAMPLES = re.compile(r"Tried|Examples|Small|examples")
 
 def files_of(top, kind):
     found = {}
-    for at, _, names in os.walk(top):
+    for at, folders, names in os.walk(top):
+        # what a build leaves
+        folders[:] = [folder for folder in folders if folder != "out"]
         for name in names if f"/{kind}" in at else []:
             if name.endswith((".rt", ".antt")):
                 with open(f"{at}/{name}") as file:
