@@ -128,13 +128,14 @@ def statements_in(text):
 
 
 def statements_of_std(folder):
-    """Each statement of std's lemmas, with a module that has it and its name there."""
+    """Each statement of the lemmas that std exports, with a module that has it and its name there."""
     found = {}
     for path, text in files_of(f"{folder}/std/proofs/lemmas", "proofs").items():
         module = "Rattle" + path.removeprefix(folder).removesuffix(".antt").replace("/", ".")
         for name, statement in statements_in(text):
-            found.setdefault(statement, (module, name))
-        for here, (other, its) in imports_of(text).items():
+            if re.search(rf"^pub {re.escape(name)} :", text, re.M):
+                found.setdefault(statement, (module, name))
+        for here, (other, its) in imports_of("\n".join(re.findall(r"^pub use .*", text, re.M))).items():
             source = f"{folder}/" + other.removeprefix("Rattle.").replace(".", "/") + ".antt"
             if other.startswith("Rattle.") and os.path.exists(source):
                 with open(source) as file:

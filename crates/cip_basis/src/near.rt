@@ -1,5 +1,5 @@
 //! A point of a linear program whose optimum isn't shown.
-ghost use Rattle.std.specs.Prelude.{◌≡◌, ◌≤◌, length, IfOk, IfSome};
+ghost use Rattle.std.specs.Prelude.{◌≡◌, length, IfOk, IfSome};
 ghost use Rattle.cip_rational.specs.Sums.{dot};
 ghost use Rattle.cip_problem.specs.LinearProgram.{IsPoint};
 ghost use Rattle.cip_basis.specs.Shown.{IsReady, program_of};

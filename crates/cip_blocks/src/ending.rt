@@ -1,5 +1,5 @@
 //! The end of a text of blocks.
-ghost use Rattle.std.specs.Prelude.{◌≡◌, ◌||◌, ◌<◌, ◌≤◌, map, not, vec_len, None, is_none, IfSome, IfOk};
+ghost use Rattle.std.specs.Prelude.{◌≡◌, ◌||◌, ◌<◌, ◌≤◌, map, not, None, is_none, IfSome, IfOk};
 ghost use Rattle.std.specs.List.{list_any};
 ghost use Rattle.cip_blocks.specs.WordPlaces.{block_of};
 

@@ -6,6 +6,7 @@ use Rattle.std.proofs.lemmas.List.Sums.{sum_by-cons}
 use Rattle.std.specs.List.{Contains}
 use Rattle.std.proofs.lemmas.List.Elements.{All-append, All-cons, Contains-append_left, Contains-append_right}
 use Rattle.std.proofs.lemmas.Option.{same_Some}
+use Rattle.std.proofs.lemmas.Result.{IfOk-weaker}
 use Rattle.cip_events.specs.declared.events.Event.{Event}
 use Rattle.cip_plugin.specs.Asking.{asks}
 use Rattle.cip_plugin.specs.Calls.{Ask, Separate, Propagate, Price, Search, Branch, Enforce, OnEvent, Answer, Call, Init, InitSolve, Asked, ExitSolve, Exit}
@@ -265,10 +266,6 @@ focus_used false events waits event a b h m none some used = told_last events wa
 
 -- ---- answers
 
-pub if_ok : {A E : Type 0} (r : Result A E) (P Q : A → Type 0) → ((x : A) → P x → Q x) → IfOk r P → IfOk r Q
-if_ok (Ok x) P Q so h = so x h
-if_ok (Err e) P Q so h = tt
-
 pub all_ok : {A E : Type 0} (r : Result A E) (P : A → Type 0) → ((x : A) → P x) → IfOk r P
 all_ok (Ok x) P h = h x
 all_ok (Err e) P h = tt
@@ -285,7 +282,7 @@ judged_open (Err error) id m n had has e h = tt
 
 -- the same, by what is known first
 pub then_ok : {A E : Type 0} (r : Result A E) (P Q : A → Type 0) → IfOk r P → ((x : A) → P x → Q x) → IfOk r Q
-then_ok r P Q h so = if_ok r P Q so h
+then_ok r P Q h so = IfOk-weaker r P Q so h
 
 pub on_ok : {A E : Type 0} (r : Result A E) (P Q : Type 0) → (P → Q) → OnOk r P → OnOk r Q
 on_ok (Ok x) P Q so h = so h

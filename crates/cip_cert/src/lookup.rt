@@ -1,5 +1,5 @@
 //! Rows by their names.
-ghost use Rattle.std.specs.Prelude.{◌≡◌, ◌≢◌, ℕ, ◌+◌, ◌<◌, ◌≤◌, length, slice_index_or, slice_get, Some, None, MatchOption};
+ghost use Rattle.std.specs.Prelude.{◌≡◌, ℕ, ◌+◌, ◌<◌, ◌≤◌, length, slice_index_or, slice_get, Some, None, MatchOption};
 ghost use Rattle.cip_cert.specs.declared.rows.PoolRow.{PoolRow};
 ghost use Rattle.cip_cert.specs.Pool.{AreRising, pool_row};
 

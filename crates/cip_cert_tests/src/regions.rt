@@ -1,5 +1,5 @@
 //! What trees are checked with, and trees.
-ghost use Rattle.std.specs.Prelude.{◌≡◌, ◌<◌, IsTrue, All};
+ghost use Rattle.std.specs.Prelude.{◌<◌, IsTrue, All};
 ghost use Rattle.cip_problem.specs.Activity.{StandsBelow};
 
 use cip_cert::{BoundTree, Rows, Scratch};

@@ -1,5 +1,5 @@
 //! What a search begins with.
-ghost use Rattle.std.specs.Prelude.{◌≡◌, [], None, IfOk, IfSome, MatchBool, length};
+ghost use Rattle.std.specs.Prelude.{◌≡◌, [], None, IfOk, IfSome, MatchBool};
 ghost use Rattle.cip_problem.specs.WellFormed.{columns};
 ghost use Rattle.cip_problem.specs.Cuts.{HasWholeCosts};
 ghost use Rattle.cip_problem.specs.Improving.{IsBoundIn};

@@ -1,5 +1,5 @@
 //! Nodes are taken up, and end without halves.
-ghost use Rattle.std.specs.Prelude.{◌≡◌, ◌++◌, ◌∷◌, [], false, MatchOption};
+ghost use Rattle.std.specs.Prelude.{◌≡◌, ◌∷◌, [], false, MatchOption};
 ghost use Rattle.cip_problem.specs.Log.{Closed, Parked, AllFollow, matters};
 ghost use Rattle.cip_problem.specs.Improving.{HasNoImproving};
 ghost use Rattle.cip_search.specs.Searched.{first_node};

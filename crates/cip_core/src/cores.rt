@@ -1,6 +1,5 @@
 //! The core of a search.
-ghost use Rattle.std.specs.Prelude.{◌≡◌, [], MatchOption};
-ghost use Rattle.std.specs.List.{All};
+ghost use Rattle.std.specs.Prelude.{◌≡◌};
 ghost use Rattle.cip_problem.specs.WellFormed.{IsWellFormed};
 ghost use Rattle.cip_rows.specs.RowPools.{IsSoundPool};
 ghost use Rattle.cip_tree.specs.Entries.{entries_of};

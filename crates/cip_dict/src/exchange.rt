@@ -1,5 +1,5 @@
 //! What an exchange writes, and how it is taken over.
-ghost use Rattle.std.specs.Prelude.{◌≡◌, ◌≢◌, ℕ, ◌<◌, ◌^◌, ◌++◌, true, false, length, Some, None, OnOk, MatchResult};
+ghost use Rattle.std.specs.Prelude.{◌≡◌, ◌≢◌, ℕ, ◌<◌, ◌^◌, true, false, length, Some, None, MatchResult};
 ghost use Rattle.cip_rational.specs.Rational.{zeroℚ, inverse, is_zero};
 ghost use Rattle.cip_problem.specs.Box.{sides_at};
 ghost use Rattle.cip_problem.specs.Activity.{value_at};

@@ -1,6 +1,6 @@
 //! The first state of a linear program.
-ghost use Rattle.std.specs.Prelude.{◌≡◌, ℕ, ◌+◌, ◌-◌, ◌<◌, ◌≤◌, ◌^◌, ◌++◌, [], length, Some, None, MatchResult, IfOk, OnOk, replicate, slice_set, slice_index_or, if◌then◌else◌};
-ghost use Rattle.cip_rational.specs.Rational.{zeroℚ, ◌+ℚ◌, ◌*ℚ◌};
+ghost use Rattle.std.specs.Prelude.{◌≡◌, ℕ, ◌+◌, ◌-◌, ◌<◌, ◌≤◌, ◌^◌, ◌++◌, length, Some, None, MatchResult, IfOk, OnOk, replicate, slice_set};
+ghost use Rattle.cip_rational.specs.Rational.{zeroℚ};
 ghost use Rattle.cip_problem.specs.Activity.{value_at};
 ghost use Rattle.cip_bland.specs.Tables.{table, each, form};
 ghost use Rattle.cip_bland.specs.FirstState.{first, first_stand, first_operations};

@@ -1,5 +1,5 @@
 //! Lists of the entries of a line that aren't 0, each with its variable, by rising variable.
-ghost use Rattle.std.specs.Prelude.{◌≡◌, ◌≢◌, ℕ, suc, ◌+◌, ◌^◌, ◌<◌, ◌≤◌, ◌==◌, ◌++◌, true, false, length, slice_index_or, OnOk, OnErr, if◌then◌else◌};
+ghost use Rattle.std.specs.Prelude.{◌≡◌, ℕ, suc, ◌+◌, ◌<◌, ◌≤◌, ◌==◌, ◌++◌, false, length, slice_index_or, OnOk, OnErr, if◌then◌else◌};
 ghost use Rattle.cip_rational.specs.Rational.{zeroℚ, is_zero};
 ghost use Rattle.cip_dict.specs.SparseLines.{Kept, entry_on, AreKept, kept_at, IsPlace, IsNext};
 

@@ -1,5 +1,5 @@
 //! The lines of a dictionary, entry by entry.
-ghost use Rattle.std.specs.Prelude.{◌≡◌, ◌==◌, ◌&&◌, not, ◌<◌, ◌≤◌, ◌^◌, ◌∷◌, ◌++◌, List, [], true, false, pos, neg_ℤ, unsigned_abs, length, Some, None, OnOk, OnErr, IfOk, MatchResult, if◌then◌else◌};
+ghost use Rattle.std.specs.Prelude.{◌≡◌, ◌==◌, ◌<◌, ◌^◌, ◌∷◌, ◌++◌, List, [], true, false, pos, neg_ℤ, unsigned_abs, length, Some, None, OnOk, OnErr, IfOk, MatchResult, if◌then◌else◌};
 ghost use Rattle.cip_rational.specs.Rational.{ℚ, inverse, ratio, is_zero};
 ghost use Rattle.cip_bland.specs.declared.places.Line as places;
 ghost use Rattle.cip_problem.specs.Activity.{value_at};

@@ -1,5 +1,5 @@
 //! Lists with something for each of some variables, by rising variable: fractions, or whole numbers.
-ghost use Rattle.std.specs.Prelude.{◌≡◌, ◌≢◌, ℕ, suc, ◌+◌, ◌^◌, ◌<◌, ◌≤◌, true, false, length, slice_index_or};
+ghost use Rattle.std.specs.Prelude.{◌≡◌, ◌≢◌, ℕ, ◌+◌, ◌^◌, ◌<◌, ◌≤◌, true, false, length, slice_index_or};
 ghost use Rattle.cip_dict.specs.SparseLines.{AreRising, IsPlace};
 
 /// The place of the first entry on a variable from k on, or the number of entries.

@@ -1,5 +1,5 @@
 //! Sums of whole numbers that fit 64 bits: written at once, and divided where they stand.
-ghost use Rattle.std.specs.Prelude.{◌≡◌, ℕ, ◌^◌, ◌*◌, ◌<◌, ◌≤◌, ◌++◌, true, length, OnOk, IfOk, IfSome};
+ghost use Rattle.std.specs.Prelude.{◌≡◌, ℕ, ◌^◌, ◌*◌, ◌<◌, ◌≤◌, true, length, IfOk, IfSome};
 ghost use Rattle.cip_rational.specs.Range.{magnitude};
 ghost use Rattle.cip_dict.specs.Pivots.{put_by};
 ghost use Rattle.cip_dict.specs.SparseLines.{AreKept};

@@ -1,5 +1,5 @@
 //! The rows of basic variables in an exchange.
-ghost use Rattle.std.specs.Prelude.{◌≡◌, ℕ, ◌<◌, ◌^◌, true, [], length, false, None, OnOk, IfOk, MatchResult, slice_index_or, if◌then◌else◌};
+ghost use Rattle.std.specs.Prelude.{◌≡◌, ◌<◌, ◌^◌, true, length, false, None, OnOk, IfOk, MatchResult, slice_index_or, if◌then◌else◌};
 ghost use Rattle.cip_problem.specs.Activity.{value_at};
 ghost use Rattle.cip_bland.specs.Tables.{table, each};
 ghost use Rattle.cip_bland.specs.Operations.{first_overflow};

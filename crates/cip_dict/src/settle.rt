@@ -1,5 +1,5 @@
 //! Lines of fractions that are kept as whole numbers over one denominator from then on.
-ghost use Rattle.std.specs.Prelude.{◌≡◌, ℕ, pos, ◌*◌, ◌^◌, ◌<◌, ◌*ℤ◌, true, length, IfSome, IfOk};
+ghost use Rattle.std.specs.Prelude.{◌≡◌, ℕ, pos, ◌*◌, ◌^◌, ◌<◌, ◌*ℤ◌, true, IfSome, IfOk};
 ghost use Rattle.cip_rational.specs.Rational.{ratio, numerator, denominator};
 ghost use Rattle.cip_rational.specs.Range.{magnitude};
 ghost use Rattle.cip_dict.specs.WholeLines.{over, AreBelow};

@@ -1,5 +1,5 @@
 //! Lists of whole numbers over one denominator, each with its variable, by rising variable.
-ghost use Rattle.std.specs.Prelude.{◌≡◌, ◌≢◌, ℕ, suc, pos, ◌+◌, ◌^◌, ◌<◌, ◌≤◌, ◌==◌, true, false, length, slice_index_or, OnOk, if◌then◌else◌};
+ghost use Rattle.std.specs.Prelude.{◌≡◌, ℕ, suc, ◌+◌, ◌^◌, ◌<◌, ◌≤◌, ◌==◌, length, slice_index_or, OnOk, if◌then◌else◌};
 ghost use Rattle.cip_rational.specs.Rational.{ratio};
 ghost use Rattle.cip_rational.specs.Range.{magnitude};
 ghost use Rattle.cip_dict.specs.SparseLines.{Kept, entry_on, AreKept, IsPlace, IsNext};

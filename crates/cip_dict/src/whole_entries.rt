@@ -1,5 +1,5 @@
 //! Entries that are put into a line of whole numbers, and the value of such a line.
-ghost use Rattle.std.specs.Prelude.{◌≡◌, ℕ, ◌+◌, ◌^◌, ◌<◌, ◌≤◌, ◌==◌, true, false, length, slice_index_or, Some, None, IfSome, IfOk, MatchResult, if◌then◌else◌};
+ghost use Rattle.std.specs.Prelude.{◌≡◌, ℕ, ◌+◌, ◌^◌, ◌<◌, ◌≤◌, ◌==◌, true, false, length, Some, None, IfSome, IfOk, MatchResult, if◌then◌else◌};
 ghost use Rattle.cip_rational.specs.Rational.{◌+ℚ◌, ◌*ℚ◌, ratio};
 ghost use Rattle.cip_rational.specs.Range.{magnitude};
 ghost use Rattle.cip_problem.specs.Activity.{value_at};

@@ -1,5 +1,5 @@
 //! Sums of whole numbers over one denominator.
-ghost use Rattle.std.specs.Prelude.{◌≡◌, ◌≢◌, ℕ, suc, pos, ◌+◌, ◌*◌, ◌^◌, ◌<◌, ◌≤◌, ◌==◌, ◌++◌, ◌∷◌, [], ◌+ℤ◌, ◌*ℤ◌, neg_ℤ, true, false, length, IfSome, OnOk, OnErr, IfOk, if◌then◌else◌};
+ghost use Rattle.std.specs.Prelude.{◌≡◌, ℕ, pos, ◌+◌, ◌*◌, ◌^◌, ◌<◌, ◌==◌, ◌++◌, ◌+ℤ◌, ◌*ℤ◌, neg_ℤ, true, false, length, IfSome, OnOk, IfOk, if◌then◌else◌};
 ghost use Rattle.cip_rational.specs.Range.{magnitude};
 ghost use Rattle.cip_dict.specs.Lists.{basic_in};
 ghost use Rattle.cip_dict.specs.Pivots.{absent_by, put_by};

@@ -1,5 +1,5 @@
 //! Rows of whole numbers that are turned round.
-ghost use Rattle.std.specs.Prelude.{◌≡◌, ◌≢◌, ℕ, pos, neg_ℤ, ◌^◌, ◌<◌, ◌==◌, ◌++◌, ◌∷◌, [], true, false, length, OnOk, if◌then◌else◌};
+ghost use Rattle.std.specs.Prelude.{◌≡◌, ℕ, pos, neg_ℤ, ◌^◌, ◌<◌, ◌==◌, ◌++◌, ◌∷◌, [], length, OnOk, if◌then◌else◌};
 ghost use Rattle.cip_rational.specs.Range.{magnitude};
 ghost use Rattle.cip_dict.specs.Pivots.{absent_by, turned_by};
 ghost use Rattle.cip_dict.specs.SparseLines.{AreKept};

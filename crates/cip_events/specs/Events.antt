@@ -1,5 +1,5 @@
 -- Events, and which kinds of them a mask wants.
-use Rattle.std.specs.Prelude.{◌≡◌, ℕ, ◌<◌, Bool, false, None, slice_index_or}
+use Rattle.std.specs.Prelude.{ℕ, Bool, false, None, slice_index_or}
 use Rattle.cip_events.specs.declared.events.EventKind.{EventKind}
 use Rattle.cip_events.specs.declared.events.EventKind.TheVariants.{NodeFocused, NodeFeasible, NodeInfeasible, NodeBranched, FirstLpSolved, LpSolved, BestSolFound, PoorSolFound, LbTightened, UbTightened, RowAdded, PluginIncluded, PluginFreed}
 use Rattle.cip_events.specs.declared.events.Event.{Event}

@@ -1,7 +1,7 @@
 // Arithmetic on integers below 2^127 in magnitude, so that -2^127 is left out.
 //
 // Each function first takes the short way for operands of 64 bits.
-ghost use Rattle.std.specs.Prelude.{◌≡◌, ℕ, ◌+◌, ◌*◌, ◌/◌, ◌<◌, ◌≤◌, ◌^◌, ◌↔◌, IsTrue, pos, ◌+ℤ◌, ◌*ℤ◌, unsigned_abs, int_div, SomeIff, IfSome};
+ghost use Rattle.std.specs.Prelude.{◌≡◌, ◌+◌, ◌*◌, ◌/◌, ◌<◌, ◌≤◌, ◌^◌, IsTrue, pos, ◌+ℤ◌, ◌*ℤ◌, unsigned_abs, int_div, SomeIff, IfSome};
 ghost use Rattle.std.specs.Int.{int_div_euclid};
 
 use crate::words::{short, whole_step, wide_product};

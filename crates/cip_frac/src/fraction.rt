@@ -1,6 +1,5 @@
 // Fractions in lowest terms.
-ghost use Rattle.std.specs.Prelude.{◌≡◌, ◌≢◌, ℕ, ℤ, ◌<◌, ◌≤◌, ◌^◌, ◌↔◌, IsTrue, pos, negsuc, neg_ℤ, unsigned_abs, IfSome, MatchResult, true, false, if◌then◌else◌};
-ghost use Rattle.std.specs.Int.{IsGcd};
+ghost use Rattle.std.specs.Prelude.{◌≡◌, ◌≢◌, ◌<◌, ◌≤◌, ◌^◌, ◌↔◌, IsTrue, pos, negsuc, neg_ℤ, unsigned_abs, IfSome, MatchResult, false, if◌then◌else◌};
 ghost use Rattle.cip_rational.specs.Rational.{ℚ, ◌<ℚ◌, negate, inverse, absolute, integer, ratio, zeroℚ, oneℚ, numerator, denominator, IsWhole, floor, ceil};
 ghost use Rattle.cip_rational.specs.Range.{largest, magnitude, fits_range};
 ghost use Rattle.cip_frac.specs.FractionFault.{quotient_of, IsFaultOf};

@@ -1,6 +1,6 @@
 // The greatest common divisor: over 64 bits by halving and differences, where both numbers fit, and above by
 // remainders until they do.
-ghost use Rattle.std.specs.Prelude.{◌≡◌, ℕ, ◌<◌, ◌^◌, ◌%◌};
+ghost use Rattle.std.specs.Prelude.{◌≡◌, ℕ, ◌<◌, ◌%◌};
 ghost use Rattle.std.specs.Int.{IsGcd};
 
 // Of two odd numbers: the difference is even, and its halves have the same common divisors with an odd number.

@@ -1,5 +1,5 @@
 // Sums, differences, products and quotients.
-ghost use Rattle.std.specs.Prelude.{◌≡◌, ◌≢◌, ℕ, ◌<◌, ◌^◌, true, false, ◌+ℤ◌, ◌*ℤ◌, unsigned_abs, IfSome, MatchOption, MatchResult};
+ghost use Rattle.std.specs.Prelude.{◌≡◌, ◌≢◌, ◌<◌, ◌^◌, true, false, ◌+ℤ◌, ◌*ℤ◌, unsigned_abs, IfSome, MatchOption, MatchResult};
 ghost use Rattle.cip_rational.specs.Rational.{◌+ℚ◌, ◌-ℚ◌, ◌*ℚ◌, inverse, ratio, zeroℚ};
 ghost use Rattle.cip_rational.specs.Range.{sum_overflows, difference_overflows, product_overflows, quotient_overflows};
 

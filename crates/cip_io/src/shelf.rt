@@ -1,5 +1,5 @@
 //! Names with their texts, and a place in one of them.
-ghost use Rattle.std.specs.Prelude.{◌≡◌, ◌<◌, ◌≤◌, ◌+◌, ◌^◌, [], min, length, take, drop, ◌++◌, OnOk, OnErr, MatchOption, MatchBool, Some, None};
+ghost use Rattle.std.specs.Prelude.{◌≡◌, ◌<◌, ◌≤◌, ◌+◌, ◌^◌, [], min, length, drop, OnOk, OnErr, MatchOption, MatchBool, Some, None};
 ghost use Rattle.cip_io.specs.Texts.{held, text_at};
 ghost use Rattle.cip_io.specs.Shelf.{named};
 ghost use Rattle.cip_io.specs.Store.{Comes};

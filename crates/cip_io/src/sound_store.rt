@@ -1,5 +1,5 @@
 //! Texts in memory, where no call fails.
-ghost use Rattle.std.specs.Prelude.{◌≡◌, ◌<◌, min, length, drop, OnOk, OnErr, IsOk, IfOk, IsOkAnd, Some};
+ghost use Rattle.std.specs.Prelude.{◌≡◌, ◌<◌, min, length, drop, OnOk, OnErr, IsOk, IfOk, Some};
 ghost use Rattle.cip_io.specs.Texts.{held_or_empty};
 ghost use Rattle.cip_io.specs.Store.{Comes};
 ghost use Rattle.cip_io.specs.States.{no_texts, with_text, with_left};

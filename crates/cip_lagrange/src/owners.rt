@@ -1,5 +1,5 @@
 //! Whose each column and each row is.
-ghost use Rattle.std.specs.Prelude.{◌≡◌, ◌<◌, ◌≤◌, length, replicate, All, IfSome, IfOk, None};
+ghost use Rattle.std.specs.Prelude.{◌≡◌, ◌<◌, ◌≤◌, length, replicate, IfOk, None};
 ghost use Rattle.cip_problem.specs.BlockParts.{most_blocks};
 ghost use Rattle.cip_problem.specs.BlockMeaning.{part_at};
 ghost use Rattle.cip_lagrange.specs.Owners.{marked, owned_below};

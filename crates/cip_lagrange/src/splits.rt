@@ -1,5 +1,5 @@
 //! Which splits can be made.
-ghost use Rattle.std.specs.Prelude.{◌≡◌, ◌<◌, ◌≤◌, ◌^◌, length, Some, None, Ok, Err, MatchResult};
+ghost use Rattle.std.specs.Prelude.{◌≡◌, ◌<◌, length, Some, None, Ok, Err, MatchResult};
 ghost use Rattle.cip_lagrange.specs.TreeOutcomes.{node_in, has_low, has_high, can_halve, can_split_at, can_split, split_fault};
 
 use crate::answers::TreeFault;

@@ -1,5 +1,5 @@
 //! The check of a tree.
-ghost use Rattle.std.specs.Prelude.{◌≡◌, ◌<◌, ◌≤◌, ◌^◌, ◌+◌, ◌*◌, true, length, None, Ok, Err, IfOk};
+ghost use Rattle.std.specs.Prelude.{◌≡◌, ◌<◌, ◌≤◌, ◌^◌, ◌+◌, ◌*◌, true, length, Ok, Err};
 ghost use Rattle.cip_rational.specs.Rational.{minimum};
 ghost use Rattle.cip_cert.specs.Lent.{lent_of, Fits};
 ghost use Rattle.cip_lagrange.specs.TreeOutcomes.{node_in, half_of, can_split, lesser_bound, bound_leaf, empty_leaf, tree_outcome};

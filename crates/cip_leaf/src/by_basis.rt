@@ -1,5 +1,5 @@
 //! What a basis that is guessed shows of a leaf.
-ghost use Rattle.std.specs.Prelude.{◌≡◌, IfOk, IfSome};
+ghost use Rattle.std.specs.Prelude.{IfOk, IfSome};
 ghost use Rattle.cip_problem.specs.WellFormed.{IsWellFormed};
 ghost use Rattle.cip_simplex.specs.LpShape.{IsSolvable};
 ghost use Rattle.cip_basis.specs.Shown.{IsShown};

@@ -1,5 +1,5 @@
 //! Where the first state of a linear program is out of range.
-ghost use Rattle.std.specs.Prelude.{◌≡◌, ℕ, ◌+◌, ◌<◌, ◌≤◌, ◌^◌, ◌++◌, length, map, true, IfOk};
+ghost use Rattle.std.specs.Prelude.{◌≡◌, ℕ, ◌+◌, ◌<◌, ◌^◌, ◌++◌, length, map, true, IfOk};
 ghost use Rattle.cip_problem.specs.RowTerms.{AreTerms};
 ghost use Rattle.cip_problem.specs.Multipliers.{row_sides};
 ghost use Rattle.cip_bland.specs.FirstState.{first_operations};

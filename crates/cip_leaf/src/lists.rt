@@ -1,5 +1,5 @@
 //! Lists by column: points put together, the new numbers of continuous columns, and their sides and costs.
-ghost use Rattle.std.specs.Prelude.{◌≡◌, ◌+◌, ◌≤◌, [], length, slice_get, IfOk};
+ghost use Rattle.std.specs.Prelude.{◌≡◌, ◌+◌, ◌≤◌, length, slice_get, IfOk};
 ghost use Rattle.cip_problem.specs.Activity.{value_at};
 ghost use Rattle.cip_problem.specs.Limits.{most_columns};
 ghost use Rattle.cip_search.specs.LeafProgram as program;

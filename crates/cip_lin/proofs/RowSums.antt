@@ -1,3 +1,2 @@
 -- Lemmas on `RowSums`.
 pub mod ActivityValue
-use Rattle.std.specs.Prelude.{[]}

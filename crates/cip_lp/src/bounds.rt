@@ -1,5 +1,5 @@
 //! Tokens of Bounds, Generals and Binaries.
-ghost use Rattle.std.specs.Prelude.{◌≡◌, ◌∷◌, [], IfOk, OnOk};
+ghost use Rattle.std.specs.Prelude.{◌≡◌, IfOk};
 ghost use Rattle.cip_text_rules.specs.LpPlaces as places;
 ghost use Rattle.cip_text_rules.specs.LpFacts.{facts_with};
 ghost use Rattle.cip_text_rules.specs.LpGrammar.{bound_read, bound_front, bound_set, bound_value, bound_related, limit_related, limit_in, with_limit, general_read, binary_read};

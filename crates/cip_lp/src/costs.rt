@@ -1,5 +1,5 @@
 //! Tokens of the objective.
-ghost use Rattle.std.specs.Prelude.{◌≡◌, None, IfOk};
+ghost use Rattle.std.specs.Prelude.{None, IfOk};
 ghost use Rattle.cip_text_rules.specs.LpPlaces as places;
 ghost use Rattle.cip_text_rules.specs.LpGrammar.{cost_read};
 ghost use Rattle.cip_lp.specs.LpLines.{token_shown};

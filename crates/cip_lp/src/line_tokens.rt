@@ -1,5 +1,5 @@
 //! The tokens of a line.
-ghost use Rattle.std.specs.Prelude.{◌≡◌, ◌∷◌, [], map, false, MatchOption, option_map, if◌then◌else◌};
+ghost use Rattle.std.specs.Prelude.{◌≡◌, ◌∷◌, [], false, MatchOption, option_map, if◌then◌else◌};
 ghost use lib.Chars.{codes};
 ghost use Rattle.cip_text_rules.specs.LpWords as text;
 ghost use Rattle.cip_text_rules.specs.LpTokens as tokens;

@@ -1,5 +1,5 @@
 //! Terms and numbers of forms, and values of rows.
-ghost use Rattle.std.specs.Prelude.{◌≡◌, ◌∷◌, [], None, Some, IfOk, OnOk, if◌then◌else◌, false};
+ghost use Rattle.std.specs.Prelude.{◌≡◌, None, Some, IfOk, OnOk, if◌then◌else◌, false};
 ghost use Rattle.cip_text_rules.specs.LpPlaces as places;
 ghost use Rattle.cip_text_rules.specs.LpPlaces.{AddsCost, Adds, Begins, says, moves};
 ghost use Rattle.cip_text_rules.specs.LpGrammar.{amount_in, with_number, row_ends};

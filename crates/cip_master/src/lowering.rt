@@ -1,5 +1,5 @@
 //! Prices, lowered to what held points come to.
-ghost use Rattle.std.specs.Prelude.{◌≡◌, ◌<◌, length, All, Ok, Err, MatchResult};
+ghost use Rattle.std.specs.Prelude.{◌≡◌, ◌<◌, length, Ok, Err, MatchResult};
 ghost use Rattle.cip_rational.specs.Rational.{minimum};
 ghost use Rattle.cip_problem.specs.WellFormed.{columns};
 ghost use Rattle.cip_master.specs.MasterTasks.{IsTask, task_of};

@@ -1,5 +1,5 @@
 //! What rows and costs come to at a point of a block.
-ghost use Rattle.std.specs.Prelude.{◌≡◌, ◌==◌, ◌<◌, None, Some, length, slice_index, slice_index_or, All, IfOk};
+ghost use Rattle.std.specs.Prelude.{◌≡◌, ◌==◌, ◌<◌, None, Some, length, slice_index_or, All, IfOk};
 ghost use Rattle.cip_rational.specs.Rational.{zeroℚ};
 ghost use Rattle.cip_rational.specs.Sums.{dot};
 ghost use Rattle.cip_frac.specs.Outcomes.{dot_from, product_added};

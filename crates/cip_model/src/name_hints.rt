@@ -1,7 +1,7 @@
 //! Names that stand one behind another in a list of bytes, and hints where a name may stand among them: a table of
 //! numbers by the fingerprints of names. A hint says nothing until the name at its number was compared, so no contract
 //! speaks of fingerprints, nor of the places of the table. A name whose number has over 17 bits has no hint.
-ghost use Rattle.std.specs.Prelude.{◌≡◌, ℕ, ◌<◌, Some, length, slice_get, slice_index, IfSome};
+ghost use Rattle.std.specs.Prelude.{◌≡◌, ◌<◌, Some, length, slice_get, IfSome};
 ghost use Rattle.cip_model.specs.Keys.{pieces_from, start_from, AreRising};
 
 use std::alloc::{AllocError, Global};

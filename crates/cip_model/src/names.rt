@@ -1,5 +1,5 @@
 //! Names and their numbers.
-ghost use Rattle.std.specs.Prelude.{◌≡◌, ℕ, ◌+◌, ◌<◌, ◌++◌, ◌∷◌, ◌↔◌, [], List, Some, None, IsTrue, length, vec_len, vec_capacity, slice_get, if◌then◌else◌, IfSome, IfOk, OnOk, OnErr, MatchResult};
+ghost use Rattle.std.specs.Prelude.{◌≡◌, ℕ, ◌+◌, ◌<◌, ◌++◌, ◌∷◌, ◌↔◌, [], List, Some, None, IsTrue, length, vec_len, vec_capacity, slice_get, IfSome, IfOk, OnOk, OnErr, MatchResult};
 ghost use Rattle.cip_problem.specs.Names.{number_of};
 ghost use Rattle.cip_model.specs.Keys.{AreRising};
 

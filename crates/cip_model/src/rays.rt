@@ -1,5 +1,5 @@
 //! The test of a ray beside a point.
-ghost use Rattle.std.specs.Prelude.{◌≡◌, ◌↔◌, ◌≤◌, ◌&&◌, ◌||◌, not, length, All, IsTrue};
+ghost use Rattle.std.specs.Prelude.{◌≡◌, ◌↔◌, ◌&&◌, ◌||◌, not, length, All, IsTrue};
 ghost use Rattle.cip_rational.specs.Rational.{zeroℚ, le_test, lt_test};
 ghost use Rattle.cip_problem.specs.Activity.{StandsBelow};
 ghost use Rattle.cip_problem.specs.WellFormed.{columns};

@@ -16,7 +16,7 @@ fn can_round(whole: bool, cost: Frac) -> bool
 }
 
 /// Whether costs are whole and, unless they are 0, stand on whole columns.
-fn are_whole(whole: &[bool], costs: &[Frac]) -> bool
+fn can_round_all(whole: &[bool], costs: &[Frac]) -> bool
     requires { length whole.now ≡ length costs.now }
     ensures { MatchBool result (CanRound whole.now costs.now) (¬ CanRound whole.now costs.now) }
 {
@@ -33,5 +33,5 @@ pub fn are_costs_whole(program: &Program) -> bool
     ensures { MatchBool result (HasWholeCosts program.now) (¬ HasWholeCosts program.now) }
 {
     let _columns = program.columns();
-    are_whole(program.whole(), program.costs()) && program.constant().is_whole()
+    can_round_all(program.whole(), program.costs()) && program.constant().is_whole()
 }

@@ -1,5 +1,5 @@
 //! What a line of COLUMNS adds.
-ghost use Rattle.std.specs.Prelude.{◌≡◌, ◌<◌, ◌≤◌, ◌+◌, ◌&&◌, not, nat_le, true, false, None, is_some, vec_len, IfSome, IfOk, OnOk, length, slice_index_or};
+ghost use Rattle.std.specs.Prelude.{◌≡◌, ◌<◌, ◌+◌, ◌&&◌, not, nat_le, true, false, None, is_some, vec_len, IfSome, IfOk, OnOk, length, slice_index_or};
 ghost use Rattle.cip_problem.specs.Limits.{most_columns};
 ghost use Rattle.cip_mps_lines.specs.MpsLines.{values_of};
 ghost use Rattle.cip_text_rules.specs.MpsWords.{number_in};

@@ -1,5 +1,5 @@
 //! What is kept of the lines of a text.
-ghost use Rattle.std.specs.Prelude.{◌≡◌, ◌≤◌, ℕ, length, vec_len, true};
+ghost use Rattle.std.specs.Prelude.{◌≡◌, ◌≤◌, length, vec_len, true};
 ghost use Rattle.std.specs.List.{filter, list_all};
 ghost use Rattle.cip_problem.specs.Limits.{most_rows, most_columns, most_entries};
 ghost use Rattle.cip_text_rules.specs.MpsState.{is_kept};

@@ -1,6 +1,6 @@
 //! The program that the lines of a text have said.
 ghost use Rattle.std.specs.Prelude.{◌≡◌, ◌≤◌, ◌<◌, true, false, length, map, slice_index_or, unwrap_or, ◌++◌, ◌∷◌, [], if◌then◌else◌, IfOk, OnOk, MatchOption};
-ghost use Rattle.std.specs.List.{filter, list_any};
+ghost use Rattle.std.specs.List.{filter};
 ghost use Rattle.cip_rational.specs.Rational.{negate};
 ghost use Rattle.cip_problem.specs.Limits.{most_columns};
 ghost use Rattle.cip_text_rules.specs.MpsWords.{is_in};

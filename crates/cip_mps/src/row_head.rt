@@ -1,5 +1,5 @@
 //! A row without its numbers.
-ghost use Rattle.std.specs.Prelude.{◌≡◌, true, false, None, Some, is_some};
+ghost use Rattle.std.specs.Prelude.{◌≡◌, false, None, Some, is_some};
 ghost use Rattle.cip_mps_lines.specs.MpsKinds.{row_kind_in};
 ghost use Rattle.cip_text_rules.specs.MpsProgram.{is_free};
 ghost use Rattle.cip_text_rules.specs.MpsState.{right_side_of};

@@ -1,5 +1,5 @@
 //! The numbers of a group, put into rows of the program.
-ghost use Rattle.std.specs.Prelude.{◌≡◌, ◌++◌, ◌∷◌, [], true, map, nat_lt, slice_index_or, OnOk};
+ghost use Rattle.std.specs.Prelude.{◌≡◌, ◌∷◌, [], true, map, nat_lt, slice_index_or, OnOk};
 ghost use Rattle.std.specs.List.{list_all};
 ghost use Rattle.cip_problem.specs.Program.{no_row};
 ghost use Rattle.cip_text_rules.specs.MpsState.{is_zero_value, terms_from};

@@ -1,5 +1,5 @@
 //! Section lines and lines of OBJSENSE.
-ghost use Rattle.std.specs.Prelude.{◌≡◌, ◌+◌, ◌==◌, ◌++◌, ◌∷◌, [], ℕ, List, Bool, None, nat_lt, length, map, is_none, not, OnOk};
+ghost use Rattle.std.specs.Prelude.{◌≡◌, ◌+◌, ◌==◌, ◌++◌, ◌∷◌, [], None, map, is_none, OnOk};
 ghost use Rattle.std.specs.List.{list_any};
 ghost use Rattle.cip_text.specs.TextLines.{fields_left};
 ghost use Rattle.cip_mps_lines.specs.MpsKinds.{part_of};

@@ -1,5 +1,5 @@
 //! The values of bounds.
-ghost use Rattle.std.specs.Prelude.{◌≡◌, pos, ◌^◌};
+ghost use Rattle.std.specs.Prelude.{◌≡◌};
 ghost use Rattle.cip_rational.specs.Numeral as text;
 ghost use Rattle.cip_text_rules.specs.MpsWords.{is_infinity, bound_number};
 ghost use Rattle.cip_text_rules.specs.MpsStepStatements.{is_far_value};

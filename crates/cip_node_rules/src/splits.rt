@@ -1,5 +1,5 @@
 //! Where a box is split.
-ghost use Rattle.std.specs.Prelude.{◌≡◌, ◌≤◌, ◌<◌, ◌^◌, ◌⊎◌, ◌+ℤ◌, ◌<ℤ◌, ◌≤ℤ◌, pos, true, length, unsigned_abs, IfSome, MatchOption, option_map};
+ghost use Rattle.std.specs.Prelude.{◌≡◌, ◌≤◌, ◌<◌, ◌+ℤ◌, ◌<ℤ◌, true, length, IfSome, MatchOption, option_map};
 ghost use Rattle.cip_rational.specs.Rational.{floor, ceil};
 ghost use Rattle.cip_rational.specs.Range.{magnitude, largest};
 ghost use Rattle.cip_problem.specs.Box.{two_wholes_between};

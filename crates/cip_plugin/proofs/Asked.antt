@@ -1,5 +1,5 @@
 -- What a plugin of a kind is asked for, where it is asked for something that its kind is asked for.
-use Rattle.std.proofs.Common.{◌≡◌, ℕ, true, refl}
+use Rattle.std.proofs.Common.{◌≡◌, true, refl}
 use Rattle.cip_plugin.specs.Asking.{ask_of, asks}
 use Rattle.cip_plugin.specs.declared.asking.Question.{Question}
 use Rattle.cip_plugin.specs.declared.asking.Question.TheVariants as questions

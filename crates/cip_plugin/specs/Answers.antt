@@ -13,7 +13,7 @@ use Rattle.cip_cert.specs.declared.pricing.BoundTree.{BoundTree}
 use Rattle.cip_cert.specs.declared.pricing.BoundTree as trees
 use Rattle.cip_cert.specs.declared.pricing.Priced.{Priced}
 use Rattle.cip_plugin.specs.Calls as calls
-use Rattle.cip_plugin.specs.Calls.{ToldSplit, ToldCut, ToldReduction, ToldTree, ToldPriced, ToldEnforced, Answer, Cuts, Reductions, Prices, Guesses, Splits, Says, Wishes, NoAnswer}
+use Rattle.cip_plugin.specs.Calls.{ToldSplit, ToldCut, ToldReduction, ToldTree, ToldEnforced, Answer, Cuts, Reductions, Prices, Guesses, Splits, Says, Wishes, NoAnswer}
 
 -- a split of a cut as it is told
 abbrev pub told_split : SplitCut → ToldSplit

@@ -102,7 +102,7 @@ enclosed_by program number row box extent g e h other k =
 
 pub ruleset enclosing = (enclosed_by)
 
--- it exact_self between the sides as bounds get stronger
+-- it stays between the sides as bounds get stronger
 pub stays_enclosed : (program changed : Program) (number : ℕ) (extent : Sides) → IsExactStep program changed → changed.rows ≡ program.rows → IsEnclosed program number extent → IsEnclosed changed number extent
 stays_enclosed program changed number extent s e h row g x w =
     h row (ap (λ (rows : List Row). slice_get rows number) (sym e) ∙ g) x (all_hold changed.bounds program.bounds x s.narrowed.inside w)

@@ -1,4 +1,4 @@
--- A substitution exact_self one while the program changes.
+-- A substitution stays one while the program changes.
 use Rattle.std.proofs.Common.{◌≡◌, ℕ, ◌<◌, List, length, slice_get, sym, ap, ◌∙◌, subst}
 use Rattle.cip_problem.specs.Program.{Choice, Sides, Row, Program}
 use Rattle.cip_problem.specs.Choices.{choice_at, is_open}

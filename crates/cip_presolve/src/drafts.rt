@@ -1,5 +1,5 @@
 //! A program in work: its parts without the names, which steps change in place.
-ghost use Rattle.std.specs.Prelude.{◌≡◌, ◌<◌, ◌≤◌, false, length, slice_get, Some, All};
+ghost use Rattle.std.specs.Prelude.{◌≡◌, ◌<◌, false, length, slice_get, Some};
 ghost use Rattle.cip_problem.specs.Activity.{StandsBelow};
 ghost use Rattle.cip_problem.specs.Choices.{choice_at, is_open};
 ghost use Rattle.cip_presolve.specs.NarrowedPrograms.{with_row, with_sides};

@@ -1,5 +1,5 @@
 //! The value of a column of an equality of two terms as a form of the other one's.
-ghost use Rattle.std.specs.Prelude.{◌≡◌, ◌∷◌, [], ◌<◌, ◌≢◌, length, IfSome};
+ghost use Rattle.std.specs.Prelude.{◌≡◌, ◌<◌, length, IfSome};
 ghost use Rattle.std.specs.Bool.{OnTrue};
 ghost use Rattle.cip_rational.specs.Rational.{zeroℚ, ◌*ℚ◌, inverse};
 ghost use Rattle.cip_presolve.specs.Equalities.{equality_form};

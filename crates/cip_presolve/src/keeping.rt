@@ -1,7 +1,7 @@
 //! Whether the sides of a form's source keep its value between others, and whole and in range.
-ghost use Rattle.std.specs.Prelude.{◌≡◌, true, IfSome, IfOk};
+ghost use Rattle.std.specs.Prelude.{◌≡◌, true, IfSome};
 ghost use Rattle.std.specs.Bool.{OnTrue};
-ghost use Rattle.cip_rational.specs.Rational.{ℚ, ◌+ℚ◌, ◌*ℚ◌, ◌≤ℚ◌, IsWhole};
+ghost use Rattle.cip_rational.specs.Rational.{ℚ, ◌+ℚ◌, ◌*ℚ◌, IsWhole};
 ghost use Rattle.cip_rational.specs.Range.{fits_range};
 ghost use Rattle.cip_presolve.specs.FormEnds.{FormKeeps, IsLeastOf, IsGreatestOf, FormAssigns};
 

@@ -1,6 +1,6 @@
 //! Dual fixing: columns that no row holds go to the side at which they cost least, and columns whose value is a form of
 //! one of these go with it.
-ghost use Rattle.std.specs.Prelude.{◌≡◌, ◌<◌, ◌^◌, ℕ, false, true, length, slice_get, slice_index_or};
+ghost use Rattle.std.specs.Prelude.{◌≡◌, ◌<◌, ◌^◌, ℕ, false, true, length, slice_get};
 ghost use Rattle.std.specs.Prelude.{None, Some, IfOk, IfSome};
 ghost use Rattle.std.specs.Bool.{OnTrue};
 ghost use Rattle.cip_rational.specs.Rational.{ℚ};

@@ -1,5 +1,5 @@
 //! The steps of presolve by an equality of two terms, each exact: the equality stays a row of the program.
-ghost use Rattle.std.specs.Prelude.{◌≡◌, ◌<◌, length, IfSome, IfOk};
+ghost use Rattle.std.specs.Prelude.{◌≡◌, ◌<◌, length, IfSome};
 ghost use Rattle.cip_presolve.specs.NarrowedPrograms.{IsExactStep};
 ghost use Rattle.cip_presolve.specs.RuleEnds.{EndsRightly};
 ghost use Rattle.cip_presolve.specs.Taken.{IsImplied};

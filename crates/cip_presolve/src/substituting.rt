@@ -1,5 +1,5 @@
 //! Columns are substituted by the forms that equalities of two terms give them, each row once.
-ghost use Rattle.std.specs.Prelude.{IfOk, IfSome, length, ◌<◌, ◌≤◌, ◌≡◌, ◌^◌};
+ghost use Rattle.std.specs.Prelude.{IfOk, IfSome, length, ◌<◌, ◌≤◌, ◌≡◌};
 ghost use Rattle.cip_problem.specs.Limits.{most_rows};
 ghost use Rattle.cip_search.specs.NarrowedPrograms.{IsExactStep};
 ghost use Rattle.cip_presolve.specs.ColumnForms.{IsSubstitute};

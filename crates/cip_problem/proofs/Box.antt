@@ -1,3 +1,2 @@
 -- Lemmas on `Box`.
 pub mod SideTests
-use Rattle.std.specs.Prelude.{[]}

@@ -1,3 +1,2 @@
 -- Lemmas on `BoxBound`.
 pub mod BelowCosts
-use Rattle.std.specs.Prelude.{[]}

@@ -1,4 +1,3 @@
 -- Lemmas on `Choices`.
 pub mod Decided
 pub mod Meeting
-use Rattle.std.specs.Prelude.{[]}

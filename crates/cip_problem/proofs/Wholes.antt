@@ -1,3 +1,2 @@
 -- Lemmas on `Wholes`.
 pub mod Counts
-use Rattle.std.specs.Prelude.{[]}

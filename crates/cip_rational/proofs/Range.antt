@@ -1,3 +1,2 @@
 -- Lemmas on `Range`.
 pub mod InRange
-use Rattle.std.specs.Prelude.{◌||◌}

@@ -17,21 +17,6 @@ pub struct NodeSolver {
     scratch: Option<Scratch>,
 }
 
-/// A scratch, if there is one, that has room for just so many columns, or else a new one. `Err` comes where memory was
-/// refused.
-fn fitted(kept: Option<Scratch>, alloc: Global, columns: usize) -> Result<Scratch, AllocError>
-    requires { columns ≤ most_columns }
-    ensures { IfOk result (λ scratch. length scratch.row.entries ≡ columns) }
-{
-    if let Some(scratch) = kept {
-        if scratch.row.entries().len() == columns {
-            return Ok(scratch);
-        }
-        drop(scratch);
-    }
-    Scratch::new(alloc, columns)
-}
-
 impl NodeSolver {
     /// As it begins; no memory is taken.
     pub fn new(alloc: Global) -> NodeSolver {
@@ -42,12 +27,19 @@ impl NodeSolver {
         }
     }
 
-    /// What checks over so many columns work in, taken out. `Err` comes where memory was refused.
+    /// What checks over just so many columns work in: what is kept, if it is that, or else new. `Err` comes where
+    /// memory was refused.
     pub(crate) fn room(&mut self, alloc: Global, columns: usize) -> Result<Scratch, AllocError>
         requires { columns ≤ most_columns }
         ensures { IfOk result (λ scratch. length scratch.row.entries ≡ columns) }
     {
-        fitted(self.scratch.take(), alloc, columns)
+        if let Some(scratch) = self.scratch.take() {
+            if scratch.row.entries().len() == columns {
+                return Ok(scratch);
+            }
+            drop(scratch);
+        }
+        Scratch::new(alloc, columns)
     }
 
     /// Keeps what checks work in for the next linear program.

@@ -1,5 +1,5 @@
 -- The rankings that are kept stay right, as long as nobody's readiness and priority change.
-use Rattle.std.proofs.Common.{◌≡◌, ℕ, ◌+◌, ◌*◌, ◌≤◌, List, [], ◌∷◌, map, Option, None, Some, Vec, Global, Bool, cond, sym, ◌∙◌, ap, subst, refl, arith, All}
+use Rattle.std.proofs.Common.{◌≡◌, ℕ, ◌+◌, ◌*◌, ◌≤◌, List, [], ◌∷◌, map, Option, None, Some, Vec, Global, Bool, cond, sym, ◌∙◌, ap, subst, refl, arith}
 use Rattle.std.specs.Prelude.{◌&&◌, ℤ, IfOk, IfSome, Result, Ok, Err}
 use Rattle.std.specs.List.Sorted.{IsPermutation, IsSorted}
 use Rattle.cip_plugin.specs.declared.kinds.Kind.{Kind}
@@ -7,7 +7,7 @@ use Rattle.cip_plugin.specs.declared.kinds.Kind.TheVariants as kinds
 use Rattle.cip_plugin.specs.declared.keys.Key.{Key}
 use Rattle.cip_plugin.specs.Calling.{is_ready, keys_from, same_kind}
 use Rattle.cip_plugin.specs.Ranks.{rank_order}
-use Rattle.cip_plugin.specs.Seats.{Seat, State, is_playing, is_settled, live_count, held_count}
+use Rattle.cip_plugin.specs.Seats.{Seat, State, is_playing, live_count, held_count}
 use Rattle.cip_roster.specs.declared.rankings.Rankings.{Rankings}
 use Rattle.cip_roster.specs.KeptRankings.{AreRanked, IsRanking, Room, no_rankings, ranking_of, with_ranking, without_ranking}
 use Rattle.cip_roster.specs.Turns.{IsSound}

@@ -1,5 +1,5 @@
 //! How a roster begins.
-ghost use Rattle.std.specs.Prelude.{◌≡◌, ◌+◌, ◌-◌, ◌++◌, ◌^◌, ◌<◌, ◌≤◌, ◌*◌, List, [], Bool, Some, All, length, map, IfOk, OnOk, OnErr, vec_len, vec_capacity};
+ghost use Rattle.std.specs.Prelude.{◌≡◌, ◌+◌, ◌-◌, ◌^◌, ◌<◌, ◌≤◌, ◌*◌, List, [], Bool, Some, All, length, map, IfOk, OnOk, OnErr, vec_len, vec_capacity};
 ghost use Rattle.cip_events.specs.Names.{shown_name};
 ghost use Rattle.cip_plugin.specs.Who.{Who};
 ghost use Rattle.cip_plugin.specs.Seats.{held_count};

@@ -1,5 +1,5 @@
 -- Terms made of coefficients, one after another.
-use Rattle.std.proofs.Common.{◌≡◌, ℕ, zero, suc, ◌+◌, ◌<◌, ◌≤◌, Bool, true, false, cond, List, [], ◌∷◌, ◌++◌, length, get_or, drop, refl, sym, ap, ◌∙◌, subst, arith, append_assoc, add-one, Some, None}
+use Rattle.std.proofs.Common.{◌≡◌, ℕ, zero, suc, ◌+◌, ◌<◌, Bool, true, false, cond, List, [], ◌∷◌, ◌++◌, length, get_or, drop, refl, sym, ap, ◌∙◌, subst, arith, append_assoc, add-one, Some, None}
 use Rattle.std.proofs.lemmas.List.{drop_more}
 use Rattle.cip_rational.specs.Rational.{ℚ, zeroℚ, is_zero}
 use Rattle.cip_problem.specs.Program.{Term, Row}

@@ -1,5 +1,5 @@
 //! The pool: it keeps rows with their scopes, finds equal ones, and lets the oldest go.
-ghost use Rattle.std.specs.Prelude.{◌≡◌, ◌<◌, ◌≤◌, ◌==◌, Bool, [], length, vec_len, vec_capacity, not, drop, ◌-◌, MatchOption, MatchResult, false, IsTrue, ◌↔◌};
+ghost use Rattle.std.specs.Prelude.{◌≡◌, ◌<◌, ◌==◌, Bool, [], length, vec_len, vec_capacity, not, drop, ◌-◌, MatchOption, MatchResult, false};
 ghost use Rattle.std.specs.List.{filter};
 ghost use Rattle.cip_problem.specs.Activity.{StandsBelow};
 ghost use Rattle.cip_problem.specs.Cuts.{row_of};

@@ -1,5 +1,5 @@
 //! The rows of a pool that may be used in a box.
-ghost use Rattle.std.specs.Prelude.{◌≡◌, length, All};
+ghost use Rattle.std.specs.Prelude.{◌≡◌};
 ghost use Rattle.std.specs.Iterator.{YieldsFirstRef, item_count};
 ghost use Rattle.cip_rows.specs.RowPools.{usable_in, HaveScopesLike};
 

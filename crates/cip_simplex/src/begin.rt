@@ -1,5 +1,5 @@
 //! The first state of a linear program.
-ghost use Rattle.std.specs.Prelude.{◌≡◌, ℕ, ◌<◌, ◌^◌, ◌++◌, length, map, None, IfOk, MatchResult};
+ghost use Rattle.std.specs.Prelude.{◌≡◌, ℕ, ◌<◌, ◌++◌, length, map, None, IfOk, MatchResult};
 ghost use Rattle.cip_problem.specs.RowTerms.{AreTerms};
 ghost use Rattle.cip_problem.specs.Multipliers.{row_sides};
 ghost use Rattle.cip_bland.specs.Operations.{first_overflow};

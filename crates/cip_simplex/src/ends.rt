@@ -1,5 +1,5 @@
 //! What the ends of a list of moves answer.
-ghost use Rattle.std.specs.Prelude.{◌≡◌, ◌+◌, ◌<◌, ◌≤◌, ◌^◌, true, length, IfOk};
+ghost use Rattle.std.specs.Prelude.{◌≡◌, ◌+◌, ◌<◌, ◌≤◌, ◌^◌, true, IfOk};
 ghost use Rattle.cip_bland.specs.Tables.{table};
 ghost use Rattle.cip_bland.specs.Dictionary as def;
 ghost use Rattle.cip_dict.specs.SparseLines.{kept_of, IsPlace};

@@ -1,5 +1,5 @@
 //! Steps by a rule that makes few moves.
-ghost use Rattle.std.specs.Prelude.{◌≡◌, ◌<◌, ◌^◌, IfOk, IfSome};
+ghost use Rattle.std.specs.Prelude.{◌<◌, ◌^◌, IfOk, IfSome};
 ghost use Rattle.cip_bland.specs.Dictionary as def;
 ghost use Rattle.cip_bland.specs.Exchange.{CanMove};
 ghost use Rattle.cip_bland.specs.Rule as rule;

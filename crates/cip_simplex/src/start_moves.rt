@@ -1,5 +1,5 @@
 //! The moves that lead from the first state to where a start wants the variables.
-ghost use Rattle.std.specs.Prelude.{◌≡◌, ◌≢◌, ◌<◌, ◌≤◌, ◌^◌, [], true, None, IfOk, length};
+ghost use Rattle.std.specs.Prelude.{◌≡◌, ◌<◌, ◌≤◌, ◌^◌, [], true, None, IfOk, length};
 ghost use Rattle.cip_bland.specs.Tables.{least};
 ghost use Rattle.cip_bland.specs.Dictionary as def;
 ghost use Rattle.cip_bland.specs.ProgramState.{first_of_program};

@@ -1,10 +1,8 @@
 -- The lives of the plugins that served in a search are whole.
-use Rattle.std.proofs.Common.{◌≡◌, ℕ, zero, suc, List, [], ◌∷◌, ◌++◌, map, Option, None, Some, Bool, true, false, refl, sym, ap, ◌∙◌, subst}
+use Rattle.std.proofs.Common.{◌≡◌, ℕ, zero, suc, List, [], ◌∷◌, ◌++◌, map, Some, true, false, refl, ap, ◌∙◌, subst}
 use Rattle.std.specs.Prelude.{slice_get}
 use Rattle.std.proofs.lemmas.Option.{none-some, same_Some}
-use Rattle.cip_events.specs.declared.traces.Trace.{Trace}
 use Rattle.cip_events.specs.declared.traces.TraceLine.{TraceLine}
-use Rattle.cip_problem.specs.Log.{Entry}
 use Rattle.cip_plugin.specs.Calls.{Call}
 use Rattle.cip_plugin.specs.Telling.{Heard}
 use Rattle.cip_plugin.specs.Who.{Who}
@@ -20,9 +18,7 @@ use Rattle.cip_roster.specs.Begun.{AreSeated, all_begin}
 use Rattle.cip_roster.specs.Closed.{backs, shelf_backs, all_end}
 use Rattle.cip_roster.proofs.Beginning.{begun_lives}
 use Rattle.cip_roster.proofs.Keeping.{at_place}
-use Rattle.cip_solve.specs.Kits.{Stock}
-use Rattle.cip_solve.specs.KitsServed.{HasServedKit}
-use Rattle.cip_solve.specs.WholeLives.{IsWholeLife, HasTold, HaveLived, LivesAreWhole}
+use Rattle.cip_solve.specs.WholeLives.{IsWholeLife, LivesAreWhole}
 
 -- lines are kept over a run, where they were
 run_kept : (steps : List Step) (a b : State) → Runs a steps b → b.kept ≡ a.kept

@@ -1,39 +1,23 @@
 -- Plugins are used by one part of the work on a node and the next.
-use Rattle.std.proofs.Common.{◌≡◌, ℕ, List, [], ◌∷◌, ◌++◌, All, Bool, true, false, Option, None, Some, Result, Ok, Err, refl, sym, subst, arith}
+use Rattle.std.proofs.Common.{◌≡◌, ℕ, List, [], ◌∷◌, ◌++◌, All, Bool, true, false, Option, None, Some, Result, Ok, Err, sym, subst}
 use Rattle.std.specs.Prelude.{IfOk, OnOk}
 use Rattle.cip_events.specs.Events.{event_at}
 use Rattle.cip_events.specs.declared.events.EventKind.TheVariants.{NodeFocused}
 use Rattle.cip_plugin.specs.Calls.{Ask, Branch, OnEvent}
 use Rattle.cip_plugin.specs.Seats.{State, is_settled}
-use Rattle.cip_plugin.specs.Steps.{calls_of}
 use Rattle.cip_calls.specs.declared.judged.Judged.{Judged}
 use Rattle.cip_plugin.specs.declared.proposals.Split.{Split}
 use Rattle.cip_node.specs.NodeEnds.{IsLeafEnd}
 use Rattle.cip_node.specs.declared.bounding.Found.{Found}
 use Rattle.cip_node.specs.declared.ends.NodeEnd.{NodeEnd}
 use Rattle.cip_node.specs.declared.ends.NodeEnd.TheVariants as by
-use Rattle.cip_calls.specs.Served.{handed_out, Used}
-use Rattle.cip_calls.proofs.PassedOn.{used_further, used_first}
+use Rattle.cip_calls.specs.Served.{Used}
+use Rattle.cip_calls.proofs.PassedOn.{used_further, used_first, used_none}
 use Rattle.cip_solve.specs.NodesReached.{asks_in_pass, IsUsedIn, IsUsedIf}
 use Rattle.cip_solve.specs.NodesDone.{asks_for_split, asks_until, IsUsedAt, IsEndUsed, IsDoneUsing}
 use Rattle.cip_solve.specs.declared.reached.Reached.{Reached}
 use Rattle.cip_solve.specs.declared.reached.Reached.TheVariants as stage
 use Rattle.cip_solve.specs.declared.ends.Done.{Done}
-
--- nobody is called
-pub used_none : (a : State) (h : List (ℕ × Judged)) → Used [] a h a h
-used_none a h = record {
-  steps = [];
-  run = refl;
-  each = λ id s u now later on.
-      let none : handed_out (calls_of id []) ≡ 0 = refl in
-      record { asked = λ i d within. absurd (omega (arith, within)); judged = omega (arith, none) };
-}
-
-pub used_silent : {X V : Type 0} (state : X → State) (items : V → List (ℕ × Judged)) (x y : X) (v w : V) → y ≡ x → w ≡ v → Used [] (state x) (items v) (state y) (items w)
-used_silent state items x y v w e f =
-    subst (λ z. Used [] (state x) (items v) (state z) (items w)) (sym e)
-    (subst (λ z. Used [] (state x) (items v) (state x) (items z)) (sym f) (used_none (state x) (items v)))
 
 -- nobody is called first
 pub used_behind : {X V : Type 0} (state : X → State) (items : V → List (ℕ × Judged)) (x y : X) (v w : V) (qs : List Ask) (c : State) (e : List (ℕ × Judged)) → y ≡ x → w ≡ v → Used qs (state y) (items w) c e → Used qs (state x) (items v) c e

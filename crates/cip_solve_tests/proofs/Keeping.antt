@@ -1,5 +1,5 @@
 -- A plugin that keeps its calls has room for the two last ones.
-use Rattle.std.proofs.Common.{◌≡◌, ℕ, ◌+◌, List, [], ◌∷◌, ◌++◌, map, ap, ◌∙◌}
+use Rattle.std.proofs.Common.{◌≡◌, ◌+◌, List, [], ◌∷◌, ◌++◌, map, ap, ◌∙◌}
 use Rattle.std.proofs.lemmas.List.{map-append}
 use Rattle.cip_plugin.specs.Telling.{endings}
 use Rattle.cip_plugin.proofs.Telling.{endings-append}

@@ -1,5 +1,5 @@
 //! A text is cut into lines, and a line into fields.
-ghost use Rattle.std.specs.Prelude.{◌≡◌, ◌==◌, ◌+◌, ◌<◌, ◌≤◌, ◌^◌, ◌∷◌, [], List, length, false, MatchOption, IfSome, option_map};
+ghost use Rattle.std.specs.Prelude.{◌≡◌, ◌==◌, ◌+◌, ◌<◌, ◌^◌, ◌∷◌, [], length, false, MatchOption, IfSome, option_map};
 ghost use Rattle.std.specs.List.{before_first, after_first, position_or_len};
 ghost use Rattle.cip_text_rules.specs.Lines as text;
 ghost use Rattle.cip_text.specs.LineStarts.{begins_blank};

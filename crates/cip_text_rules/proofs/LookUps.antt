@@ -1,6 +1,6 @@
 -- Look-ups by number stand for those by name, and a write at the number of a name for a change of what is mapped.
-use Rattle.std.proofs.Common.{◌≡◌, ℕ, suc, Bool, true, false, cond, ◌||◌, List, [], ◌∷◌, ◌++◌, length, map, Option, None, Some, refl, sym, ap, ◌∙◌}
-use Rattle.std.specs.Prelude.{is_some, ⊤}
+use Rattle.std.proofs.Common.{◌≡◌, ℕ, suc, Bool, true, false, not, cond, ◌||◌, List, [], ◌∷◌, ◌++◌, length, map, Option, None, Some, refl, sym, ap, ◌∙◌}
+use Rattle.std.specs.Prelude.{is_none, is_some, ⊤}
 use Rattle.std.specs.Str.{bytes_eq}
 use Rattle.std.specs.Option.{option_map}
 use Rattle.std.specs.List.{AllByRecursion}
@@ -21,6 +21,10 @@ all_weaker P Q f [] h = tt
 all_weaker P Q f (x ∷ xs) h = (f x h.0, all_weaker P Q f xs h.1)
 
 -- ---- names
+
+pub not_some : (o : Option ℕ) → not (is_some o) ≡ is_none o
+not_some None = refl
+not_some (Some k) = refl
 
 some_next : (o : Option ℕ) → is_some (next o) ≡ is_some o
 some_next None = refl

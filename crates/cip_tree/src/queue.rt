@@ -1,5 +1,5 @@
 //! The open nodes in the order in which they are taken: without a bound first, then of least bound, then of least id.
-ghost use Rattle.std.specs.Prelude.{◌≡◌, ◌+◌, ◌<◌, ◌≤◌, List, [], ◌∷◌, length, true, false, filter, All, IfOk, OnOk, MatchOption};
+ghost use Rattle.std.specs.Prelude.{◌≡◌, ◌+◌, ◌<◌, ◌≤◌, [], ◌∷◌, length, true, false, filter, All, IfOk, OnOk, MatchOption};
 ghost use Rattle.std.specs.List.Sorted.{IsPermutation};
 ghost use Rattle.std.specs.Ordering.{as_partial_cmp, eq_by_cmp};
 ghost use Rattle.cip_tree.specs.Queue.{order, order_total, order_equivalence, order_partial_equivalence, order_partial, IsFirst, is_below, bound_below, greater_bound};

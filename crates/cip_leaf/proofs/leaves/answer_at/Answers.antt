@@ -6,7 +6,7 @@ use Rattle.cip_simplex.specs.LpAnswers.{IsAnswer}
 use Rattle.cip_simplex.specs.LpShape.{IsSolvable}
 use Rattle.cip_search.specs.LeafProgram.{program_of_leaf}
 use Rattle.cip_search.proofs.Merged.{leaf_proper}
-use Rattle.cip_leaf.specs.LeafAnswers.{EndsInOptimum, EndsInRay, EndsOutOfRange}
+use Rattle.cip_leaf.specs.LeafAnswers.{EndsInOptimum, EndsOutOfRange}
 use Rattle.cip_leaf.proofs.Answered.{leaf_solvable, optimum_of, no_point_of, ray_of, moves_of, never_limit}
 use Rattle.cip_leaf.proofs.leaves.answer_at.Goals as goal
 

@@ -1,4 +1,4 @@
-use Rattle.std.proofs.Common.{◌≡◌, ◌∷◌, ◌∙◌, ◌≤◌, [], ◌++◌, Some, None, ap, arith, length, refl, sym, vec_len}
+use Rattle.std.proofs.Common.{◌≡◌, ◌∷◌, ◌∙◌, ◌≤◌, [], ◌++◌, ap, arith, length, refl, sym, vec_len}
 use Rattle.std.proofs.lemmas.List.{drop_all}
 use Rattle.std.specs.Vec.Iter.{drain_items, drain_kept, drain_lender}
 use Rattle.cip_roster.specs.Moved.{numbered}

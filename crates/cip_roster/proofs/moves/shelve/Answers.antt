@@ -1,4 +1,4 @@
-use Rattle.std.proofs.Common.{◌≡◌, ◌∷◌, ◌∙◌, ◌≤◌, Some, None, ap, arith, length, map, refl, sym, vec_len}
+use Rattle.std.proofs.Common.{◌≡◌, ◌∷◌, ◌∙◌, ◌≤◌, Some, ap, arith, length, map, refl, sym, vec_len}
 use Rattle.std.proofs.lemmas.List.{drop_all}
 use Rattle.std.specs.Vec.Iter.{drain_items, drain_kept, drain_lender}
 use Rattle.cip_roster.proofs.Moving.{moved_all, moved_one, whole_range}

@@ -1,4 +1,4 @@
-use Rattle.std.proofs.Common.{List, subst, sym, ◌∙◌}
+use Rattle.std.proofs.Common.{subst, sym}
 use Rattle.cip_plugin.specs.Seats.{State}
 use Rattle.cip_roster.specs.KeptRankings.{IsRanking}
 use Rattle.cip_roster.proofs.Ranking.{is_next}

@@ -4,7 +4,7 @@ use Rattle.cip_calls.specs.CoreStates.{CoreState, held_of}
 use Rattle.cip_plugin.specs.declared.proposals.Split.{Split}
 use Rattle.cip_calls.specs.SplitsJudged.{IsPlace}
 use Rattle.cip_calls.specs.Served.{Used}
-use Rattle.cip_calls.proofs.PassedOn.{if_ok}
+use Rattle.std.proofs.lemmas.Result.{IfOk-weaker}
 use Rattle.cip_calls.specs.Enforcing.{asked_of_rules}
 use Rattle.cip_solve.proofs.Coming.{ran_none}
 use Rattle.cip_solve.proofs.Using.{by_rule, by_plugin, by_bound}
@@ -32,7 +32,7 @@ returns-in-Err-clause-kept g c =
 
 pub returns-in-Ok-None-clause-used : goal.returns-in-Ok-None-clause-used
 returns-in-Ok-None-clause-used g c =
-    if_ok c.end_by_rule.result _ _
+    IfOk-weaker c.end_by_rule.result _ _
     (λ done none. by_rule done.proposed done.end _ _ _ _ none (subst (λ f. Used (asked_of_rules f) (g.R.Seated.state c.args.plugins.now.roster) c.args.plugins.now.judged.items (g.R.Seated.state c.ask_rules.new.plugins.roster) c.ask_rules.new.plugins.judged.items) c.in-Ok-None.field-0-is c.in-Ok-None.ensures.used))
     c.end_by_rule.ensures.proposed
 
@@ -45,7 +45,7 @@ end_parted-requires-clause-place g c = subst (λ (f : Option Split). IfSome f (�
 
 pub returns-in-Ok-Some-clause-used : goal.returns-in-Ok-Some-clause-used
 returns-in-Ok-Some-clause-used g c =
-    if_ok c.end_parted.result _ _
+    IfOk-weaker c.end_parted.result _ _
     (λ done some. by_plugin done.proposed done.end _ _ _ _ some (subst (λ f. Used (asked_of_rules f) (g.R.Seated.state c.args.plugins.now.roster) c.args.plugins.now.judged.items (g.R.Seated.state c.ask_rules.new.plugins.roster) c.ask_rules.new.plugins.judged.items) c.in-Ok-Some.field-0-is c.in-Ok-Some.ensures.used))
     c.end_parted.ensures.proposed
 

@@ -1,10 +1,11 @@
 use Rattle.std.proofs.Common.{refl, ap, subst}
 use Rattle.cip_calls.specs.CoreStates.{CoreState}
-use Rattle.cip_calls.proofs.PassedOn.{if_ok}
+use Rattle.cip_calls.proofs.PassedOn.{used_none}
+use Rattle.std.proofs.lemmas.Result.{IfOk-weaker}
 use Rattle.cip_solve.specs.NodesReached.{IsReached}
 use Rattle.cip_solve.proofs.Closing.{emptied_here}
 use Rattle.cip_solve.proofs.Coming.{ran_none}
-use Rattle.cip_solve.proofs.Using.{by_plugin, used_none, ends_empty, ends_leaf, ends_open, ends_place}
+use Rattle.cip_solve.proofs.Using.{by_plugin, ends_empty, ends_leaf, ends_open, ends_place}
 use Rattle.cip_solve.proofs.ending.finish.Goals as goal
 
 pub close_empty-requires-clause-empty : goal.close_empty-requires-clause-empty
@@ -40,7 +41,7 @@ end_parted-requires-clause-place g c =
 
 pub returns-in-Place-clause-used : goal.returns-in-Place-clause-used
 returns-in-Place-clause-used g c =
-    if_ok c.end_parted.result _ _
+    IfOk-weaker c.end_parted.result _ _
     (λ done some.
     ends_place _ c.in-Place.found c.in-Place.split done _ _ _ _ c.in-Place.is
     (by_plugin done.proposed done.end _ _ _ _ some (used_none (g.R.Seated.state c.args.plugins.now.roster) c.args.plugins.now.judged.items)))
@@ -55,8 +56,8 @@ returns-in-Empty-clause-used g c = ends_empty _ _ _ _ _ _ c.in-Empty.is tt
 
 pub returns-in-Leaf-clause-used : goal.returns-in-Leaf-clause-used
 returns-in-Leaf-clause-used g c =
-    if_ok c.end_as_leaf.result _ _ (λ done kind. ends_leaf _ done _ _ _ _ c.in-Leaf.is kind) c.end_as_leaf.ensures.kind
+    IfOk-weaker c.end_as_leaf.result _ _ (λ done kind. ends_leaf _ done _ _ _ _ c.in-Leaf.is kind) c.end_as_leaf.ensures.kind
 
 pub returns-in-Open-clause-used : goal.returns-in-Open-clause-used
 returns-in-Open-clause-used g c =
-    if_ok c.end_open.result _ _ (λ done used. ends_open _ c.in-Open.found done _ _ _ _ c.in-Open.is used) c.end_open.ensures.used
+    IfOk-weaker c.end_open.result _ _ (λ done used. ends_open _ c.in-Open.found done _ _ _ _ c.in-Open.is used) c.end_open.ensures.used

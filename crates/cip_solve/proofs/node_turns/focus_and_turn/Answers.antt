@@ -3,7 +3,7 @@ use Rattle.cip_events.specs.Events.{event_at}
 use Rattle.cip_events.specs.declared.events.EventKind.TheVariants.{NodeFocused}
 use Rattle.cip_plugin.specs.Calls.{OnEvent}
 use Rattle.cip_calls.proofs.PassedOn.{come_further}
-use Rattle.cip_calls.proofs.PassedOn.{if_ok}
+use Rattle.std.proofs.lemmas.Result.{IfOk-weaker}
 use Rattle.cip_solve.specs.NodesReached.{asks_in_pass}
 use Rattle.cip_solve.proofs.Coming.{come_told}
 use Rattle.cip_solve.proofs.Using.{in_further}
@@ -24,7 +24,7 @@ returns-clause-come g c =
 
 pub returns-clause-used : goal.returns-clause-used
 returns-clause-used g c =
-    if_ok c.go_in_turns.result _ _
+    IfOk-weaker c.go_in_turns.result _ _
     (λ reached used. in_further (OnEvent (event_at c.args.node.now.number NodeFocused) ∷ []) asks_in_pass reached _ _ _ _ _ _ c.focus.ensures.sound.settled c.in_ok-focus.ensures.used used)
     c.go_in_turns.ensures.used
 

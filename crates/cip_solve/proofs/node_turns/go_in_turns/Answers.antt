@@ -1,9 +1,9 @@
 use Rattle.std.proofs.Common.{[], subst}
-use Rattle.cip_calls.proofs.PassedOn.{come_further}
-use Rattle.cip_calls.proofs.PassedOn.{used_further, if_ok}
+use Rattle.std.proofs.lemmas.Result.{IfOk-weaker}
+use Rattle.cip_calls.proofs.PassedOn.{come_further, used_further, used_none}
 use Rattle.cip_solve.specs.NodesReached.{IsReachedIf, IsUsedIf, asks_in_pass}
 use Rattle.cip_solve.proofs.Coming.{come_none}
-use Rattle.cip_solve.proofs.Using.{used_none, in_further}
+use Rattle.cip_solve.proofs.Using.{in_further}
 use Rattle.cip_solve.proofs.node_turns.go_in_turns.Goals as goal
 
 pub loop-init : goal.loop-init
@@ -36,6 +36,6 @@ returns-clause-come g c = come_further _ _ _ _ _ _ _ _ _ _ _ _ _ c.loop.invarian
 
 pub returns-clause-used : goal.returns-clause-used
 returns-clause-used g c =
-    if_ok c.pass.result _ _
+    IfOk-weaker c.pass.result _ _
     (λ reached used. in_further [] asks_in_pass reached _ _ _ _ _ _ c.loop.invariant.come.sound.settled c.loop.invariant.used used)
     c.pass.ensures.used

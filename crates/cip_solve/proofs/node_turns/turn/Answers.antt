@@ -1,6 +1,6 @@
 use Rattle.std.proofs.Common.{subst}
 use Rattle.cip_calls.proofs.PassedOn.{come_further}
-use Rattle.cip_calls.proofs.PassedOn.{if_ok}
+use Rattle.std.proofs.lemmas.Result.{IfOk-weaker}
 use Rattle.cip_solve.specs.NodesReached.{IsReached, IsUsedIn, asks_in_pass}
 use Rattle.cip_solve.proofs.Using.{decided_used}
 use Rattle.cip_solve.proofs.node_turns.turn.Goals as goal
@@ -14,7 +14,7 @@ returns-in-Open-clause-come g c = come_further _ _ _ _ _ _ _ _ _ _ _ _ _ c.pass.
 pub returns-in-Open-clause-used : goal.returns-in-Open-clause-used
 returns-in-Open-clause-used g c =
     let first = subst (λ r. IsUsedIn asks_in_pass r (g.R.Seated.state c.args.plugins.now.roster) c.args.plugins.now.judged.items (g.R.Seated.state c.pass.new.plugins.roster) c.pass.new.plugins.judged.items) c.in-Open.is c.in_ok-found.ensures.used in
-    if_ok c.decide.result _ _
+    IfOk-weaker c.decide.result _ _
     (λ turned used. decided_used turned _ _ _ _ _ _ c.pass.ensures.come.sound.settled first used)
     c.decide.ensures.used
 

@@ -2,7 +2,7 @@ use Rattle.std.proofs.Common.{◌≢◌, ◌∷◌, [], ◌∙◌, sym, subst}
 use Rattle.cip_plugin.specs.Calls.{Propagate, Separate, Search}
 use Rattle.cip_node_rules.specs.declared.looks.Looked.TheVariants.{Empty, Open}
 use Rattle.cip_calls.proofs.PassedOn.{come_further}
-use Rattle.cip_calls.proofs.PassedOn.{if_ok}
+use Rattle.std.proofs.lemmas.Result.{IfOk-weaker}
 use Rattle.cip_solve.specs.NodesReached.{IsSeen}
 use Rattle.cip_solve.proofs.Using.{in_further}
 use Rattle.cip_solve.proofs.passes.pass.Goals as goal
@@ -25,6 +25,6 @@ open_not_empty e = cc
 pub returns-in-Open-clause-used : goal.returns-in-Open-clause-used
 returns-in-Open-clause-used g c =
     let first = c.in_ok-narrow.ensures.used (λ e. open_not_empty (sym c.in-Open.is ∙ e)) in
-    if_ok c.relax_and_improve.result _ _
+    IfOk-weaker c.relax_and_improve.result _ _
     (λ reached used. in_further (Propagate ∷ []) (Separate ∷ Search ∷ []) reached _ _ _ _ _ _ c.narrow.ensures.come.sound.settled first used)
     c.relax_and_improve.ensures.used

@@ -2,7 +2,7 @@ use Rattle.std.proofs.Common.{◌<◌, ◌^◌, refl, sym, subst, ap}
 use Rattle.std.specs.Prelude.{MatchResult}
 use Rattle.cip_calls.specs.CoreStates.{CoreState, IsGivenBound}
 use Rattle.cip_calls.specs.Steps.{IsBack}
-use Rattle.cip_calls.proofs.PassedOn.{if_ok}
+use Rattle.std.proofs.lemmas.Result.{IfOk-weaker}
 use Rattle.cip_solve.specs.NodesDone.{IsDone}
 use Rattle.cip_solve.proofs.Closing.{given_moved, done_or_back, back_moved, later_done, aged_further}
 use Rattle.cip_solve.proofs.Coming.{ran_none}
@@ -50,7 +50,7 @@ returns-in-Ok-clause-ended g c =
 
 pub returns-in-Ok-clause-used : goal.returns-in-Ok-clause-used
 returns-in-Ok-clause-used g c =
-    if_ok c.finish.result _ _
+    IfOk-weaker c.finish.result _ _
     (λ done used. used_done c.args.node.number c.in-Ok.reached done _ _ _ _ _ _ c.begin.ensures.kept.sound.settled c.in-Ok.ensures.used used)
     c.finish.ensures.used
 

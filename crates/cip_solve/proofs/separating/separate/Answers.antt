@@ -2,7 +2,7 @@ use Rattle.std.proofs.Common.{◌∷◌, [], ◌∙◌, subst}
 use Rattle.cip_plugin.specs.Calls.{Separate}
 use Rattle.cip_node.specs.Bounding.{IsBounded}
 use Rattle.cip_calls.proofs.PassedOn.{come_further}
-use Rattle.cip_calls.proofs.PassedOn.{if_ok}
+use Rattle.std.proofs.lemmas.Result.{IfOk-weaker}
 use Rattle.cip_solve.proofs.Using.{used_behind}
 use Rattle.cip_solve.proofs.separating.separate.Goals as goal
 
@@ -23,7 +23,7 @@ returns-in-Open-clause-region g c = c.cut.ensures.region ∙ c.solve_lp.ensures.
 
 pub returns-in-Open-clause-used : goal.returns-in-Open-clause-used
 returns-in-Open-clause-used g c =
-    if_ok c.cut.result _ _
+    IfOk-weaker c.cut.result _ _
     (λ bounded used still.
     used_behind (λ r. g.R.Seated.state r) (λ v. v.items) _ _ _ _ (Separate ∷ []) _ _ c.solve_lp.ensures.silent.0 c.solve_lp.ensures.silent.1 (used still))
     c.cut.ensures.used

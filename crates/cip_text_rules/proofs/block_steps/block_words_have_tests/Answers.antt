@@ -1,12 +1,8 @@
-use Rattle.std.proofs.Common.{◌≡◌, ℕ, not, cond, Option, None, Some, refl, ap}
-use Rattle.std.specs.Prelude.{is_none, is_some}
+use Rattle.std.proofs.Common.{ℕ, cond, Option, None, Some, refl, ap}
 use Rattle.cip_text_rules.specs.MpsWords.{number_in}
 use Rattle.cip_text_rules.specs.BlockSteps.{is_placed, row_place}
+use Rattle.cip_text_rules.proofs.LookUps.{not_some}
 use Rattle.cip_text_rules.proofs.block_steps.block_words_have_tests.Goals as goal
-
-not_some : (o : Option ℕ) → not (is_some o) ≡ is_none o
-not_some None = refl
-not_some (Some k) = refl
 
 pub returns : goal.returns
 returns c = record {

@@ -1,13 +1,10 @@
-use Rattle.std.proofs.Common.{◌≡◌, ℕ, not, Option, None, Some, refl, ap}
+use Rattle.std.proofs.Common.{None, Some, refl, ap}
 use Rattle.std.specs.Prelude.{is_none, is_some, if◌then◌else◌}
 use Rattle.cip_rational.specs.Numeral.{value_of}
 use Rattle.cip_text_rules.specs.MpsWords.{number_in}
 use Rattle.cip_text_rules.specs.PointSteps.{value_held}
+use Rattle.cip_text_rules.proofs.LookUps.{not_some}
 use Rattle.cip_text_rules.proofs.point_steps.point_lines_have_tests.Goals as goal
-
-not_some : (o : Option ℕ) → not (is_some o) ≡ is_none o
-not_some None = refl
-not_some (Some k) = refl
 
 pub returns : goal.returns
 returns c = record {

@@ -1,4 +1,5 @@
 use Rattle.std.proofs.Common.{◌≡◌, ◌≢◌, ◌∷◌, [], ◌++◌, ℕ, List, refl, sym, ap, ◌∙◌, subst}
+use Rattle.std.proofs.lemmas.Result.{IfOk-weaker}
 use Rattle.cip_plugin.specs.declared.asking.Given.{Given}
 use Rattle.cip_calls.specs.Asked.{ask_in, told, proposers, AreSeated}
 use Rattle.cip_calls.specs.Noted.{makers}
@@ -6,7 +7,7 @@ use Rattle.cip_calls.specs.Served.{Used}
 use Rattle.cip_calls.specs.declared.judging.Came.TheVariants.{Emptied}
 use Rattle.cip_calls.proofs.Noting.{come_called, come_gone}
 use Rattle.cip_calls.proofs.Pools.{node_none}
-use Rattle.cip_calls.proofs.Serving.{used_nobody, round_used, round_plain, if_ok}
+use Rattle.cip_calls.proofs.Serving.{used_nobody, round_used, round_plain}
 use Rattle.cip_calls.proofs.plugins.Plugins.ask_round.Goals as goal
 
 pub returns-then-has_none-clause-come : goal.returns-then-has_none-clause-come
@@ -42,7 +43,7 @@ returns-clause-used g c =
     let d = g.R.Seated.state c.take_all-came.new.self.roster in
     let had = c.args.self.now.judged.items in
     let has = c.take_all-came.new.self.judged.items in
-    if_ok c.take_all-came.result (λ came. came ≢ Emptied → makers has ≡ makers had ++ proposers ask (told c.as_slice.result.now)) (λ came. came ≢ Emptied → Used (ask ∷ []) a had d has)
+    IfOk-weaker c.take_all-came.result (λ came. came ≢ Emptied → makers has ≡ makers had ++ proposers ask (told c.as_slice.result.now)) (λ came. came ≢ Emptied → Used (ask ∷ []) a had d has)
     (λ came h other. round_used ask a b d (told c.in_ok-gave.gave.items) had has (round_plain c.args.round) c.ask_all.ensures.sound.settled c.in_ok-gave.ensures.asked c.take_all-came.ensures.gone.noted
     (h other ∙ ap (λ (l : List (ℕ × Given)). makers had ++ proposers ask (told l)) c.as_slice.ensures.value))
     c.take_all-came.ensures.judged

@@ -1,8 +1,7 @@
-use Rattle.std.proofs.Common.{◌≡◌, ℕ, ◌+◌, ◌<◌, List, [], ◌∷◌, ◌++◌, length, map, take, min, set, get_or, sym, ◌∙◌, ap, refl, arith, length-take, length-set}
+use Rattle.std.proofs.Common.{◌≡◌, ℕ, ◌+◌, ◌<◌, List, [], ◌∷◌, ◌++◌, length, map, take, min, set, get_or, sym, ◌∙◌, ap, refl, arith, length-set}
 use Rattle.std.proofs.lemmas.List.{take_more_set, map_more, take_min}
-use Rattle.std.proofs.lemmas.Grind.{common_steps}
 use Rattle.std.proofs.Math.Nat.{min_comm}
-use Rattle.cip_events.specs.Names.{shown_byte, shown_name}
+use Rattle.cip_events.specs.Names.{shown_byte}
 use Rattle.cip_events.proofs.names.Name.of.Goals as goal
 
 -- one byte more is shown

@@ -1,4 +1,4 @@
-use Rattle.std.proofs.Common.{◌≡◌, ◌∙◌, length, sym, ap}
+use Rattle.std.proofs.Common.{◌∙◌, length, sym, ap}
 use Rattle.cip_problem.specs.WellFormed.{columns}
 use Rattle.cip_rows.specs.RowPools.{Pool}
 use Rattle.cip_core.proofs.CoreSteps.{work_long}

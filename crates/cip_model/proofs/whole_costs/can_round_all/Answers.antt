@@ -2,7 +2,7 @@ use Rattle.std.proofs.Common.{false, get_or, sym, subst, arith}
 use Rattle.cip_rational.specs.Rational.{zeroℚ}
 use Rattle.cip_problem.specs.Cuts.{CanRoundAt}
 use Rattle.cip_problem.proofs.Zips.{zip_from, zip_at}
-use Rattle.cip_model.proofs.whole_costs.are_whole.Goals as goal
+use Rattle.cip_model.proofs.whole_costs.can_round_all.Goals as goal
 
 pub returns-then-not-can_round : goal.returns-then-not-can_round
 returns-then-not-can_round c = λ h.
