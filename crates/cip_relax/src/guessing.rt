@@ -1,9 +1,9 @@
 //! What a basis that is guessed shows of the linear program of a node.
-ghost use Rattle.std.specs.Prelude.{◌≡◌, ◌≤◌, ℕ, true, List, map, length, Option, IfOk, IfSome};
+ghost use Rattle.std.specs.Prelude.{◌≡◌, ◌≤◌, ℕ, true, List, map, length, None, IfOk, IfSome};
 ghost use Rattle.cip_rational.specs.Rational.{◌+ℚ◌, le_test};
 ghost use Rattle.cip_problem.specs.Choices.{greater};
 ghost use Rattle.cip_problem.specs.WellFormed.{columns};
-ghost use Rattle.cip_problem.specs.Program.{Sides, Row};
+ghost use Rattle.cip_problem.specs.Program.{Sides};
 ghost use Rattle.cip_problem.specs.LinearProgram.{IsPoint};
 ghost use Rattle.cip_cert.specs.Lent.{Lent};
 ghost use Rattle.cip_basis.specs.Shown.{IsReady, IsShown, program_of};
@@ -19,7 +19,6 @@ use cip_basis::{
 };
 use cip_cert::Scratch;
 use cip_frac::Frac;
-use cip_lin::Bounds;
 use cip_model::{Program, are_costs_whole};
 use cip_search::Stand;
 use cip_simplex::Start;
@@ -285,16 +284,16 @@ pub(crate) fn by_guess(
     basis: &mut Basis,
     program: &Program,
     usable: &UsableRows<'_>,
-    bounds: &Bounds,
     scratch: &mut Scratch,
 ) -> Result<Guessed, AllocError>
-    requires columns { length bounds.now ≡ columns program.now }
-    requires pool { length bounds.now ≡ usable.now.pool.now.columns }
-    requires others { map (λ row. row.now) usable.now.rows.items ≡ usable_rows bounds.now usable.now.pool.now.rows }
-    requires room { length bounds.now ≤ length scratch.old.row.entries }
-    ensures guessed { (cutoff : Option Row) → IfOk result (IsGuessed program.now
-        (record { own = program.now.rows; pool = usable.entry.now.pool.now.rows; cutoff = cutoff }) bounds.now
-        (length scratch.old.row.entries)) }
+    requires columns { length usable.now.bounds.now ≡ columns program.now }
+    requires pool { length usable.now.bounds.now ≡ usable.now.pool.now.columns }
+    requires others { map (λ row. row.now) usable.now.rows.items
+        ≡ usable_rows usable.now.bounds.now usable.now.pool.now.rows }
+    requires room { length usable.now.bounds.now ≤ length scratch.old.row.entries }
+    ensures guessed { IfOk result (IsGuessed program.now
+        (record { own = program.now.rows; pool = usable.entry.now.pool.now.rows; cutoff = None })
+        usable.entry.now.bounds.now (length scratch.old.row.entries)) }
     ensures room { length scratch.new.row.entries ≡ length scratch.old.row.entries }
 {
     let _columns = program.columns();
@@ -304,7 +303,7 @@ pub(crate) fn by_guess(
         ids: usable.ids.as_slice(),
         pool: usable.pool.rows(),
         whole: program.whole(),
-        bounds,
+        bounds: usable.bounds,
         costs: program.costs(),
     };
     let shown = show(alloc, basis, &problem, scratch)?;

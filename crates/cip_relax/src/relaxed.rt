@@ -8,7 +8,8 @@ ghost use Rattle.cip_search.specs.Relaxation.{relaxation};
 ghost use Rattle.cip_relax.specs.NodeRows.{usable_rows, usable_ids};
 ghost use Rattle.cip_relax.specs.Solving.{SaysRight};
 ghost use Rattle.cip_relax.specs.Relaxing.{node_program, IsCostFault, IsRelaxed};
-ghost use Rattle.cip_relax.specs.Relaxing.{IsOptimumFound, IsEmptinessFound};
+ghost use Rattle.cip_relax.specs.Relaxing.{IsEmptinessFound};
+ghost use Rattle.cip_relax.specs.declared.relaxed.Relaxed.TheVariants.{Unsolved};
 ghost use Rattle.cip_relax.specs.Guessing.{StandsBeside};
 
 use crate::asking::asked;
@@ -18,7 +19,7 @@ use crate::rows::UsableRows;
 use crate::solvers::NodeSolver;
 use cip_cert::{CutFault, FaultPlace, Rows, Scratch, empties, lower_bound};
 use cip_frac::Frac;
-use cip_lin::{Bounds, Combo, Row};
+use cip_lin::{Bounds, Combo};
 use cip_model::Program;
 use cip_rows::RowPool;
 use cip_search::Move;
@@ -66,26 +67,25 @@ pub enum Relaxed {
     },
 }
 
-/// Solves the linear program of a box over the rows of a program and others, which are those of a pool that may be used
-/// there.
+/// Solves the linear program of a box over the rows of a program and those of a pool that may be used there.
 fn solved(
     alloc: Global,
     solver: &mut Solver,
     program: &Program,
-    pool: &RowPool,
-    others: &[&Row],
-    bounds: &Bounds,
+    usable: &UsableRows<'_>,
     start: Option<&Start>,
 ) -> Result<(LpAnswer, Start), AllocError>
-    requires others { map (λ row. row.now) others.now ≡ usable_rows bounds.now pool.now.rows }
-    requires columns { length bounds.now ≡ columns program.now }
-    requires pool { length bounds.now ≡ pool.now.columns }
-    ensures { IfOk result
-        (λ solved. SaysRight (relaxation program.now (usable_rows bounds.now pool.now.rows) bounds.now) solved.0) }
+    requires others { map (λ row. row.now) usable.now.rows.items
+        ≡ usable_rows usable.now.bounds.now usable.now.pool.now.rows }
+    requires columns { length usable.now.bounds.now ≡ columns program.now }
+    requires pool { length usable.now.bounds.now ≡ usable.now.pool.now.columns }
+    ensures { IfOk result (λ solved. SaysRight (relaxation program.now
+        (usable_rows usable.now.bounds.now usable.now.pool.now.rows) usable.now.bounds.now) solved.0) }
 {
     let _columns = program.columns();
-    let _rows = pool.rows();
-    let lp = Lp::with_others(program.rows(), others, bounds, program.costs());
+    let _rows = usable.pool.rows();
+    let others = usable.rows.as_slice();
+    let lp = Lp::with_others(program.rows(), others, usable.bounds, program.costs());
     asked(alloc, solver, &lp, start)
 }
 
@@ -117,35 +117,14 @@ fn checked_cost(
     }
 }
 
-/// What an optimum comes to.
-fn of_optimum(
-    rows: &Rows<'_>,
-    program: &Program,
-    bounds: &Bounds,
-    point: Vec<Frac>,
-    combo: Combo,
-    cost: Frac,
-    scratch: &mut Scratch,
-) -> Relaxed
-    requires fits { Fits (length bounds.now) (lent_of rows.now) }
-    requires room { length bounds.now ≤ length scratch.old.row.entries }
-    requires columns { length bounds.now ≡ columns program.now }
-    requires found { IsOptimumFound program.now (lent_of rows.now) bounds.now point.items combo cost }
-    ensures relaxed { IsRelaxed program.now (lent_of rows.entry.now) bounds.now
-        (length scratch.old.row.entries) result }
-    ensures room { length scratch.new.row.entries ≡ length scratch.old.row.entries }
+/// What it comes to that the optimum isn't shown, and nothing stands beside the mark but a point, if there is one.
+fn unsolved(mark: Mark, point: Option<Vec<Frac>>) -> Relaxed
+    ensures { result ≡ Unsolved mark point None }
 {
-    match checked_cost(rows, program, bounds, &combo, cost, scratch) {
-        Ok(bound) => Relaxed::Bound {
-            point,
-            bound,
-            combo,
-        },
-        Err(fault) => Relaxed::Unsolved {
-            mark: Mark::Refused { combo, fault },
-            point: Some(point),
-            bound: None,
-        },
+    Relaxed::Unsolved {
+        mark,
+        point,
+        bound: None,
     }
 }
 
@@ -167,11 +146,7 @@ fn of_no_point(
 {
     match empties(rows, bounds, &combo, scratch) {
         Ok(()) => Relaxed::Empty,
-        Err(fault) => Relaxed::Unsolved {
-            mark: Mark::Refused { combo, fault },
-            point: None,
-            bound: None,
-        },
+        Err(fault) => unsolved(Mark::Refused { combo, fault }, None),
     }
 }
 
@@ -201,23 +176,22 @@ fn judged(
             cost,
         } => {
             name_combo(own, ids, &mut combo);
-            of_optimum(rows, program, bounds, point, combo, cost, scratch)
+            match checked_cost(rows, program, bounds, &combo, cost, scratch) {
+                Ok(bound) => Relaxed::Bound {
+                    point,
+                    bound,
+                    combo,
+                },
+                Err(fault) => unsolved(Mark::Refused { combo, fault }, Some(point)),
+            }
         }
         LpAnswer::Infeasible { mut combo } => {
             name_combo(own, ids, &mut combo);
             of_no_point(rows, program, bounds, combo, scratch)
         }
         LpAnswer::Unbounded { point, ray: _ } => Relaxed::Falls { point },
-        LpAnswer::Wide { moves } => Relaxed::Unsolved {
-            mark: Mark::Wide { moves },
-            point: None,
-            bound: None,
-        },
-        LpAnswer::Limit => Relaxed::Unsolved {
-            mark: Mark::Limit,
-            point: None,
-            bound: None,
-        },
+        LpAnswer::Wide { moves } => unsolved(Mark::Wide { moves }, None),
+        LpAnswer::Limit => unsolved(Mark::Limit, None),
     }
 }
 
@@ -225,18 +199,17 @@ fn judged(
 fn judged_over(
     program: &Program,
     usable: &UsableRows<'_>,
-    bounds: &Bounds,
     found: LpAnswer,
     scratch: &mut Scratch,
 ) -> Relaxed
-    requires columns { length bounds.now ≡ columns program.now }
-    requires pool { length bounds.now ≡ usable.now.pool.now.columns }
-    requires room { length bounds.now ≤ length scratch.old.row.entries }
-    requires ids { usable.now.ids.items ≡ usable_ids bounds.now usable.now.pool.now.rows }
-    requires solved { SaysRight (relaxation program.now (usable_rows bounds.now usable.now.pool.now.rows) bounds.now)
-        found }
+    requires columns { length usable.now.bounds.now ≡ columns program.now }
+    requires pool { length usable.now.bounds.now ≡ usable.now.pool.now.columns }
+    requires room { length usable.now.bounds.now ≤ length scratch.old.row.entries }
+    requires ids { usable.now.ids.items ≡ usable_ids usable.now.bounds.now usable.now.pool.now.rows }
+    requires solved { SaysRight (relaxation program.now
+        (usable_rows usable.now.bounds.now usable.now.pool.now.rows) usable.now.bounds.now) found }
     ensures relaxed { IsRelaxed program.now
-        (record { own = program.now.rows; pool = usable.now.pool.now.rows; cutoff = None }) bounds.now
+        (record { own = program.now.rows; pool = usable.now.pool.now.rows; cutoff = None }) usable.now.bounds.now
         (length scratch.old.row.entries) result }
     ensures room { length scratch.new.row.entries ≡ length scratch.old.row.entries }
 {
@@ -251,7 +224,7 @@ fn judged_over(
         &lent,
         program,
         usable.ids.as_slice(),
-        bounds,
+        usable.bounds,
         found,
         scratch,
     )
@@ -299,52 +272,67 @@ fn with_start(
     }
 }
 
-/// Solves the linear program of a node, with room for what checks work in. `Err` comes where memory was refused.
+/// Solves the linear program of a node, over the rows of the pool that may be used in its box, with room for what checks
+/// work in. `Err` comes where memory was refused.
 fn relaxed_in(
     alloc: Global,
     program: &Program,
-    pool: &RowPool,
-    bounds: &Bounds,
+    usable: &UsableRows<'_>,
     start: Option<&Start>,
     solver: &mut NodeSolver,
     scratch: &mut Scratch,
 ) -> Result<(Relaxed, Start), AllocError>
-    requires columns { length bounds.now ≡ columns program.now }
-    requires pool { length bounds.now ≡ pool.now.columns }
-    requires room { length bounds.now ≤ length scratch.old.row.entries }
+    requires columns { length usable.now.bounds.now ≡ columns program.now }
+    requires pool { length usable.now.bounds.now ≡ usable.now.pool.now.columns }
+    requires others { map (λ row. row.now) usable.now.rows.items
+        ≡ usable_rows usable.now.bounds.now usable.now.pool.now.rows }
+    requires ids { usable.now.ids.items ≡ usable_ids usable.now.bounds.now usable.now.pool.now.rows }
+    requires room { length usable.now.bounds.now ≤ length scratch.old.row.entries }
     ensures relaxed { IfOk result (λ solved. IsRelaxed program.now
-        (record { own = program.now.rows; pool = pool.now.rows; cutoff = None }) bounds.now
+        (record { own = program.now.rows; pool = usable.now.pool.now.rows; cutoff = None }) usable.now.bounds.now
         (length scratch.old.row.entries) solved.0) }
     ensures room { length scratch.new.row.entries ≡ length scratch.old.row.entries }
 {
-    let columns = program.columns();
-    let usable = UsableRows::gather(alloc, pool, bounds)?;
-    let basis = &mut solver.basis;
-    let beside = match by_guess(alloc, basis, program, &usable, bounds, scratch) {
-        Err(error) => {
-            drop(usable);
-            return Err(error);
-        }
-        Ok(Guessed::Shown(relaxed)) => {
-            let variables = columns + program.rows().len() + usable.rows.len();
-            drop(usable);
+    let beside = match by_guess(alloc, &mut solver.basis, program, usable, scratch)? {
+        Guessed::Shown(relaxed) => {
+            let variables = program.columns() + program.rows().len() + usable.rows.len();
             return with_start(relaxed, start_at(alloc, &solver.basis, variables));
         }
-        Ok(Guessed::Beside(beside)) => beside,
+        Guessed::Beside(beside) => beside,
     };
-    let others = usable.rows.as_slice();
-    let list = &mut solver.solver;
-    let (found, last) = match solved(alloc, list, program, pool, others, bounds, start) {
+    match solved(alloc, &mut solver.solver, program, usable, start) {
         Err(error) => {
-            drop(usable);
             drop(beside);
-            return Err(error);
+            Err(error)
         }
-        Ok(found) => found,
-    };
-    let relaxed = judged_over(program, &usable, bounds, found, scratch);
-    drop(usable);
-    Ok((with_beside(relaxed, beside), last))
+        Ok((found, last)) => {
+            let relaxed = judged_over(program, usable, found, scratch);
+            Ok((with_beside(relaxed, beside), last))
+        }
+    }
+}
+
+/// The same with what the solver keeps for checks to work in.
+fn relaxed_over(
+    alloc: Global,
+    program: &Program,
+    usable: &UsableRows<'_>,
+    start: Option<&Start>,
+    solver: &mut NodeSolver,
+) -> Result<(Relaxed, Start), AllocError>
+    requires columns { length usable.now.bounds.now ≡ columns program.now }
+    requires pool { length usable.now.bounds.now ≡ usable.now.pool.now.columns }
+    requires others { map (λ row. row.now) usable.now.rows.items
+        ≡ usable_rows usable.now.bounds.now usable.now.pool.now.rows }
+    requires ids { usable.now.ids.items ≡ usable_ids usable.now.bounds.now usable.now.pool.now.rows }
+    ensures { IfOk result (λ solved. IsRelaxed program.now
+        (record { own = program.now.rows; pool = usable.now.pool.now.rows; cutoff = None }) usable.now.bounds.now
+        (columns program.now) solved.0) }
+{
+    let mut scratch = solver.room(alloc, program.columns())?;
+    let relaxed = relaxed_in(alloc, program, usable, start, solver, &mut scratch);
+    solver.keep(scratch);
+    relaxed
 }
 
 /// Solves the linear program of a node over the rows of the program and those of the pool that may be used in its
@@ -373,8 +361,8 @@ pub fn relax_from(
         (record { own = program.now.rows; pool = pool.now.rows; cutoff = None }) bounds.now
         (columns program.now) solved.0) }
 {
-    let mut scratch = solver.room(alloc, program.columns())?;
-    let relaxed = relaxed_in(alloc, program, pool, bounds, start, solver, &mut scratch);
-    solver.keep(scratch);
+    let usable = UsableRows::gather(alloc, pool, bounds)?;
+    let relaxed = relaxed_over(alloc, program, &usable, start, solver);
+    drop(usable);
     relaxed
 }

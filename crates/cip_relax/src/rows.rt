@@ -6,7 +6,7 @@ use cip_lin::{Bounds, Row};
 use cip_rows::RowPool;
 use std::alloc::{AllocError, Global};
 
-/// The rows of a pool that may be used in a box, which are lent, and their ids; beside them the pool.
+/// The rows of a pool that may be used in a box, which are lent, and their ids; beside them the pool and the box.
 #[derive(Drop)]
 pub(crate) struct UsableRows<'a> {
     /// The rows.
@@ -15,6 +15,8 @@ pub(crate) struct UsableRows<'a> {
     pub(crate) ids: Vec<u64>,
     /// The pool.
     pub(crate) pool: &'a RowPool,
+    /// The box.
+    pub(crate) bounds: &'a Bounds,
 }
 
 impl<'a> UsableRows<'a> {
@@ -30,6 +32,7 @@ impl<'a> UsableRows<'a> {
             (λ usable. map (λ row. row.now) usable.rows.items ≡ usable_rows bounds.now pool.now.rows) }
         ensures ids { IfOk result (λ usable. usable.ids.items ≡ usable_ids bounds.now pool.now.rows) }
         ensures pool { IfOk result (λ usable. usable.pool.now ≡ pool.now) }
+        ensures bounds { IfOk result (λ usable. usable.bounds.now ≡ bounds.now) }
     {
         let mut rows = Vec::new(alloc);
         let mut ids = Vec::new(alloc);
@@ -37,6 +40,11 @@ impl<'a> UsableRows<'a> {
             rows.push(&kept.row)?;
             ids.push(kept.id)?;
         }
-        Ok(UsableRows { rows, ids, pool })
+        Ok(UsableRows {
+            rows,
+            ids,
+            pool,
+            bounds,
+        })
     }
 }

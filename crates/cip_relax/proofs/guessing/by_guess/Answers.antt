@@ -1,4 +1,4 @@
-use Rattle.std.proofs.Common.{map, length, ap, ◌∙◌}
+use Rattle.std.proofs.Common.{map, length, None, ap, ◌∙◌}
 use Rattle.std.specs.Borrow.{Bor}
 use Rattle.cip_problem.specs.Program.{Row}
 use Rattle.cip_cert.specs.Lent.{Lent}
@@ -6,10 +6,10 @@ use Rattle.cip_relax.proofs.Rounding.{same_program}
 use Rattle.cip_relax.proofs.guessing.by_guess.Goals as goal
 
 pub returns-in-Beside-clause-guessed : goal.returns-in-Beside-clause-guessed
-returns-in-Beside-clause-guessed c = λ cutoff.
+returns-in-Beside-clause-guessed c =
     let program = c.args.program.now in
-    let box = c.args.bounds.now in
-    let lent : Lent = record { own = program.rows; pool = c.args.usable.now.pool.now.rows; cutoff = cutoff } in
+    let box = c.args.usable.now.bounds.now in
+    let lent : Lent = record { own = program.rows; pool = c.args.usable.now.pool.now.rows; cutoff = None } in
     let others = ap (λ rows. map (λ (row : Bor Row). row.now) rows) c.as_slice.ensures.value ∙ c.requires.others in
     let same = same_program program lent box c.rows.result.now c.as_slice.result.now c.costs.result.now c.rows.ensures.rows others c.costs.ensures.costs in
     let columns = length c.args.scratch.now.row.entries in
@@ -17,10 +17,10 @@ returns-in-Beside-clause-guessed c = λ cutoff.
     c.guessed_anew.ensures.guessed lent box columns same beside
 
 pub returns-in-Shown-clause-guessed : goal.returns-in-Shown-clause-guessed
-returns-in-Shown-clause-guessed c = λ cutoff.
+returns-in-Shown-clause-guessed c =
     let program = c.args.program.now in
-    let box = c.args.bounds.now in
-    let lent : Lent = record { own = program.rows; pool = c.args.usable.now.pool.now.rows; cutoff = cutoff } in
+    let box = c.args.usable.now.bounds.now in
+    let lent : Lent = record { own = program.rows; pool = c.args.usable.now.pool.now.rows; cutoff = None } in
     let others = ap (λ rows. map (λ (row : Bor Row). row.now) rows) c.as_slice.ensures.value ∙ c.requires.others in
     let same = same_program program lent box c.rows.result.now c.as_slice.result.now c.costs.result.now c.rows.ensures.rows others c.costs.ensures.costs in
     rw c.in-Shown.is at (c.in_ok-beside.ensures.guessed lent box (length c.args.scratch.now.row.entries) same)
