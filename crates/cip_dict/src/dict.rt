@@ -17,7 +17,7 @@ use crate::first::{System, all_sides, first_lists, first_stands};
 use crate::flip::{plan_flip, take_flip};
 use crate::lists::{Lists, Room};
 use crate::pivots::Exchange;
-use crate::spare::Spare;
+use crate::spare::{Spare, keep};
 use cip_bland::Stand;
 use cip_frac::Frac;
 use cip_lin::Sides;
@@ -102,17 +102,17 @@ impl Dict {
 
     /// Keeps the lists, so that the next dictionary can be made of them.
     pub fn give_back(self, spare: &mut Spare) {
-        spare.keep_sides(self.sides);
-        spare.keep_stands(self.standing);
+        keep(&mut spare.sides, self.sides);
+        keep(&mut spare.stands, self.standing);
         spare.keep_forms(self.lists.rows);
         spare.keep_form(self.lists.costs);
-        spare.keep_numbers(self.lists.values);
+        keep(&mut spare.numbers, self.lists.values);
         spare.keep_form(self.room.entering);
         spare.keep_scratch(self.room.scratch);
         spare.keep_forms(self.room.rows);
         spare.keep_form(self.room.costs);
-        spare.keep_numbers(self.room.values);
-        spare.keep_marks(self.room.changed);
+        keep(&mut spare.numbers, self.room.values);
+        keep(&mut spare.marks, self.room.changed);
     }
 
     /// The number of variables. And the state is consistent: rows stand on nonbasic variables alone, and the values are

@@ -16,7 +16,7 @@ use crate::forms::{Form, room_of};
 use crate::lines::is_basic;
 use crate::lists::{Lists, Room, Scratch, Spelled};
 use crate::settle::settle_lists;
-use crate::spare::Spare;
+use crate::spare::{Spare, emptied, keep};
 use cip_bland::{Line, Stand};
 use cip_frac::Frac;
 use cip_lin::Sides;
@@ -63,7 +63,7 @@ pub(crate) fn first_stands(
 ) -> Result<Vec<Option<Stand>>, AllocError>
     ensures { IfOk result (λ standing. standing.items ≡ table n (stand_in columns.now)) }
 {
-    let mut standing = spare.stands(alloc);
+    let mut standing = emptied(alloc, &mut spare.stands);
     for v in 0..n {
         let Ok(()) = standing.push(stand_of(columns, v)) else {
             drop(standing);
@@ -94,7 +94,7 @@ fn empty_rows(
     ensures { IfOk result (λ rows. rows.items
         ≡ table (length standing.now) (λ v. replicate (row_length standing.now v) zeroℚ)) }
 {
-    let mut rows = spare.forms(alloc);
+    let mut rows = emptied(alloc, &mut spare.forms);
     for v in 0..standing.len() {
         let row = empty_row(alloc, spare, standing, v);
         let Ok(()) = rows.push(row) else {
@@ -169,7 +169,7 @@ fn column_values(
 ) -> Result<Vec<Frac>, AllocError>
     ensures { IfOk result (λ values. values.items ≡ table (length columns.now) (column_value columns.now)) }
 {
-    let mut values = spare.numbers(alloc);
+    let mut values = emptied(alloc, &mut spare.numbers);
     for k in 0..columns.len() {
         let Ok(()) = values.push(column_at(columns, k)) else {
             drop(values);
@@ -300,7 +300,7 @@ fn all_values(
     let begun = at.as_slice();
     let mut values = spare.copy_of(alloc, begun)?;
     let found = rows_and_cost(columns.len(), m, rows, costs, begun, &mut values);
-    spare.keep_numbers(at);
+    keep(&mut spare.numbers, at);
     match found {
         Ok(cost) => Ok((values, cost)),
         Err(fault) => Err(fault),
@@ -316,7 +316,7 @@ pub(crate) fn all_sides(
 ) -> Result<Vec<Sides>, AllocError>
     ensures { IfOk result (λ sides. sides.items ≡ columns.now ++ rows.now) }
 {
-    let mut sides = spare.sides(alloc);
+    let mut sides = emptied(alloc, &mut spare.sides);
     sides.extend_from_slice(columns)?;
     sides.extend_from_slice(rows)?;
     Ok(sides)

@@ -16,15 +16,31 @@ const MOST_SPARE: usize = 1 << 21;
 /// they held is of no account.
 #[derive(Drop)]
 pub struct Spare {
-    numbers: Vec<Vec<Frac>>,
+    pub(crate) numbers: Vec<Vec<Frac>>,
     entries: Vec<Vec<(u32, Frac)>>,
     wholes: Vec<Vec<(u32, i64)>>,
     /// How many entries those lists have room for, and at most `usize::MAX`.
     room: usize,
-    forms: Vec<Vec<Form>>,
-    stands: Vec<Vec<Option<Stand>>>,
-    sides: Vec<Vec<Sides>>,
-    marks: Vec<Vec<bool>>,
+    pub(crate) forms: Vec<Vec<Form>>,
+    pub(crate) stands: Vec<Vec<Option<Stand>>>,
+    pub(crate) sides: Vec<Vec<Sides>>,
+    pub(crate) marks: Vec<Vec<bool>>,
+}
+
+/// An empty list: one of these that are kept, or a new one.
+pub(crate) fn emptied<T: Drop>(alloc: Global, kept: &mut Vec<Vec<T>>) -> Vec<T>
+    ensures { result.items ≡ [] }
+{
+    let Some(mut list) = kept.pop() else {
+        return Vec::new(alloc);
+    };
+    list.clear();
+    list
+}
+
+/// Keeps a list; lets it go where no room was given for it.
+pub(crate) fn keep<T: Drop>(kept: &mut Vec<Vec<T>>, list: Vec<T>) {
+    let _kept = kept.push(list).is_ok();
 }
 
 impl Spare {
@@ -42,22 +58,11 @@ impl Spare {
         }
     }
 
-    /// An empty list of numbers.
-    pub(crate) fn numbers(&mut self, alloc: Global) -> Vec<Frac>
-        ensures { result.items ≡ [] }
-    {
-        let Some(mut list) = self.numbers.pop() else {
-            return Vec::new(alloc);
-        };
-        list.clear();
-        list
-    }
-
     /// So many zeros; `Err` where the memory was refused.
     pub(crate) fn zeros(&mut self, alloc: Global, n: usize) -> Result<Vec<Frac>, AllocError>
         ensures { IfOk result (λ numbers. numbers.items ≡ replicate n zeroℚ) }
     {
-        let mut numbers = self.numbers(alloc);
+        let mut numbers = emptied(alloc, &mut self.numbers);
         numbers.resize(n, Frac::zero())?;
         Ok(numbers)
     }
@@ -70,7 +75,7 @@ impl Spare {
     ) -> Result<Vec<Frac>, AllocError>
         ensures { IfOk result (λ copy. copy.items ≡ numbers.now) }
     {
-        let mut copy = self.numbers(alloc);
+        let mut copy = emptied(alloc, &mut self.numbers);
         copy.extend_from_slice(numbers)?;
         Ok(copy)
     }
@@ -79,11 +84,8 @@ impl Spare {
     pub(crate) fn entries(&mut self, alloc: Global) -> Vec<(u32, Frac)>
         ensures { result.items ≡ [] }
     {
-        let Some(mut list) = self.entries.pop() else {
-            return Vec::new(alloc);
-        };
+        let list = emptied(alloc, &mut self.entries);
         self.room = self.room.saturating_sub(list.capacity());
-        list.clear();
         list
     }
 
@@ -91,44 +93,8 @@ impl Spare {
     pub(crate) fn wholes(&mut self, alloc: Global) -> Vec<(u32, i64)>
         ensures { result.items ≡ [] }
     {
-        let Some(mut list) = self.wholes.pop() else {
-            return Vec::new(alloc);
-        };
+        let list = emptied(alloc, &mut self.wholes);
         self.room = self.room.saturating_sub(list.capacity());
-        list.clear();
-        list
-    }
-
-    /// An empty list of lines.
-    pub(crate) fn forms(&mut self, alloc: Global) -> Vec<Form>
-        ensures { result.items ≡ [] }
-    {
-        let Some(mut list) = self.forms.pop() else {
-            return Vec::new(alloc);
-        };
-        list.clear();
-        list
-    }
-
-    /// An empty list of places where variables stand.
-    pub(crate) fn stands(&mut self, alloc: Global) -> Vec<Option<Stand>>
-        ensures { result.items ≡ [] }
-    {
-        let Some(mut list) = self.stands.pop() else {
-            return Vec::new(alloc);
-        };
-        list.clear();
-        list
-    }
-
-    /// An empty list of marks.
-    fn no_marks(&mut self, alloc: Global) -> Vec<bool>
-        ensures { result.items ≡ [] }
-    {
-        let Some(mut list) = self.marks.pop() else {
-            return Vec::new(alloc);
-        };
-        list.clear();
         list
     }
 
@@ -136,25 +102,9 @@ impl Spare {
     pub(crate) fn marks(&mut self, alloc: Global, n: usize) -> Result<Vec<bool>, AllocError>
         ensures { IfOk result (λ marks. marks.items ≡ replicate n false) }
     {
-        let mut marks = self.no_marks(alloc);
+        let mut marks = emptied(alloc, &mut self.marks);
         marks.resize(n, false)?;
         Ok(marks)
-    }
-
-    /// An empty list of sides.
-    pub(crate) fn sides(&mut self, alloc: Global) -> Vec<Sides>
-        ensures { result.items ≡ [] }
-    {
-        let Some(mut list) = self.sides.pop() else {
-            return Vec::new(alloc);
-        };
-        list.clear();
-        list
-    }
-
-    /// Keeps a list of numbers; lets it go where no room was given for it.
-    pub(crate) fn keep_numbers(&mut self, list: Vec<Frac>) {
-        let _kept = self.numbers.push(list).is_ok();
     }
 
     /// Keeps a list of lines and the list of entries of each that has some.
@@ -164,7 +114,7 @@ impl Spare {
                 self.keep_form(form);
             }
         }
-        let _kept = self.forms.push(list).is_ok();
+        keep(&mut self.forms, list);
     }
 
     /// Keeps the lists of a line.
@@ -195,20 +145,5 @@ impl Spare {
         if list.capacity() > 0 && room <= MOST_SPARE && self.wholes.push(list).is_ok() {
             self.room = room;
         }
-    }
-
-    /// Keeps a list of places where variables stand.
-    pub(crate) fn keep_stands(&mut self, list: Vec<Option<Stand>>) {
-        let _kept = self.stands.push(list).is_ok();
-    }
-
-    /// Keeps a list of marks.
-    pub(crate) fn keep_marks(&mut self, list: Vec<bool>) {
-        let _kept = self.marks.push(list).is_ok();
-    }
-
-    /// Keeps a list of sides.
-    pub(crate) fn keep_sides(&mut self, list: Vec<Sides>) {
-        let _kept = self.sides.push(list).is_ok();
     }
 }
