@@ -1,8 +1,9 @@
 //! The table of a basis, made anew from the rows.
 use crate::fixed::UNIT;
 use crate::given::Given;
+use crate::lists::item_at;
 use crate::stops::Stop;
-use crate::table::{Table, entry_at};
+use crate::table::Table;
 use crate::variables::{Standing, Variables};
 use std::alloc::Global;
 
@@ -13,16 +14,6 @@ const ROUNDS: u32 = 3;
 const GOOD: i64 = UNIT >> 8;
 
 const POOR: i64 = 1 << 6;
-
-/// Whether a variable is that of a row that is to be loose.
-fn leaves(variables: &Variables, number: u32, columns: usize) -> bool {
-    number as usize >= columns && variables.get(number).standing != Standing::Basic
-}
-
-/// Whether a variable is a column that is to be basic.
-fn enters(variables: &Variables, number: u32, columns: usize) -> bool {
-    (number as usize) < columns && variables.get(number).standing == Standing::Basic
-}
 
 /// The line of a row that is to be loose with the greatest entry at a place, above a least one.
 fn greatest(
@@ -35,8 +26,10 @@ fn greatest(
     let mut found = None;
     let mut most = least;
     for (line, item) in table.lines.iter().enumerate() {
-        let size = entry_at(item.entries.as_slice(), place).saturating_abs();
-        if size > most && leaves(variables, item.variable, columns) {
+        let size = item_at(item.entries.as_slice(), place, 0).saturating_abs();
+        let number = item.variable;
+        let is_row = number as usize >= columns;
+        if size > most && is_row && variables.get(number).standing != Standing::Basic {
             most = size;
             found = Some(line);
         }
@@ -53,7 +46,8 @@ fn put_columns(
 ) -> Result<bool, Stop> {
     let mut all = true;
     for place in 0..columns {
-        if !enters(variables, table.loose_at(place), columns) {
+        let number = table.loose_at(place);
+        if number as usize >= columns || variables.get(number).standing != Standing::Basic {
             continue;
         }
         match greatest(table, variables, place, columns, least) {

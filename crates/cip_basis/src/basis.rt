@@ -23,8 +23,8 @@ pub struct Basis {
     outcome: Option<Outcome>,
     // whether its matrix stands, so that systems can be solved
     is_made: bool,
-    // whether the last systems had solutions in the range, so that a guess with less rounding may do better
-    is_in_range: bool,
+    /// Whether what was solved for the last guess was in the range, so that rounding may be why nothing is shown.
+    pub(crate) is_in_range: bool,
     // whether the table of the last guess was made anew, with less rounding
     is_anew: bool,
 }
@@ -54,11 +54,6 @@ impl Basis {
     /// Whether the last guess was one with less rounding.
     pub fn is_anew(&self) -> bool {
         self.is_anew
-    }
-
-    /// Whether what was solved for the last guess was in the range, so that rounding may be why nothing is shown.
-    pub(crate) fn may_be_rounding(&self) -> bool {
-        self.is_in_range
     }
 
     /// The point of the last guess, where it is said to be optimal and its values are in the range.
@@ -224,27 +219,19 @@ impl Basis {
         Ok(self.is_in_range)
     }
 
-    /// Puts the multipliers of the costs into a combination; whether their parts are at most so long.
-    fn put_costs(
+    /// Puts the multipliers of the costs into a combination, or those that are to show that a variable can't be brought
+    /// between its sides; whether their parts are at most so long.
+    fn put_combo(
         &mut self,
         given: &Given,
+        outcome: Outcome,
         size: Length,
         combo: &mut Combo,
     ) -> Result<bool, AllocError> {
-        put_costs(given, &self.placement, &mut self.right)?;
-        self.multipliers(given, size, false, combo)
-    }
-
-    /// Puts the multipliers into a combination that is to show that a basic variable can't be brought between its
-    /// sides, being below, or above, them; whether their parts are at most so long.
-    fn put_break(
-        &mut self,
-        given: &Given,
-        variable: u32,
-        below: bool,
-        size: Length,
-        combo: &mut Combo,
-    ) -> Result<bool, AllocError> {
+        let Outcome::Broken { variable, below } = outcome else {
+            put_costs(given, &self.placement, &mut self.right)?;
+            return self.multipliers(given, size, false, combo);
+        };
         put_line(given, &self.placement, variable, &mut self.right)?;
         if !self.multipliers(given, size, below, combo)? {
             return Ok(false);
@@ -253,33 +240,17 @@ impl Basis {
         Ok(true)
     }
 
-    /// The multipliers of the costs as a combination, where their parts are at most so long.
-    pub(crate) fn cost_combo(
+    /// The multipliers of the costs as a combination, where the guess ended with an optimal basis, or those that are to
+    /// show that a variable can't be brought between its sides, where it ended so; none where their parts are longer.
+    pub(crate) fn combo(
         &mut self,
         alloc: Global,
         given: &Given,
+        outcome: Outcome,
         size: Length,
     ) -> Result<Option<Combo>, AllocError> {
         let mut combo = empty_combo(alloc);
-        match self.put_costs(given, size, &mut combo) {
-            Ok(true) => Ok(Some(combo)),
-            Ok(false) => Ok(None),
-            Err(_) => Err(AllocError),
-        }
-    }
-
-    /// A combination that is to show that a basic variable can't be brought between its sides, being below, or above,
-    /// them, where its parts are at most so long.
-    pub(crate) fn break_combo(
-        &mut self,
-        alloc: Global,
-        given: &Given,
-        variable: u32,
-        below: bool,
-        size: Length,
-    ) -> Result<Option<Combo>, AllocError> {
-        let mut combo = empty_combo(alloc);
-        match self.put_break(given, variable, below, size, &mut combo) {
+        match self.put_combo(given, outcome, size, &mut combo) {
             Ok(true) => Ok(Some(combo)),
             Ok(false) => Ok(None),
             Err(_) => Err(AllocError),

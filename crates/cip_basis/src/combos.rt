@@ -1,9 +1,11 @@
 //! The multipliers of a basis, as a combination.
 use crate::Given;
-use crate::placement::{Placement, short};
-use crate::values::{number_at, scaled};
+use crate::given::number_of;
+use crate::lists::{item_at, put_at};
+use crate::placement::Placement;
+use crate::values::scaled;
 use cip_frac::Frac;
-use cip_lin::{Combo, Row, RowId, RowMultiple};
+use cip_lin::{Combo, RowId, RowMultiple};
 use std::alloc::{AllocError, Global};
 
 /// A combination without rows.
@@ -12,18 +14,6 @@ pub(crate) fn empty_combo(alloc: Global) -> Combo {
         rows: Vec::new(alloc),
         lows: Vec::new(alloc),
         highs: Vec::new(alloc),
-    }
-}
-
-/// The name of a row, by its number.
-fn name_of(given: &Given, number: u32) -> RowId {
-    let place = number as usize;
-    if place < given.own.len() {
-        return RowId::Own(number);
-    }
-    match given.ids.get(place.wrapping_sub(given.own.len())) {
-        Some(id) => RowId::Pool(*id),
-        None => RowId::Own(number),
     }
 }
 
@@ -37,40 +27,17 @@ pub(crate) fn put_multiple(
     if factor.is_zero() {
         return Ok(());
     }
-    rows.push(RowMultiple {
-        row: name_of(given, number),
-        factor,
-    })?;
+    let place = (number as usize).wrapping_sub(given.own.len());
+    let row = match given.ids.get(place) {
+        Some(id) => RowId::Pool(*id),
+        None => RowId::Own(number),
+    };
+    rows.push(RowMultiple { row, factor })?;
     Ok(())
 }
 
-/// Puts a loose row with a multiplier, or its opposite, times a whole number into a combination; whether that is in
-/// range.
-fn put_scaled(
-    given: &Given,
-    number: u32,
-    multiplier: Frac,
-    scale: u64,
-    is_turned: bool,
-    rows: &mut Vec<RowMultiple>,
-) -> Result<bool, AllocError> {
-    let Some(factor) = scaled(multiplier, scale) else {
-        return Ok(false);
-    };
-    let turned = if is_turned { factor.neg() } else { factor };
-    put_multiple(given, number, turned, rows)?;
-    Ok(true)
-}
-
-/// A whole number of a list, 1 past its end.
-fn scale_at(scales: &[u64], place: usize) -> u64 {
-    match scales.get(place) {
-        Some(scale) => *scale,
-        None => 1,
-    }
-}
-
-/// Puts the loose rows with their multipliers, or the opposites of these, into a combination; whether all are in range.
+/// Puts the loose rows with their multipliers, or the opposites of these, times what the rows are multiplied by into a
+/// combination; whether all are in range.
 pub(crate) fn put_multiples(
     given: &Given,
     placement: &Placement,
@@ -80,11 +47,12 @@ pub(crate) fn put_multiples(
     rows: &mut Vec<RowMultiple>,
 ) -> Result<bool, AllocError> {
     for (place, number) in placement.rows.iter().enumerate() {
-        let multiplier = number_at(multipliers, place);
-        let scale = scale_at(scales, place);
-        if !put_scaled(given, *number, multiplier, scale, is_turned, rows)? {
+        let multiplier = item_at(multipliers, place, Frac::zero());
+        let Some(factor) = scaled(multiplier, item_at(scales, place, 1)) else {
             return Ok(false);
-        }
+        };
+        let turned = if is_turned { factor.neg() } else { factor };
+        put_multiple(given, *number, turned, rows)?;
     }
     Ok(true)
 }
@@ -104,18 +72,8 @@ pub(crate) fn put_costs(
 
 /// Sets the number of a column, if that is a basic one.
 fn set_column(out: &mut [Frac], placement: &Placement, column: u32, number: Frac) {
-    let Some(place) = placement.place(column) else {
-        return;
-    };
-    if let Some(own) = out.get_mut(place) {
-        *own = number;
-    }
-}
-
-/// Sets the numbers of the columns of a row.
-fn set_columns(out: &mut [Frac], placement: &Placement, row: &Row) {
-    for term in row.terms() {
-        set_column(out, placement, term.col, term.coef);
+    if let Some(place) = placement.place(column) {
+        put_at(out, place, number);
     }
 }
 
@@ -132,7 +90,9 @@ pub(crate) fn put_line(
     if (variable as usize) < columns {
         set_column(out.as_mut_slice(), placement, variable, Frac::one());
     } else if let Some(row) = given.row((variable as usize).wrapping_sub(columns)) {
-        set_columns(out.as_mut_slice(), placement, row);
+        for term in row.terms() {
+            set_column(out.as_mut_slice(), placement, term.col, term.coef);
+        }
     }
     Ok(())
 }
@@ -160,6 +120,6 @@ pub(crate) fn row_of(given: &Given, variable: u32) -> Option<u32> {
     if place < columns {
         None
     } else {
-        Some(short(place.wrapping_sub(columns)))
+        Some(number_of(place.wrapping_sub(columns)))
     }
 }

@@ -1,8 +1,9 @@
 //! Moves of the dual simplex method: the variable that is outside its sides by most leaves.
 use crate::fixed::{BITS, OPEN, long_product, ratio};
-use crate::moves::{exchange, follow_all};
+use crate::lists::item_at;
+use crate::moves::{exchange, move_by};
 use crate::stops::Stop;
-use crate::table::{Table, entry_at};
+use crate::table::{Table, sum_of};
 use crate::variables::{Standing, Variables};
 
 /// Entries of a lesser size are no pivots.
@@ -31,19 +32,14 @@ pub(crate) fn worst(table: &Table, variables: &Variables, outside: i64) -> Optio
     for (line, item) in table.lines.iter().enumerate() {
         let variable = variables.get(item.variable);
         let below = variable.low.saturating_sub(variable.value);
-        if below > gap {
-            gap = below;
-            let standing = Standing::Low;
-            found = Some(Leaving {
-                line,
-                standing,
-                gap,
-            });
-        }
         let above = variable.value.saturating_sub(variable.high);
-        if above > gap {
-            gap = above;
-            let standing = Standing::High;
+        let (way, standing) = if above > below {
+            (above, Standing::High)
+        } else {
+            (below, Standing::Low)
+        };
+        if way > gap {
+            gap = way;
             found = Some(Leaving {
                 line,
                 standing,
@@ -54,65 +50,39 @@ pub(crate) fn worst(table: &Table, variables: &Variables, outside: i64) -> Optio
     found
 }
 
-/// Whether a loose variable with this entry may enter where the basic one is to rise, or to fall.
-fn may_enter(variables: &Variables, number: u32, entry: i64, rises: bool) -> bool {
-    let variable = variables.get(number);
-    !variable.is_fixed() && variable.may_go((entry > 0) == rises)
-}
-
-/// The loose variable at a place, where it may enter with this entry.
-fn pick_at(
-    table: &Table,
-    variables: &Variables,
-    place: usize,
-    entry: i64,
-    rises: bool,
-) -> Option<Pick> {
-    if entry.unsigned_abs() < PIVOT || !may_enter(variables, table.loose_at(place), entry, rises) {
-        return None;
-    }
-    Some(Pick {
-        ratio: ratio(entry_at(table.costs.as_slice(), place), entry),
-        place,
-        size: entry.saturating_abs(),
-    })
-}
-
-/// Puts the loose variables that may enter at the end of a list, and sorts that.
-fn put_picks(
-    table: &Table,
-    variables: &Variables,
-    entries: &[i64],
-    rises: bool,
-    picks: &mut Vec<Pick>,
-) -> Result<(), Stop> {
-    for (place, entry) in entries.iter().enumerate() {
-        if let Some(pick) = pick_at(table, variables, place, *entry, rises) {
-            picks.push(pick)?;
-        }
-    }
-    picks.sort_unstable();
-    Ok(())
-}
-
-/// Lists the loose variables that may enter.
-pub(crate) fn list_picks(
+/// Lists the loose variables that may enter where the basic one is to rise, or to fall, in the order of their ratios.
+fn list_picks(
     table: &Table,
     variables: &Variables,
     leaving: Leaving,
     picks: &mut Vec<Pick>,
 ) -> Result<(), Stop> {
     picks.clear();
+    let Some(line) = table.lines.get(leaving.line) else {
+        return Ok(());
+    };
     let rises = leaving.standing == Standing::Low;
-    match table.lines.get(leaving.line) {
-        Some(line) => put_picks(table, variables, line.entries.as_slice(), rises, picks),
-        None => Ok(()),
+    for (place, item) in line.entries.iter().enumerate() {
+        let entry = *item;
+        if entry.unsigned_abs() < PIVOT {
+            continue;
+        }
+        let variable = variables.get(table.loose_at(place));
+        if !variable.is_fixed() && variable.may_go((entry > 0) == rises) {
+            picks.push(Pick {
+                ratio: ratio(item_at(table.costs.as_slice(), place, 0), entry),
+                place,
+                size: entry.saturating_abs(),
+            })?;
+        }
     }
+    picks.sort_unstable();
+    Ok(())
 }
 
 /// How many of the picks go to their other sides before the gap is closed; the last one closes it but for rounding
 /// where what is left is within four times a tolerance.
-pub(crate) fn count_passed(
+fn count_passed(
     table: &Table,
     variables: &Variables,
     picks: &[Pick],
@@ -153,7 +123,7 @@ fn reachable(picks: &[Pick], rate: i64) -> i64 {
 }
 
 /// Of the picks within a tolerance of the first, the one with the greatest entry.
-pub(crate) fn best_pick(picks: &[Pick], rate: i64) -> Option<Pick> {
+fn best_pick(picks: &[Pick], rate: i64) -> Option<Pick> {
     let most = reachable(picks, rate);
     let mut best: Option<Pick> = None;
     for pick in picks {
@@ -202,19 +172,20 @@ pub(crate) struct Tolerances {
     pub(crate) outside: i64,
 }
 
-/// Those of a table on which nothing was refused yet.
-pub(crate) fn loose_tolerances() -> Tolerances {
-    Tolerances {
-        rate: 1 << (BITS - 20),
-        outside: 1 << (BITS - 16),
-    }
-}
-
-/// Those of a table that was made anew after a refusal.
-pub(crate) fn tight_tolerances() -> Tolerances {
-    Tolerances {
-        rate: 1 << (BITS - 24),
-        outside: 1 << (BITS - 23),
+impl Tolerances {
+    /// Those of a table that was made anew after a refusal, or of one on which nothing was refused yet.
+    pub(crate) fn of_table(anew: bool) -> Tolerances {
+        if anew {
+            Tolerances {
+                rate: 1 << (BITS - 24),
+                outside: 1 << (BITS - 23),
+            }
+        } else {
+            Tolerances {
+                rate: 1 << (BITS - 20),
+                outside: 1 << (BITS - 16),
+            }
+        }
     }
 }
 
@@ -229,28 +200,11 @@ fn turn_before(
         return Ok(());
     }
     turn_first(table, variables, before, ways)?;
-    follow_all(table, variables, ways.as_slice())
-}
-
-/// A dual move by these picks.
-fn move_by_picks(
-    table: &mut Table,
-    variables: &mut Variables,
-    picks: &[Pick],
-    ways: &mut Vec<(usize, i64)>,
-    leaving: Leaving,
-    tolerances: Tolerances,
-) -> Result<bool, Stop> {
-    let passed = count_passed(table, variables, picks, leaving.gap, tolerances.outside);
-    let Some((before, behind)) = picks.split_at_checked(passed) else {
-        return Ok(false);
-    };
-    let Some(pick) = best_pick(behind, tolerances.rate) else {
-        return Ok(false);
-    };
-    turn_before(table, variables, before, ways)?;
-    exchange(table, variables, leaving.line, pick.place, leaving.standing)?;
-    Ok(true)
+    for line in &table.lines {
+        let more = sum_of(line.entries.as_slice(), ways.as_slice());
+        move_by(variables, line.variable, more)?;
+    }
+    Ok(())
 }
 
 /// A dual move: the variable that is outside leaves, after those that go to their other sides. Answers whether there is
@@ -264,12 +218,14 @@ pub(crate) fn dual_move(
 ) -> Result<bool, Stop> {
     list_picks(table, variables, leaving, &mut lists.picks)?;
     let picks = lists.picks.as_slice();
-    move_by_picks(
-        table,
-        variables,
-        picks,
-        &mut lists.ways,
-        leaving,
-        tolerances,
-    )
+    let passed = count_passed(table, variables, picks, leaving.gap, tolerances.outside);
+    let Some((before, behind)) = picks.split_at_checked(passed) else {
+        return Ok(false);
+    };
+    let Some(pick) = best_pick(behind, tolerances.rate) else {
+        return Ok(false);
+    };
+    turn_before(table, variables, before, &mut lists.ways)?;
+    exchange(table, variables, leaving.line, pick.place, leaving.standing)?;
+    Ok(true)
 }

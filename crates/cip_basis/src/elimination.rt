@@ -1,5 +1,7 @@
 //! Elimination modulo the prime.
-use crate::residues::{inverse, minus, put_residue, residue, residue_at, take_product, times};
+use crate::given::number_of;
+use crate::lists::{item_at, put_at};
+use crate::residues::{inverse, minus, residue, take_product, times};
 use crate::rows::{Columns, Multiple, SparseRow, number_on, ready_lists, write_difference};
 use std::alloc::{AllocError, Global};
 use std::mem;
@@ -33,11 +35,6 @@ pub(crate) struct Elimination {
     touched: Vec<u32>,
 }
 
-/// A number that counts rows, of which there are fewer than 2^32.
-pub(crate) fn short(number: usize) -> u32 {
-    u32::try_from(number).unwrap_or(u32::MAX)
-}
-
 /// The column of a row that stands in the fewest rows that are left, and the number there.
 fn rarest(row: &[(u32, u64)], columns: &Columns) -> Option<(u32, u64)> {
     let mut found = None;
@@ -50,13 +47,6 @@ fn rarest(row: &[(u32, u64)], columns: &Columns) -> Option<(u32, u64)> {
         }
     }
     found
-}
-
-/// Takes the columns of a row out of the counts.
-fn lose_all(row: &[(u32, u64)], columns: &mut Columns) {
-    for item in row {
-        columns.lose(item.0);
-    }
 }
 
 /// A row modulo the prime.
@@ -76,19 +66,6 @@ fn reduce_row(
     Ok(())
 }
 
-/// The row at a place of a matrix modulo the prime, in the row at that place.
-fn reduce_at(
-    matrix: &[Vec<(u32, i64)>],
-    at: usize,
-    columns: &mut Columns,
-    rows: &mut [SparseRow],
-) -> Result<(), AllocError> {
-    match (matrix.get(at), rows.get_mut(at)) {
-        (Some(numbers), Some(row)) => reduce_row(numbers.as_slice(), short(at), columns, row),
-        _ => Ok(()),
-    }
-}
-
 /// The first rows of a matrix modulo the prime.
 fn reduce_rows(
     matrix: &[Vec<(u32, i64)>],
@@ -97,7 +74,9 @@ fn reduce_rows(
     rows: &mut [SparseRow],
 ) -> Result<(), AllocError> {
     for at in 0..size {
-        reduce_at(matrix, at, columns, rows)?;
+        if let (Some(numbers), Some(row)) = (matrix.get(at), rows.get_mut(at)) {
+            reduce_row(numbers.as_slice(), number_of(at), columns, row)?;
+        }
     }
     Ok(())
 }
@@ -115,13 +94,6 @@ fn take_multiple(
         mem::swap(row, out);
     }
     Ok(())
-}
-
-/// A row was solved.
-fn set_done(are_done: &mut [bool], number: u32) {
-    if let Some(is_done) = are_done.get_mut(number as usize) {
-        *is_done = true;
-    }
 }
 
 /// Empties the lists of rows and of columns, and has so many of each, none of them done.
@@ -187,7 +159,7 @@ impl Elimination {
             };
             if len < fewest {
                 fewest = len;
-                found = Some(short(at));
+                found = Some(number_of(at));
             }
             if len <= 1 {
                 break;
@@ -228,10 +200,7 @@ impl Elimination {
 
     /// Whether a row was solved.
     fn is_done(&self, number: u32) -> bool {
-        match self.is_done.get(number as usize) {
-            Some(is_done) => *is_done,
-            None => true,
-        }
+        item_at(self.is_done.as_slice(), number as usize, true)
     }
 
     /// Takes a column out of all rows that are left.
@@ -249,31 +218,26 @@ impl Elimination {
         Ok(())
     }
 
-    /// The row that is solved next, which comes to be worked with, and the column that it is solved for, if there is
-    /// one.
-    fn choose(&mut self) -> Result<Option<Pivot>, AllocError> {
-        let Some(row) = self.shortest() else {
-            return Ok(None);
-        };
-        self.copy_row(row)?;
-        match rarest(self.own.as_slice(), &self.columns) {
-            Some((column, number)) => Ok(Some(Pivot {
-                row,
-                column,
-                inverse: inverse(number),
-            })),
-            None => Ok(None),
-        }
-    }
-
-    /// Solves one more row for a column, and takes that out of the rows that are left; whether there is one.
+    /// Solves the shortest row that is left for its rarest column, and takes that out of the others; whether there is
+    /// one. The row is the one that is worked with then.
     fn advance(&mut self) -> Result<bool, AllocError> {
-        let Some(pivot) = self.choose()? else {
+        let Some(row) = self.shortest() else {
             return Ok(false);
         };
+        self.copy_row(row)?;
+        let Some((column, number)) = rarest(self.own.as_slice(), &self.columns) else {
+            return Ok(false);
+        };
+        let pivot = Pivot {
+            row,
+            column,
+            inverse: inverse(number),
+        };
         self.pivots.push(pivot)?;
-        set_done(self.is_done.as_mut_slice(), pivot.row);
-        lose_all(self.own.as_slice(), &mut self.columns);
+        put_at(self.is_done.as_mut_slice(), pivot.row as usize, true);
+        for item in &self.own {
+            self.columns.lose(item.0);
+        }
         if self.columns.count(pivot.column) > 0 {
             self.take_out_all(pivot)?;
         }
@@ -309,7 +273,7 @@ impl Elimination {
         let mut left = right;
         for item in self.row(pivot.row) {
             if item.0 != pivot.column {
-                let value = residue_at(values, item.0 as usize);
+                let value = item_at(values, item.0 as usize, 0);
                 left = minus(left, times(item.1, value));
             }
         }
@@ -319,7 +283,7 @@ impl Elimination {
     /// Solves the rows for right sides, which change.
     pub(crate) fn solve(&self, right: &mut [u64], values: &mut [u64]) {
         for operation in &self.operations {
-            let from = residue_at(right, operation.from as usize);
+            let from = item_at(right, operation.from as usize, 0);
             if from != 0 {
                 take_product(right, operation.row as usize, operation.factor, from);
             }
@@ -329,9 +293,12 @@ impl Elimination {
 
     /// Solves the eliminated rows, the last first.
     fn solve_back(&self, right: &[u64], values: &mut [u64]) {
-        for pivot in self.pivots.iter().rev() {
-            let value = self.value(*pivot, residue_at(right, pivot.row as usize), values);
-            put_residue(values, pivot.column as usize, value);
+        let count = self.pivots.len();
+        for later in 0..count {
+            if let Some(pivot) = self.pivots.get(count - 1 - later) {
+                let value = self.value(*pivot, item_at(right, pivot.row as usize, 0), values);
+                put_at(values, pivot.column as usize, value);
+            }
         }
     }
 
@@ -347,9 +314,9 @@ impl Elimination {
     /// Solves the columns for costs, which change: the multipliers of the rows.
     pub(crate) fn solve_turned(&self, costs: &mut [u64], multipliers: &mut [u64]) {
         for pivot in &self.pivots {
-            let factor = times(residue_at(costs, pivot.column as usize), pivot.inverse);
+            let factor = times(item_at(costs, pivot.column as usize, 0), pivot.inverse);
             if factor != 0 {
-                put_residue(multipliers, pivot.row as usize, factor);
+                put_at(multipliers, pivot.row as usize, factor);
                 self.take_row(*pivot, factor, costs);
             }
         }
@@ -358,11 +325,14 @@ impl Elimination {
 
     /// Carries the multipliers of eliminated rows over to the rows as they were.
     fn turn_back(&self, multipliers: &mut [u64]) {
-        for operation in self.operations.iter().rev() {
-            let own = residue_at(multipliers, operation.row as usize);
-            if own != 0 {
+        let count = self.operations.len();
+        for later in 0..count {
+            if let Some(operation) = self.operations.get(count - 1 - later) {
+                let own = item_at(multipliers, operation.row as usize, 0);
                 let from = operation.from as usize;
-                take_product(multipliers, from, operation.factor, own);
+                if own != 0 {
+                    take_product(multipliers, from, operation.factor, own);
+                }
             }
         }
     }

@@ -1,4 +1,5 @@
 //! A linear program, lent to be guessed at.
+use crate::lists::item_at;
 use cip_lin::{Bounds, Frac, Row, Sides};
 
 /// A linear program: rows, others behind them, the sides of each column, and what each column costs. Nothing is copied,
@@ -30,23 +31,20 @@ impl<'a> Given<'a> {
 
     /// A row, by its number.
     pub fn row(&self, number: usize) -> Option<&'a Row> {
-        if number < self.own.len() {
-            return self.own.get(number);
-        }
-        match self.others.get(number.wrapping_sub(self.own.len())) {
-            Some(row) => Some(*row),
-            None => None,
+        match self.own.get(number) {
+            Some(row) => Some(row),
+            None => self
+                .others
+                .get(number.wrapping_sub(self.own.len()))
+                .copied(),
         }
     }
 
     /// The sides of a variable: of a column, or of the row behind the columns.
     pub fn sides(&self, variable: usize) -> Sides {
         let columns = self.bounds.as_slice();
-        if variable < columns.len() {
-            return match columns.get(variable) {
-                Some(sides) => *sides,
-                None => Sides::open(),
-            };
+        if let Some(sides) = columns.get(variable) {
+            return *sides;
         }
         match self.row(variable.wrapping_sub(columns.len())) {
             Some(row) => Sides {
@@ -59,14 +57,11 @@ impl<'a> Given<'a> {
 
     /// What a column costs.
     pub fn cost(&self, column: usize) -> Frac {
-        match self.costs.get(column) {
-            Some(cost) => *cost,
-            None => Frac::zero(),
-        }
+        item_at(self.costs, column, Frac::zero())
     }
 }
 
-/// A number of a variable, of which there are fewer than 2^32.
+/// A number of a column, a row or a variable, of which there are fewer than 2^32.
 pub(crate) fn number_of(place: usize) -> u32 {
     u32::try_from(place).unwrap_or(u32::MAX)
 }

@@ -1,12 +1,10 @@
 //! Guesses, kept from program to program.
 use crate::anew::make_anew;
-use crate::dual::{
-    Leaving, Lists, Tolerances, dual_move, loose_tolerances, tight_tolerances, worst,
-};
+use crate::dual::{Lists, Tolerances, dual_move, worst};
 use crate::given::Given;
 use crate::moves::settle;
 use crate::multipliers::{RowMultiplier, list_rounded, rounded_number};
-use crate::primal::{PrimalMove, primal_move};
+use crate::primal::primal_move;
 use crate::scaling::{cost_up, make_scaled, row_up};
 use crate::stops::Stop;
 use crate::table::Table;
@@ -37,13 +35,6 @@ pub enum Outcome {
     Endless,
 }
 
-/// One step of a guess.
-#[derive(Clone, Copy)]
-enum Step {
-    Moved,
-    Ended(Outcome),
-}
-
 /// A basis of a linear program and its table, over whole numbers of 64 bits that are rounded. They are kept from
 /// program to program, where only the sides of columns change or rows come at the end. What is said may be wrong: it
 /// names variables, and no value comes from it.
@@ -68,74 +59,6 @@ fn begins_with(list: &[u64], start: &[u64]) -> bool {
     match list.split_at_checked(start.len()) {
         Some((front, _)) => front == start,
         None => false,
-    }
-}
-
-/// Whether the table of a program isn't too great.
-fn has_few_entries(given: &Given) -> bool {
-    let width = given.columns() as u64;
-    let height = (given.rows() as u64).saturating_add(1);
-    width.saturating_mul(height) <= MOST_ENTRIES
-}
-
-/// The most moves of a guess on so many variables.
-fn most_moves(variables: usize) -> usize {
-    FEW_MOVES
-        .saturating_add(variables)
-        .saturating_add(variables)
-}
-
-/// The tolerances of a table, by whether it was made anew.
-fn tolerances(anew: bool) -> Tolerances {
-    if anew {
-        tight_tolerances()
-    } else {
-        loose_tolerances()
-    }
-}
-
-/// The variable of a row, which is basic.
-fn row_variable(given: &Given, number: usize, variables: &Variables) -> Variable {
-    let mut variable = Variable::new(Standing::Basic);
-    if let Some(row) = given.row(number) {
-        variable.up = row_up(row, variables);
-    }
-    variable
-}
-
-/// Puts the variables of the rows from one on at the end.
-fn push_rows(given: &Given, first: usize, variables: &mut Variables) -> Result<(), Stop> {
-    for number in first..given.rows() {
-        let variable = row_variable(given, number, variables);
-        variables.push(variable)?;
-    }
-    Ok(())
-}
-
-/// A move of the primal simplex method, or how the guess ends.
-fn primal_step(table: &mut Table, variables: &mut Variables, rate: i64) -> Result<Step, Stop> {
-    let made = primal_move(table, variables, rate)?;
-    Ok(match made {
-        PrimalMove::Made => Step::Moved,
-        PrimalMove::Optimal => Step::Ended(Outcome::Optimal),
-        PrimalMove::Endless => Step::Ended(Outcome::Endless),
-    })
-}
-
-/// A move by which a variable leaves that is outside its sides, or that it can't.
-fn dual_step(
-    table: &mut Table,
-    variables: &mut Variables,
-    lists: &mut Lists,
-    leaving: Leaving,
-    tolerances: Tolerances,
-) -> Result<Step, Stop> {
-    let variable = table.basic_at(leaving.line);
-    let below = leaving.standing == Standing::Low;
-    if dual_move(table, variables, lists, leaving, tolerances)? {
-        Ok(Step::Moved)
-    } else {
-        Ok(Step::Ended(Outcome::Broken { variable, below }))
     }
 }
 
@@ -216,15 +139,10 @@ impl Guess {
         Ok(())
     }
 
-    /// Whether numbers of a program of as many columns and no more rows didn't fit, so that its don't either.
-    fn was_unfit(&self, given: &Given) -> bool {
-        let known = self.columns.saturating_add(given.rows());
-        self.is_unfit && self.columns == given.columns() && self.variables.len() <= known
-    }
-
-    /// Begins with the basis of the rows.
+    /// Begins with the basis of the rows, unless numbers of a program of as many columns and no more rows didn't fit.
     fn begin(&mut self, alloc: Global, given: &Given) -> Result<(), Stop> {
-        if self.was_unfit(given) {
+        let known = self.columns.saturating_add(given.rows());
+        if self.is_unfit && self.columns == given.columns() && self.variables.len() <= known {
             return Err(Stop::GaveUp);
         }
         make_scaled(alloc, given, &mut self.variables)?;
@@ -240,19 +158,17 @@ impl Guess {
         Ok(())
     }
 
-    /// Makes the table anew.
-    fn renew(&mut self, alloc: Global, given: &Given) -> Result<(), Stop> {
-        self.moves = 0;
-        let up = self.cost_up;
-        make_anew(alloc, given, &mut self.table, &mut self.variables, up)
-    }
-
     /// Takes rows that came at the end, which are basic.
-    fn grow(&mut self, alloc: Global, given: &Given) -> Result<(), Stop> {
+    fn grow(&mut self, given: &Given) -> Result<(), Stop> {
         let known = self.variables.len().saturating_sub(self.columns);
-        push_rows(given, known, &mut self.variables)?;
-        self.take_ids(given.ids)?;
-        self.renew(alloc, given)
+        for number in known..given.rows() {
+            let mut variable = Variable::new(Standing::Basic);
+            if let Some(row) = given.row(number) {
+                variable.up = row_up(row, &self.variables);
+            }
+            self.variables.push(variable)?;
+        }
+        self.take_ids(given.ids)
     }
 
     /// Whether what is kept is of this program, but for rows that came at the end.
@@ -269,26 +185,30 @@ impl Guess {
         if !self.is_of(given) {
             return self.begin(alloc, given);
         }
-        if self.ids.len() < given.ids.len() {
-            return self.grow(alloc, given);
+        let is_longer = self.ids.len() < given.ids.len();
+        if is_longer {
+            self.grow(given)?;
         }
-        if anew || self.moves > MOST_MOVES_KEPT {
-            return self.renew(alloc, given);
+        if is_longer || anew || self.moves > MOST_MOVES_KEPT {
+            self.moves = 0;
+            let up = self.cost_up;
+            return make_anew(alloc, given, &mut self.table, &mut self.variables, up);
         }
         Ok(())
     }
 
-    /// One move, or how the guess ends.
-    fn step(&mut self, tolerances: Tolerances) -> Result<Step, Stop> {
-        match worst(&self.table, &self.variables, tolerances.outside) {
-            Some(leaving) => dual_step(
-                &mut self.table,
-                &mut self.variables,
-                &mut self.lists,
-                leaving,
-                tolerances,
-            ),
-            None => primal_step(&mut self.table, &mut self.variables, tolerances.rate),
+    /// One move; where none is made, how the guess ends.
+    fn step(&mut self, tolerances: Tolerances) -> Result<Option<Outcome>, Stop> {
+        let (table, variables) = (&mut self.table, &mut self.variables);
+        let Some(leaving) = worst(table, variables, tolerances.outside) else {
+            return primal_move(table, variables, tolerances.rate);
+        };
+        let variable = table.basic_at(leaving.line);
+        let below = leaving.standing == Standing::Low;
+        if dual_move(table, variables, &mut self.lists, leaving, tolerances)? {
+            Ok(None)
+        } else {
+            Ok(Some(Outcome::Broken { variable, below }))
         }
     }
 
@@ -310,14 +230,12 @@ impl Guess {
         let mut is_fresh = true;
         for _ in 0..limit {
             match self.step(tolerances)? {
-                Step::Moved => {
+                None => {
                     self.moves = self.moves.saturating_add(1);
                     is_fresh = false;
                 }
-                Step::Ended(outcome) => {
-                    if is_fresh {
-                        return Ok(outcome);
-                    }
+                Some(outcome) if is_fresh => return Ok(outcome),
+                Some(_) => {
                     self.settle(tolerances.rate)?;
                     is_fresh = true;
                 }
@@ -329,15 +247,17 @@ impl Guess {
     /// The guess on a program.
     fn guessed(&mut self, alloc: Global, given: &Given, anew: bool) -> Result<Outcome, Stop> {
         self.has_table = false;
-        if !has_few_entries(given) {
+        let height = (given.rows() as u64).saturating_add(1);
+        if (given.columns() as u64).saturating_mul(height) > MOST_ENTRIES {
             return Err(Stop::GaveUp);
         }
-        self.table.allow(MOST_WORK);
+        self.table.work = MOST_WORK;
         self.ready(alloc, given, anew)?;
         self.has_table = true;
         self.variables.take_sides(given);
-        let limit = most_moves(self.variables.len());
-        self.run(limit, tolerances(anew))
+        let all = self.variables.len();
+        let limit = FEW_MOVES.saturating_add(all).saturating_add(all);
+        self.run(limit, Tolerances::of_table(anew))
     }
 
     /// Guesses how a linear program ends, from the basis of the last guess: where the variables stand then is told by

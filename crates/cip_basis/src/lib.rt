@@ -12,6 +12,7 @@ mod fixed;
 mod fractions;
 mod given;
 mod guesses;
+mod lists;
 mod long;
 mod matrix;
 mod mended_points;

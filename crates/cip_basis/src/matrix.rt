@@ -20,14 +20,6 @@ fn list_coefficients(
     Ok(())
 }
 
-/// A coefficient times a number that makes it whole, where that has 64 bits.
-fn whole_number(value: Frac, common: u64) -> Option<i64> {
-    match times_whole(value, common) {
-        Some(number) => i64::try_from(number).ok(),
-        None => None,
-    }
-}
-
 /// Puts a row, times a number, into the matrix; whether its numbers have 64 bits.
 fn put_row(
     row: &Row,
@@ -40,35 +32,19 @@ fn put_row(
         let Some(column) = placement.place(term.col) else {
             continue;
         };
-        match whole_number(term.coef, common) {
-            Some(number) => system.put(place, column, number)?,
-            None => return Ok(false),
-        }
+        let Some(whole) = times_whole(term.coef, common) else {
+            return Ok(false);
+        };
+        let Ok(number) = i64::try_from(whole) else {
+            return Ok(false);
+        };
+        system.put(place, column, number)?;
     }
     Ok(true)
 }
 
-/// Puts a row, times what makes it whole on the basic columns, into the matrix; answers by what it is multiplied, none
-/// where that or one of its numbers hasn't 64 bits.
-fn put_whole_row(
-    row: &Row,
-    place: usize,
-    placement: &Placement,
-    system: &mut System,
-    scratch: &mut Vec<Frac>,
-) -> Result<Option<u64>, AllocError> {
-    list_coefficients(row, placement, scratch)?;
-    let Some(common) = common_denominator(scratch.as_slice()) else {
-        return Ok(None);
-    };
-    match put_row(row, place, common, placement, system) {
-        Ok(true) => Ok(Some(common)),
-        Ok(false) => Ok(None),
-        Err(error) => Err(error),
-    }
-}
-
-/// Makes the matrix, and lists by what its rows are multiplied; whether its numbers have 64 bits.
+/// Makes the matrix, and lists by what its rows are multiplied, which makes them whole on the basic columns; whether
+/// that and its numbers have 64 bits.
 pub(crate) fn make_matrix(
     alloc: Global,
     given: &Given,
@@ -83,9 +59,13 @@ pub(crate) fn make_matrix(
         let Some(row) = given.row(*number as usize) else {
             return Ok(false);
         };
-        match put_whole_row(row, place, placement, system, scratch)? {
-            Some(common) => scales.push(common)?,
-            None => return Ok(false),
+        list_coefficients(row, placement, scratch)?;
+        let Some(common) = common_denominator(scratch.as_slice()) else {
+            return Ok(false);
+        };
+        scales.push(common)?;
+        if !put_row(row, place, common, placement, system)? {
+            return Ok(false);
         }
     }
     Ok(true)

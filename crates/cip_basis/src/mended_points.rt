@@ -1,6 +1,6 @@
 //! Values near the point of a basis that is guessed, changed until they keep the rows.
-use crate::placement::short;
-use crate::values::sum_at;
+use crate::given::number_of;
+use crate::values::{standing_value, sum_at};
 use crate::{Given, Guess, Standing, rounded_outward};
 use cip_frac::Frac;
 use cip_lin::{Row, Sides, Term};
@@ -24,12 +24,10 @@ fn brought_between(sides: Sides, value: Frac) -> Frac {
 /// Where a column stands by a guess: at a side, or near a value, which is rounded; none where that isn't there.
 fn value_by(guess: &Guess, given: &Given, column: usize) -> Option<Frac> {
     let sides = given.sides(column);
-    let number = short(column);
+    let number = number_of(column);
     match guess.standing(number) {
-        Standing::Low => sides.low,
-        Standing::High => sides.high,
-        Standing::Zero => Some(Frac::zero()),
         Standing::Basic => Some(brought_between(sides, guess.value(number)?)),
+        standing => standing_value(standing, sides),
     }
 }
 
@@ -54,50 +52,40 @@ fn gap_of(row: &Row, sum: Frac) -> Option<Frac> {
     }
 }
 
-/// Whether a value may rise, or fall, between the sides of its column.
-fn may_go(sides: Sides, value: Frac, rises: bool) -> bool {
-    let side = if rises { sides.high } else { sides.low };
-    side != Some(value)
-}
-
 /// Of the columns of a row whose values may go to where the row wants them, the one with the greatest coefficient.
 fn best_term(given: &Given, row: &Row, gap: Frac, values: &[Frac]) -> Option<Term> {
     let mut best: Option<Term> = None;
     for term in row.terms() {
         let column = term.col as usize;
+        let sides = given.sides(column);
         let rises = gap.is_positive() == term.coef.is_positive();
+        let side = if rises { sides.high } else { sides.low };
         let is_greater = match best {
             Some(held) => held.coef.abs() < term.coef.abs(),
             None => true,
         };
-        if is_greater && may_go(given.sides(column), *values.get(column)?, rises) {
+        if is_greater && side != Some(*values.get(column)?) {
             best = Some(*term);
         }
     }
     best
 }
 
-/// By how much a column is to change for a gap of a row: exactly, where the row has one side for both, and else away
-/// from 0 to a multiple of 2^-20. None where that is out of range.
-fn step_for(row: &Row, gap: Frac, coef: Frac) -> Option<Frac> {
-    if coef.is_zero() {
-        return None;
-    }
-    let step = gap.div(coef).ok()?;
-    if row.low() == row.high() {
-        Some(step)
-    } else {
-        rounded_outward(step)
-    }
-}
-
-/// Changes a column by as much as a gap of a row wants, as far as its sides allow, and answers what is left of the gap;
-/// none where a number is out of range.
+/// Changes a column by as much as a gap of a row wants, as far as its sides allow, and answers what is left of the gap:
+/// by exactly that, where the row has one side for both, and else rounded away from 0 to a multiple of 2^-20. None
+/// where a number is out of range.
 fn close_by(given: &Given, row: &Row, term: Term, gap: Frac, values: &mut [Frac]) -> Option<Frac> {
     let column = term.col as usize;
     let place = values.get_mut(column)?;
+    if term.coef.is_zero() {
+        return None;
+    }
+    let mut step = gap.div(term.coef).ok()?;
+    if row.low() != row.high() {
+        step = rounded_outward(step)?;
+    }
     let before = *place;
-    let wanted = before.add(step_for(row, gap, term.coef)?).ok()?;
+    let wanted = before.add(step).ok()?;
     let after = brought_between(given.sides(column), wanted);
     *place = after;
     let closed = after.sub(before).ok()?.mul(term.coef).ok()?;

@@ -1,6 +1,7 @@
 //! Multipliers of rows, mended until each rest of a column may lie on a side of it.
-use crate::placement::short;
-use crate::values::number_at;
+use crate::given::number_of;
+use crate::lists::item_at;
+use crate::rows::push_number;
 use crate::{Given, rounded_outward};
 use cip_frac::Frac;
 use cip_lin::{Row, Sides};
@@ -60,7 +61,7 @@ fn count_spoiled(given: &Given, rests: &[Frac], row: &Row, multiplier: Frac) -> 
     let mut count = 0usize;
     for term in row.terms() {
         let column = term.col as usize;
-        let mut left = number_at(rests, column);
+        let mut left = item_at(rests, column, Frac::zero());
         if !left.add_product(&opposite, &term.coef) {
             return None;
         }
@@ -107,14 +108,6 @@ fn growth(rest: Frac, coef: Frac, sides: Sides) -> Option<Frac> {
     }
 }
 
-/// A multiplier grows; whether it stays in range.
-fn grow_at(multipliers: &mut [Frac], number: usize, by: Frac) -> bool {
-    match multipliers.get_mut(number) {
-        Some(multiplier) => multiplier.add_assign(by),
-        None => true,
-    }
-}
-
 /// Lists the columns of a row whose rests have no side.
 fn list_spoiled_of(
     given: &Given,
@@ -124,8 +117,8 @@ fn list_spoiled_of(
 ) -> Result<(), AllocError> {
     for term in row.terms() {
         let column = term.col as usize;
-        if is_spoiled(given, column, number_at(rests, column)) {
-            spoiled.push(term.col)?;
+        if is_spoiled(given, column, item_at(rests, column, Frac::zero())) {
+            push_number(spoiled, term.col)?;
         }
     }
     Ok(())
@@ -161,7 +154,7 @@ impl Mending {
     fn list_spoiled(&mut self, given: &Given) -> Result<(), AllocError> {
         for (column, rest) in self.rests.iter().enumerate() {
             if is_spoiled(given, column, *rest) {
-                self.spoiled.push(short(column))?;
+                push_number(&mut self.spoiled, number_of(column))?;
             }
         }
         Ok(())
@@ -185,7 +178,7 @@ impl Mending {
 
     /// The rest of a column.
     fn rest(&self, column: u32) -> Frac {
-        number_at(self.rests.as_slice(), column as usize)
+        item_at(self.rests.as_slice(), column as usize, Frac::zero())
     }
 
     /// The row that takes the rest of a column and spoils the fewest columns, with by how much its multiplier grows.
@@ -213,8 +206,10 @@ impl Mending {
         let Some(row) = given.row(number) else {
             return Ok(false);
         };
-        if !grow_at(self.multipliers.as_mut_slice(), number, by) {
-            return Ok(false);
+        if let Some(multiplier) = self.multipliers.get_mut(number) {
+            if !multiplier.add_assign(by) {
+                return Ok(false);
+            }
         }
         if !take_off(self.rests.as_mut_slice(), row, by) {
             return Ok(false);

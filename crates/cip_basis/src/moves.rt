@@ -1,16 +1,9 @@
 //! What moves do to the values.
 use crate::fixed::{kept, product, quotient};
+use crate::lists::item_at;
 use crate::stops::Stop;
-use crate::table::{Line, Table, entry_at, sum_at, sum_of};
+use crate::table::{Table, sum_at};
 use crate::variables::{Standing, Variables};
-
-/// A loose variable goes to the side that its reduced cost asks for; its value there.
-fn settle_one(variables: &mut Variables, number: u32, cost: i64, rate: i64) -> i64 {
-    let mut variable = variables.get(number);
-    variable.settle(cost, rate);
-    variables.set(number, variable);
-    variable.value
-}
 
 /// Each loose variable goes to the side that its reduced cost asks for, and stands in a list.
 fn settle_loose(
@@ -21,18 +14,11 @@ fn settle_loose(
 ) -> Result<(), Stop> {
     values.clear();
     for (place, number) in table.loose.iter().enumerate() {
-        let cost = entry_at(table.costs.as_slice(), place);
-        values.push(settle_one(variables, *number, cost, rate))?;
+        let mut variable = variables.get(*number);
+        variable.settle(item_at(table.costs.as_slice(), place, 0), rate);
+        variables.set(*number, variable);
+        values.push(variable.value)?;
     }
-    Ok(())
-}
-
-/// The basic variable of a line gets its value from those of the loose ones.
-fn settle_basic(line: &Line, variables: &mut Variables, values: &[i64]) -> Result<(), Stop> {
-    let mut variable = variables.get(line.variable);
-    variable.standing = Standing::Basic;
-    variable.value = kept(sum_at(line.entries.as_slice(), values))?;
-    variables.set(line.variable, variable);
     Ok(())
 }
 
@@ -45,13 +31,16 @@ pub(crate) fn settle(
 ) -> Result<(), Stop> {
     settle_loose(table, variables, rate, values)?;
     for line in &table.lines {
-        settle_basic(line, variables, values.as_slice())?;
+        let mut variable = variables.get(line.variable);
+        variable.standing = Standing::Basic;
+        variable.value = kept(sum_at(line.entries.as_slice(), values.as_slice()))?;
+        variables.set(line.variable, variable);
     }
     Ok(())
 }
 
 /// The value of a variable changes by so much.
-fn move_by(variables: &mut Variables, number: u32, by: i128) -> Result<(), Stop> {
+pub(crate) fn move_by(variables: &mut Variables, number: u32, by: i128) -> Result<(), Stop> {
     let mut variable = variables.get(number);
     variable.value = kept(i128::from(variable.value).wrapping_add(by))?;
     variables.set(number, variable);
@@ -61,19 +50,13 @@ fn move_by(variables: &mut Variables, number: u32, by: i128) -> Result<(), Stop>
 /// The basic variables follow the loose one at a place, which moves by so much.
 fn follow(table: &Table, variables: &mut Variables, place: usize, by: i64) -> Result<(), Stop> {
     for line in &table.lines {
-        let entry = entry_at(line.entries.as_slice(), place);
+        let entry = item_at(line.entries.as_slice(), place, 0);
         if entry != 0 {
             let more = product(entry, by)?;
             move_by(variables, line.variable, i128::from(more))?;
         }
     }
     Ok(())
-}
-
-/// The loose variable at a place moves by so much, and the basic ones follow.
-fn shift(table: &Table, variables: &mut Variables, place: usize, by: i64) -> Result<(), Stop> {
-    follow(table, variables, place, by)?;
-    move_by(variables, table.loose_at(place), i128::from(by))
 }
 
 /// The variable of a line goes to a side and becomes loose, the loose one at a place basic.
@@ -90,9 +73,11 @@ pub(crate) fn exchange(
     leaving.stand(standing);
     let way = leaving.value.wrapping_sub(before);
     let by = quotient(way, table.entry(line, place))?;
-    shift(table, variables, place, by)?;
+    follow(table, variables, place, by)?;
+    let incoming = table.loose_at(place);
+    move_by(variables, incoming, i128::from(by))?;
     variables.set(outgoing, leaving);
-    variables.stand(table.loose_at(place), Standing::Basic);
+    variables.stand(incoming, Standing::Basic);
     table.swap(line, place)
 }
 
@@ -104,18 +89,5 @@ pub(crate) fn flip(table: &Table, variables: &mut Variables, place: usize) -> Re
     variable.flip();
     follow(table, variables, place, variable.value.wrapping_sub(before))?;
     variables.set(number, variable);
-    Ok(())
-}
-
-/// The basic variables follow loose ones, each by its place and its way.
-pub(crate) fn follow_all(
-    table: &Table,
-    variables: &mut Variables,
-    ways: &[(usize, i64)],
-) -> Result<(), Stop> {
-    for line in &table.lines {
-        let more = sum_of(line.entries.as_slice(), ways);
-        move_by(variables, line.variable, more)?;
-    }
     Ok(())
 }

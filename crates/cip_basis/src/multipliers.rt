@@ -1,7 +1,7 @@
 //! Multipliers of rows, rounded.
 use crate::fixed::{BITS, narrow, raised, short_bit_length};
 use crate::given::number_of;
-use crate::table::entry_at;
+use crate::lists::item_at;
 use crate::variables::Variables;
 use cip_lin::Frac;
 use std::alloc::AllocError;
@@ -66,36 +66,6 @@ pub(crate) fn rounded_number(number: i64, power: i32) -> Option<Frac> {
     Frac::new(i128::from(times), PARTS).ok()
 }
 
-/// A variable that is loose: what a line takes of it, and the line's own power of two.
-#[derive(Clone, Copy)]
-struct Loose {
-    variable: usize,
-    entry: i64,
-    own: i32,
-}
-
-/// Lists a loose variable with what a line takes of it, where it is a row and that isn't 0. Answers whether it can be
-/// rounded.
-fn list_loose(
-    loose: Loose,
-    variables: &Variables,
-    columns: usize,
-    out: &mut Vec<RowMultiplier>,
-) -> Result<bool, AllocError> {
-    if loose.variable < columns {
-        return Ok(true);
-    }
-    let power = variables.up(loose.variable).wrapping_sub(loose.own);
-    let Some(times) = rounded(loose.entry, power) else {
-        return Ok(false);
-    };
-    if times != 0 {
-        let row = number_of(loose.variable.wrapping_sub(columns));
-        out.push(RowMultiplier { row, times })?;
-    }
-    Ok(true)
-}
-
 /// Lists the loose rows with what a line takes of them, where that isn't 0: the line's own power of two is given.
 /// Answers whether all can be rounded.
 pub(crate) fn list_rounded(
@@ -108,14 +78,17 @@ pub(crate) fn list_rounded(
 ) -> Result<bool, AllocError> {
     out.clear();
     for (place, number) in loose.iter().enumerate() {
-        let one = Loose {
-            variable: *number as usize,
-            entry: entry_at(entries, place),
-            own,
+        let variable = *number as usize;
+        if variable < columns {
+            continue;
+        }
+        let power = variables.up(variable).wrapping_sub(own);
+        let Some(times) = rounded(item_at(entries, place, 0), power) else {
+            return Ok(false);
         };
-        match list_loose(one, variables, columns, out) {
-            Ok(true) => {}
-            end => return end,
+        if times != 0 {
+            let row = number_of(variable.wrapping_sub(columns));
+            out.push(RowMultiplier { row, times })?;
         }
     }
     Ok(true)

@@ -1,14 +1,11 @@
 //! Which columns are basic, and which rows are loose.
+use crate::given::number_of;
+use crate::rows::push_number;
 use crate::{Given, Guess, Standing};
 use std::alloc::{AllocError, Global};
 
 /// No place among the basic columns.
 const NOWHERE: u32 = u32::MAX;
-
-/// A number of a column or a row, of which there are fewer than 2^32.
-pub(crate) fn short(number: usize) -> u32 {
-    u32::try_from(number).unwrap_or(u32::MAX)
-}
 
 /// The basic columns and the loose rows, by rising number, and for each column its place among the basic ones.
 #[derive(Drop)]
@@ -16,28 +13,6 @@ pub(crate) struct Placement {
     pub(crate) columns: Vec<u32>,
     pub(crate) rows: Vec<u32>,
     places: Vec<u32>,
-}
-
-/// Puts a column at the end, with its place among the basic ones, if it is one.
-fn push_column(
-    columns: &mut Vec<u32>,
-    places: &mut Vec<u32>,
-    number: u32,
-    is_basic: bool,
-) -> Result<(), AllocError> {
-    if !is_basic {
-        return push_number(places, NOWHERE);
-    }
-    push_number(places, short(columns.len()))?;
-    push_number(columns, number)
-}
-
-/// Puts a number at the end.
-fn push_number(numbers: &mut Vec<u32>, number: u32) -> Result<(), AllocError> {
-    if numbers.push(number).is_err() {
-        return Err(AllocError);
-    }
-    Ok(())
 }
 
 /// Lists the basic columns, and for each column its place among them.
@@ -50,9 +25,13 @@ fn list_columns(
     columns.clear();
     places.clear();
     for column in 0..given.columns() {
-        let number = short(column);
-        let is_basic = guess.standing(number) == Standing::Basic;
-        push_column(columns, places, number, is_basic)?;
+        let number = number_of(column);
+        let mut place = NOWHERE;
+        if guess.standing(number) == Standing::Basic {
+            place = number_of(columns.len());
+            push_number(columns, number)?;
+        }
+        push_number(places, place)?;
     }
     Ok(())
 }
@@ -71,9 +50,9 @@ impl Placement {
     fn list_rows(&mut self, guess: &Guess, given: &Given) -> Result<(), AllocError> {
         self.rows.clear();
         for row in 0..given.rows() {
-            let variable = short(given.columns().wrapping_add(row));
+            let variable = number_of(given.columns().wrapping_add(row));
             if guess.standing(variable) != Standing::Basic {
-                self.rows.push(short(row))?;
+                push_number(&mut self.rows, number_of(row))?;
             }
         }
         Ok(())

@@ -1,10 +1,12 @@
 //! Moves of the primal simplex method: the loose variable of the greatest rate enters.
 use crate::dual::PIVOT;
 use crate::fixed::{OPEN, ratio};
+use crate::guesses::Outcome;
+use crate::lists::item_at;
 use crate::moves::{exchange, flip};
 use crate::stops::Stop;
-use crate::table::{Line, Table, entry_at};
-use crate::variables::{Standing, Variable, Variables};
+use crate::table::{Line, Table};
+use crate::variables::{Standing, Variables};
 
 /// A loose variable that enters: its place, and whether it rises.
 #[derive(Clone, Copy)]
@@ -20,17 +22,6 @@ struct Reach {
     size: i64,
     line: Option<usize>,
     standing: Standing,
-}
-
-/// What a primal move came to.
-#[derive(Clone, Copy)]
-pub(crate) enum PrimalMove {
-    /// A move was made.
-    Made,
-    /// No reduced cost asks for one.
-    Optimal,
-    /// Nothing stops the variable that enters.
-    Endless,
 }
 
 /// The loose variable whose reduced cost is greatest among those that may go where it asks, and above a tolerance.
@@ -52,56 +43,32 @@ fn steepest(table: &Table, variables: &Variables, rate: i64) -> Option<Entering>
     found
 }
 
-/// How far a basic variable with this entry lets the loose one go, if it stops it.
-fn reach_of(variable: Variable, entry: i64, rises: bool) -> Option<(i64, Standing)> {
-    let up = (entry > 0) == rises;
-    let way = if up {
-        if !variable.has_high() {
-            return None;
-        }
-        variable.high.saturating_sub(variable.value)
-    } else {
-        if !variable.has_low() {
-            return None;
-        }
-        variable.value.saturating_sub(variable.low)
-    };
-    let standing = if up { Standing::High } else { Standing::Low };
-    if way <= 0 {
-        Some((0, standing))
-    } else {
-        Some((ratio(way, entry), standing))
-    }
-}
-
 /// How far the basic variable of a line lets the loose one go, if it stops it.
 fn reach_at(line: usize, item: &Line, variables: &Variables, entering: Entering) -> Option<Reach> {
-    let entry = entry_at(item.entries.as_slice(), entering.place);
+    let entry = item_at(item.entries.as_slice(), entering.place, 0);
     if entry.unsigned_abs() < PIVOT {
         return None;
     }
-    match reach_of(variables.get(item.variable), entry, entering.rises) {
-        Some((length, standing)) => Some(Reach {
-            length,
-            size: entry.saturating_abs(),
-            line: Some(line),
-            standing,
-        }),
-        None => None,
-    }
-}
-
-/// The shorter of two reaches, and of equal ones that of the greater entry, unless the first is that of no line.
-fn shorter(first: Reach, second: Reach) -> Reach {
-    let is_tie = second.length == first.length && first.line.is_some() && second.size > first.size;
-    if second.length < first.length || is_tie {
-        second
+    let variable = variables.get(item.variable);
+    let (has_side, way, standing) = if (entry > 0) == entering.rises {
+        let way = variable.high.saturating_sub(variable.value);
+        (variable.has_high(), way, Standing::High)
     } else {
-        first
+        let way = variable.value.saturating_sub(variable.low);
+        (variable.has_low(), way, Standing::Low)
+    };
+    if !has_side {
+        return None;
     }
+    Some(Reach {
+        length: if way <= 0 { 0 } else { ratio(way, entry) },
+        size: entry.saturating_abs(),
+        line: Some(line),
+        standing,
+    })
 }
 
-/// The shortest reach over all lines, and of equal ones that of the greatest entry.
+/// The shortest reach over all lines, and of equal ones that of the greatest entry, unless the variable itself ends it.
 fn shortest(table: &Table, variables: &Variables, entering: Entering) -> Reach {
     let own = variables.get(table.loose_at(entering.place));
     let mut reach = Reach {
@@ -112,26 +79,30 @@ fn shortest(table: &Table, variables: &Variables, entering: Entering) -> Reach {
     };
     for (line, item) in table.lines.iter().enumerate() {
         if let Some(other) = reach_at(line, item, variables, entering) {
-            reach = shorter(reach, other);
+            let is_greater = reach.line.is_some() && other.size > reach.size;
+            if other.length < reach.length || (other.length == reach.length && is_greater) {
+                reach = other;
+            }
         }
     }
     reach
 }
 
-/// A primal move, where a reduced cost asks for one.
+/// A primal move; where none is made, since no reduced cost asks for one or nothing stops the variable that enters, how
+/// the guess ends.
 pub(crate) fn primal_move(
     table: &mut Table,
     variables: &mut Variables,
     rate: i64,
-) -> Result<PrimalMove, Stop> {
+) -> Result<Option<Outcome>, Stop> {
     let Some(entering) = steepest(table, variables, rate) else {
-        return Ok(PrimalMove::Optimal);
+        return Ok(Some(Outcome::Optimal));
     };
     let reach = shortest(table, variables, entering);
     match reach.line {
         Some(line) => exchange(table, variables, line, entering.place, reach.standing)?,
-        None if reach.length >= OPEN => return Ok(PrimalMove::Endless),
+        None if reach.length >= OPEN => return Ok(Some(Outcome::Endless)),
         None => flip(table, variables, entering.place)?,
     }
-    Ok(PrimalMove::Made)
+    Ok(None)
 }

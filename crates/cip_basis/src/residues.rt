@@ -36,16 +36,12 @@ pub(crate) fn minus(a: u64, b: u64) -> u64 {
     }
 }
 
-/// What a size leaves.
-pub(crate) fn residue_of_size(size: u128) -> u64 {
-    let front = once_less(low(size >> 122));
-    let sum = once_less(low(size)).wrapping_add(once_less(low(size >> 61)));
-    once_less(once_less(sum).wrapping_add(front))
-}
-
 /// What a number leaves.
 pub(crate) fn residue(number: i128) -> u64 {
-    let rest = residue_of_size(number.unsigned_abs());
+    let size = number.unsigned_abs();
+    let front = once_less(low(size >> 122));
+    let sum = once_less(low(size)).wrapping_add(once_less(low(size >> 61)));
+    let rest = once_less(once_less(sum).wrapping_add(front));
     if number < 0 { minus(0, rest) } else { rest }
 }
 
@@ -76,23 +72,6 @@ pub(crate) fn split(number: u128) -> (u64, u128) {
         (rest - PRIME, quotient.wrapping_add(1))
     } else {
         (rest, quotient)
-    }
-}
-
-/// A number of a list, 0 past its end.
-#[inline(always)]
-pub(crate) fn residue_at(list: &[u64], place: usize) -> u64 {
-    match list.get(place) {
-        Some(number) => *number,
-        None => 0,
-    }
-}
-
-/// Sets a number of a list.
-#[inline(always)]
-pub(crate) fn put_residue(list: &mut [u64], place: usize, number: u64) {
-    if let Some(item) = list.get_mut(place) {
-        *item = number;
     }
 }
 

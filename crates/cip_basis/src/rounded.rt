@@ -1,7 +1,7 @@
 //! A combination by the multipliers of a basis that is guessed, which are rounded and mended.
 use crate::combos::{empty_combo, put_multiple, row_of};
+use crate::given::number_of;
 use crate::mending::{Mending, has_side};
-use crate::placement::short;
 use crate::{Given, Guess, Outcome, RowMultiplier};
 use cip_frac::Frac;
 use cip_lin::Combo;
@@ -21,23 +21,21 @@ fn set_multiplier(given: &Given, row: u32, multiplier: Frac, multipliers: &mut [
     }
 }
 
-/// Sets the multipliers of rows, or their opposites.
-fn set_all(given: &Given, list: &[RowMultiplier], is_turned: bool, multipliers: &mut [Frac]) {
+/// Sets the multipliers of rows, or their opposites, by how a guess has ended, and that of the row of a variable that
+/// can't be brought between its sides.
+fn set_all(given: &Given, list: &[RowMultiplier], outcome: Outcome, multipliers: &mut [Frac]) {
+    let (broken, is_turned) = match outcome {
+        Outcome::Broken { variable, below } => (row_of(given, variable), below),
+        _ => (None, false),
+    };
     for item in list {
         let own = item.multiplier();
         let multiplier = if is_turned { own.neg() } else { own };
         set_multiplier(given, item.row, multiplier, multipliers);
     }
-}
-
-/// The multiplier of the row of a variable that can't be brought between its sides.
-fn set_broken(given: &Given, outcome: Outcome, multipliers: &mut [Frac]) {
-    let Outcome::Broken { variable, below } = outcome else {
-        return;
-    };
-    if let Some(row) = row_of(given, variable) {
+    if let Some(row) = broken {
         let one = Frac::one();
-        let multiplier = if below { one } else { one.neg() };
+        let multiplier = if is_turned { one } else { one.neg() };
         set_multiplier(given, row, multiplier, multipliers);
     }
 }
@@ -45,45 +43,11 @@ fn set_broken(given: &Given, outcome: Outcome, multipliers: &mut [Frac]) {
 /// The rests of the columns before a row is taken off: the costs, or 0 where an emptiness is to be shown.
 fn first_rests(alloc: Global, given: &Given, outcome: Outcome) -> Result<Vec<Frac>, AllocError> {
     let mut rests = Vec::new(alloc);
-    for column in 0..given.columns() {
-        if outcome == Outcome::Optimal {
-            rests.push(given.cost(column))?;
-        } else {
-            rests.push(Frac::zero())?;
-        }
+    if outcome == Outcome::Optimal {
+        rests.extend_from_slice(given.costs)?;
     }
+    rests.resize(given.columns(), Frac::zero())?;
     Ok(rests)
-}
-
-/// The rows with multipliers as a combination.
-fn combo_of(alloc: Global, given: &Given, multipliers: &[Frac]) -> Result<Combo, AllocError> {
-    let mut combo = empty_combo(alloc);
-    for (number, multiplier) in multipliers.iter().enumerate() {
-        put_multiple(given, short(number), *multiplier, &mut combo.rows)?;
-    }
-    Ok(combo)
-}
-
-/// Whether the multipliers of rows are to be turned for how a guess ended.
-fn is_turned(outcome: Outcome) -> bool {
-    match outcome {
-        Outcome::Broken { below, .. } => below,
-        _ => false,
-    }
-}
-
-/// The multipliers of all rows, by those that are listed at the end of a guess.
-fn spread(
-    alloc: Global,
-    given: &Given,
-    outcome: Outcome,
-    list: &[RowMultiplier],
-) -> Result<Vec<Frac>, AllocError> {
-    let mut multipliers = Vec::new(alloc);
-    multipliers.resize(given.rows(), Frac::zero())?;
-    set_all(given, list, is_turned(outcome), multipliers.as_mut_slice());
-    set_broken(given, outcome, multipliers.as_mut_slice());
-    Ok(multipliers)
 }
 
 /// The multipliers of all rows at the end of a guess, rounded; none where a number is out of range.
@@ -94,11 +58,13 @@ fn rounded_multipliers(
     outcome: Outcome,
 ) -> Result<Option<Vec<Frac>>, AllocError> {
     let mut list = Vec::new(alloc);
-    match guess.list_multipliers(outcome, &mut list) {
-        Ok(true) => spread(alloc, given, outcome, list.as_slice()).map(Some),
-        Ok(false) => Ok(None),
-        Err(_) => Err(AllocError),
+    if !guess.list_multipliers(outcome, &mut list)? {
+        return Ok(None);
     }
+    let mut multipliers = Vec::new(alloc);
+    multipliers.resize(given.rows(), Frac::zero())?;
+    set_all(given, list.as_slice(), outcome, multipliers.as_mut_slice());
+    Ok(Some(multipliers))
 }
 
 /// The rows with multipliers that are mended as a combination; none where that fails.
@@ -110,7 +76,11 @@ fn mended_combo(
     if !mending.mend(given)? {
         return Ok(None);
     }
-    combo_of(alloc, given, mending.multipliers.as_slice()).map(Some)
+    let mut combo = empty_combo(alloc);
+    for (number, multiplier) in mending.multipliers.iter().enumerate() {
+        put_multiple(given, number_of(number), *multiplier, &mut combo.rows)?;
+    }
+    Ok(Some(combo))
 }
 
 /// A combination by the multipliers at the end of a guess: it bounds the costs where the basis is said to be optimal,

@@ -1,4 +1,5 @@
 //! Sparse rows modulo the prime, and in which rows each column stands.
+use crate::lists::item_at;
 use crate::residues::{minus, times};
 use std::alloc::{AllocError, Global};
 
@@ -20,19 +21,12 @@ pub(crate) fn ready_lists<T: Drop>(
     Ok(())
 }
 
-/// Puts a number at the end of the list at a place, if there is one.
-fn push_at(lists: &mut [Vec<u32>], place: usize, number: u32) -> Result<(), AllocError> {
-    if let Some(list) = lists.get_mut(place) {
-        list.push(number)?;
+/// Puts a number at the end.
+pub(crate) fn push_number(numbers: &mut Vec<u32>, number: u32) -> Result<(), AllocError> {
+    if numbers.push(number).is_err() {
+        return Err(AllocError);
     }
     Ok(())
-}
-
-/// Counts one more at a place, if there is a count.
-fn count_one(counts: &mut [u32], place: usize) {
-    if let Some(count) = counts.get_mut(place) {
-        *count = count.saturating_add(1);
-    }
 }
 
 /// In which rows each column stands, or stood, and in how many that are left it does.
@@ -60,16 +54,18 @@ impl Columns {
 
     /// In how many rows that are left a column stands.
     pub(crate) fn count(&self, column: u32) -> u32 {
-        match self.counts.get(column as usize) {
-            Some(count) => *count,
-            None => 0,
-        }
+        item_at(self.counts.as_slice(), column as usize, 0)
     }
 
     /// A column comes to stand in a row.
     pub(crate) fn gain(&mut self, column: u32, row: u32) -> Result<(), AllocError> {
-        count_one(self.counts.as_mut_slice(), column as usize);
-        push_at(self.within.as_mut_slice(), column as usize, row)
+        if let Some(count) = self.counts.get_mut(column as usize) {
+            *count = count.saturating_add(1);
+        }
+        match self.within.get_mut(column as usize) {
+            Some(rows) => push_number(rows, row),
+            None => Ok(()),
+        }
     }
 
     /// A column stands in one row less.

@@ -2,7 +2,7 @@
 use crate::fixed::order;
 use crate::given::Given;
 use crate::stops::Stop;
-use crate::variables::{Standing, Variable, Variables};
+use crate::variables::Variables;
 use cip_lin::{Frac, Row};
 use std::alloc::Global;
 
@@ -55,25 +55,13 @@ pub(crate) fn row_up(row: &Row, variables: &Variables) -> i32 {
     span.middle().wrapping_neg()
 }
 
-/// Takes an order of magnitude into the span of a column.
-fn widen_at(spans: &mut [Span], column: usize, order: i32) {
-    if let Some(span) = spans.get_mut(column) {
-        *span = span.with(order);
-    }
-}
-
 /// Takes the terms of a row into the spans of their columns.
 fn widen(spans: &mut [Span], row: &Row, up: i32) {
     for term in row.terms() {
-        widen_at(spans, term.col as usize, order(term.coef).wrapping_add(up));
+        if let Some(span) = spans.get_mut(term.col as usize) {
+            *span = span.with(order(term.coef).wrapping_add(up));
+        }
     }
-}
-
-/// Scales a row, whose variable has this number, and takes it into the spans of the columns.
-fn scale_row(row: &Row, variable: usize, variables: &mut Variables, spans: &mut [Span]) {
-    let up = row_up(row, variables);
-    variables.set_up(variable, up);
-    widen(spans, row, up);
 }
 
 /// Scales the rows, and takes them into the spans of the columns.
@@ -81,15 +69,10 @@ fn scale_rows(given: &Given, variables: &mut Variables, spans: &mut [Span]) {
     let columns = given.columns();
     for number in 0..given.rows() {
         if let Some(row) = given.row(number) {
-            scale_row(row, columns.wrapping_add(number), variables, spans);
+            let up = row_up(row, variables);
+            variables.set_up(columns.wrapping_add(number), up);
+            widen(spans, row, up);
         }
-    }
-}
-
-/// Scales the columns.
-fn scale_columns(variables: &mut Variables, spans: &[Span]) {
-    for (column, span) in spans.iter().enumerate() {
-        variables.set_up(column, span.middle());
     }
 }
 
@@ -108,27 +91,14 @@ pub(crate) fn cost_up(costs: &[Frac], variables: &Variables) -> i32 {
     }
 }
 
-/// Puts so many variables at the end that stand so.
-fn push_all(count: usize, standing: Standing, variables: &mut Variables) -> Result<(), Stop> {
-    for _ in 0..count {
-        variables.push(Variable::new(standing))?;
-    }
-    Ok(())
-}
-
-/// Makes the variables of a linear program: the columns at their low sides, the rows basic.
-fn make(given: &Given, variables: &mut Variables) -> Result<(), Stop> {
-    variables.clear();
-    push_all(given.columns(), Standing::Low, variables)?;
-    push_all(given.rows(), Standing::Basic, variables)
-}
-
 /// Scales the rows and then the columns, whose spans stand in a list.
 fn scale_once(given: &Given, variables: &mut Variables, spans: &mut Vec<Span>) -> Result<(), Stop> {
     spans.clear();
     spans.resize(given.columns(), Span::none())?;
     scale_rows(given, variables, spans.as_mut_slice());
-    scale_columns(variables, spans.as_slice());
+    for (column, span) in spans.iter().enumerate() {
+        variables.set_up(column, span.middle());
+    }
     Ok(())
 }
 
@@ -139,7 +109,7 @@ pub(crate) fn make_scaled(
     given: &Given,
     variables: &mut Variables,
 ) -> Result<(), Stop> {
-    make(given, variables)?;
+    variables.begin(given.columns(), given.rows())?;
     let mut spans = Vec::new(alloc);
     for _ in 0..PASSES {
         scale_once(given, variables, &mut spans)?;

@@ -26,25 +26,6 @@ pub enum Shown {
     Empty,
 }
 
-/// The point of a basis, where it is one of the program.
-fn own_point(
-    alloc: Global,
-    basis: &mut Basis,
-    problem: &Problem<'_>,
-    size: Length,
-) -> Result<Option<Vec<Frac>>, AllocError>
-    requires ready { IsReady problem.now }
-    ensures long { IfOk result (λ found. IfSome found
-        (λ point. length point.items ≡ length problem.entry.now.bounds.now)) }
-    ensures point { IfOk result (λ found. IfSome found
-        (λ point. IsPoint (program_of problem.entry.now) point.items)) }
-{
-    match basis.point(alloc, &problem.given(), size) {
-        Ok(values) => Ok(tested(problem, values)),
-        Err(_) => Err(AllocError),
-    }
-}
-
 /// A point with its cost and a combination, where that bounds the costs by as much.
 fn least(
     problem: &Problem<'_>,
@@ -78,10 +59,14 @@ fn optimum(
     ensures shown { IfOk result (λ found. IfSome found (IsShown (program_of problem.entry.now))) }
     ensures room { length scratch.new.row.entries ≡ length scratch.old.row.entries }
 {
-    let Some(point) = own_point(alloc, basis, problem, size)? else {
+    let given = problem.given();
+    let Ok(values) = basis.point(alloc, &given, size) else {
+        return Err(AllocError);
+    };
+    let Some(point) = tested(problem, values) else {
         return Ok(None);
     };
-    match basis.cost_combo(alloc, &problem.given(), size) {
+    match basis.combo(alloc, &given, Outcome::Optimal, size) {
         Ok(Some(combo)) => Ok(least(problem, point, combo, scratch)),
         Ok(None) => Ok(None),
         Err(_) => Err(AllocError),
@@ -102,29 +87,8 @@ fn emptied(problem: &Problem<'_>, combo: &Combo, scratch: &mut Scratch) -> Optio
     }
 }
 
-/// That there is no point, where a basic variable that can't be brought between its sides shows it.
-fn emptiness(
-    alloc: Global,
-    basis: &mut Basis,
-    problem: &Problem<'_>,
-    broken: (u32, bool),
-    size: Length,
-    scratch: &mut Scratch,
-) -> Result<Option<Shown>, AllocError>
-    requires ready { IsReady problem.now }
-    requires room { length problem.now.bounds.now ≤ length scratch.old.row.entries }
-    ensures shown { IfOk result (λ found. IfSome found (IsShown (program_of problem.entry.now))) }
-    ensures room { length scratch.new.row.entries ≡ length scratch.old.row.entries }
-{
-    let (variable, below) = broken;
-    match basis.break_combo(alloc, &problem.given(), variable, below, size) {
-        Ok(Some(combo)) => Ok(emptied(problem, &combo, scratch)),
-        Ok(None) => Ok(None),
-        Err(_) => Err(AllocError),
-    }
-}
-
-/// What a basis shows where parts of numbers are at most so long.
+/// What a basis shows where parts of numbers are at most so long: its point, where it is optimal, or that there is no
+/// point, where a basic variable that can't be brought between its sides shows it.
 fn shown_by(
     alloc: Global,
     basis: &mut Basis,
@@ -138,32 +102,12 @@ fn shown_by(
     ensures shown { IfOk result (λ found. IfSome found (IsShown (program_of problem.entry.now))) }
     ensures room { length scratch.new.row.entries ≡ length scratch.old.row.entries }
 {
-    match outcome {
-        Outcome::Optimal => optimum(alloc, basis, problem, size, scratch),
-        Outcome::Broken { variable, below } => {
-            let broken = (variable, below);
-            emptiness(alloc, basis, problem, broken, size, scratch)
-        }
-        Outcome::Endless => Ok(None),
+    if outcome == Outcome::Optimal {
+        return optimum(alloc, basis, problem, size, scratch);
     }
-}
-
-/// What a basis shows, at first with short parts.
-fn shown_at_length(
-    alloc: Global,
-    basis: &mut Basis,
-    problem: &Problem<'_>,
-    outcome: Outcome,
-    scratch: &mut Scratch,
-) -> Result<Option<Shown>, AllocError>
-    requires ready { IsReady problem.now }
-    requires room { length problem.now.bounds.now ≤ length scratch.old.row.entries }
-    ensures shown { IfOk result (λ found. IfSome found (IsShown (program_of problem.entry.now))) }
-    ensures room { length scratch.new.row.entries ≡ length scratch.old.row.entries }
-{
-    match shown_by(alloc, basis, problem, outcome, Length::Short, scratch) {
-        Ok(Some(shown)) => Ok(Some(shown)),
-        Ok(None) => shown_by(alloc, basis, problem, outcome, Length::Long, scratch),
+    match basis.combo(alloc, &problem.given(), outcome, size) {
+        Ok(Some(combo)) => Ok(emptied(problem, &combo, scratch)),
+        Ok(None) => Ok(None),
         Err(_) => Err(AllocError),
     }
 }
@@ -181,9 +125,14 @@ fn shown_once(
     ensures shown { IfOk result (λ found. IfSome found (IsShown (program_of problem.entry.now))) }
     ensures room { length scratch.new.row.entries ≡ length scratch.old.row.entries }
 {
-    match basis.ready(alloc, &problem.given(), anew) {
-        Ok(Some(outcome)) => shown_at_length(alloc, basis, problem, outcome, scratch),
-        Ok(None) => Ok(None),
+    let outcome = match basis.ready(alloc, &problem.given(), anew) {
+        Ok(Some(outcome)) => outcome,
+        Ok(None) => return Ok(None),
+        Err(_) => return Err(AllocError),
+    };
+    match shown_by(alloc, basis, problem, outcome, Length::Short, scratch) {
+        Ok(Some(shown)) => Ok(Some(shown)),
+        Ok(None) => shown_by(alloc, basis, problem, outcome, Length::Long, scratch),
         Err(_) => Err(AllocError),
     }
 }
@@ -205,7 +154,7 @@ pub fn show(
 {
     match shown_once(alloc, basis, problem, false, scratch) {
         Ok(Some(shown)) => Ok(Some(shown)),
-        Ok(None) if basis.may_be_rounding() => show_anew(alloc, basis, problem, scratch),
+        Ok(None) if basis.is_in_range => show_anew(alloc, basis, problem, scratch),
         Ok(None) => Ok(None),
         Err(_) => Err(AllocError),
     }

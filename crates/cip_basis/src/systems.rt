@@ -1,7 +1,9 @@
 //! Square systems of linear equations over whole numbers, solved exactly.
-use crate::elimination::{Elimination, short};
-use crate::fractions::{Denominator, Precision, fraction_of};
-use crate::residues::{PRIME, residue, residue_at};
+use crate::elimination::Elimination;
+use crate::fractions::{Precision, fraction_of};
+use crate::given::number_of;
+use crate::lists::item_at;
+use crate::residues::{PRIME, residue};
 use crate::rows::ready_lists;
 use cip_frac::{Frac, short_gcd};
 use std::alloc::{AllocError, Global};
@@ -37,20 +39,18 @@ pub struct System {
     digits: Vec<u64>,
 }
 
-/// The least common multiple of a number and a denominator, where it has at most 63 bits.
-fn common_multiple(number: u64, denominator: i128) -> Option<u64> {
-    let under = u64::try_from(denominator).ok()?;
-    let part = under.checked_div(short_gcd(number, under))?;
-    let common = number.checked_mul(part)?;
-    if common < 1 << 63 { Some(common) } else { None }
-}
-
 /// The least common denominator of fractions, where it has at most 63 bits.
 pub fn common_denominator(numbers: &[Frac]) -> Option<u64> {
-    let mut common = 1;
+    let mut common = 1u64;
     for number in numbers {
-        if !number.is_whole() {
-            common = common_multiple(common, number.denominator())?;
+        if number.is_whole() {
+            continue;
+        }
+        let under = u64::try_from(number.denominator()).ok()?;
+        let part = under.checked_div(short_gcd(common, under))?;
+        common = common.checked_mul(part)?;
+        if common >= 1 << 63 {
+            return None;
         }
     }
     Some(common)
@@ -84,33 +84,10 @@ fn take_row_off(
     for item in numbers {
         let column = item.0 as usize;
         match direction {
-            Direction::Rows => take_off(rests, row, item.1, residue_at(digits, column)),
-            Direction::Columns => take_off(rests, column, item.1, residue_at(digits, row)),
+            Direction::Rows => take_off(rests, row, item.1, item_at(digits, column, 0)),
+            Direction::Columns => take_off(rests, column, item.1, item_at(digits, row, 0)),
         }
     }
-}
-
-/// Divides each rest by the prime.
-fn divide_rests(rests: &mut [i128]) {
-    for rest in rests.iter_mut() {
-        *rest /= PRIME as i128;
-    }
-}
-
-/// Puts a number of a column behind the others of a row.
-#[inline]
-fn put_behind(numbers: &mut Vec<(u32, i64)>, column: usize, number: i64) -> Result<(), AllocError> {
-    numbers.push((short(column), number))?;
-    Ok(())
-}
-
-/// Lists rests modulo the prime.
-fn list_residues(rests: &[i128], residues: &mut Vec<u64>) -> Result<(), AllocError> {
-    residues.clear();
-    for rest in rests {
-        residues.push(residue(*rest))?;
-    }
-    Ok(())
 }
 
 /// Lists right sides times a common denominator; whether they fit.
@@ -147,10 +124,10 @@ impl System {
 
     /// Puts a number behind the others of a row, in which columns rise.
     pub fn put(&mut self, row: usize, column: usize, number: i64) -> Result<(), AllocError> {
-        match self.matrix.get_mut(row) {
-            Some(numbers) => put_behind(numbers, column, number),
-            None => Ok(()),
+        if let Some(numbers) = self.matrix.get_mut(row) {
+            numbers.push((number_of(column), number))?;
         }
+        Ok(())
     }
 
     /// Eliminates the matrix; whether it is regular modulo the prime.
@@ -159,14 +136,17 @@ impl System {
             .eliminate(alloc, self.matrix.as_slice(), self.size)
     }
 
-    /// The rests modulo the prime.
+    /// Lists the rests modulo the prime, and has a value 0 of each unknown.
     fn reduce_rests(&mut self) -> Result<(), AllocError> {
-        list_residues(self.rests.as_slice(), &mut self.right)?;
+        self.right.clear();
+        for rest in &self.rests {
+            self.right.push(residue(*rest))?;
+        }
         self.values.clear();
         self.values.resize(self.size, 0)
     }
 
-    /// Takes the matrix times the last digits off the rests, and divides them.
+    /// Takes the matrix times the last digits off the rests.
     fn lower_rests(&mut self, direction: Direction) {
         let values = self.values.as_slice();
         for row in 0..self.size {
@@ -175,34 +155,22 @@ impl System {
                 take_row_off(numbers.as_slice(), row, values, direction, rests);
             }
         }
-        divide_rests(self.rests.as_mut_slice());
     }
 
-    /// Solves for the next digits of all unknowns.
-    fn solve_digits(&mut self, direction: Direction) {
+    /// Lifts one more digit of each unknown.
+    fn lift(&mut self, direction: Direction) -> Result<(), AllocError> {
+        self.reduce_rests()?;
         let right = self.right.as_mut_slice();
         let values = self.values.as_mut_slice();
         match direction {
             Direction::Rows => self.elimination.solve(right, values),
             Direction::Columns => self.elimination.solve_turned(right, values),
         }
-    }
-
-    /// Lifts one more digit of each unknown.
-    fn lift_once(&mut self, direction: Direction) -> Result<(), AllocError> {
-        self.reduce_rests()?;
-        self.solve_digits(direction);
         self.lower_rests(direction);
-        self.digits.extend_from_slice(self.values.as_slice())
-    }
-
-    /// Lifts so many digits.
-    fn lift(&mut self, direction: Direction, count: usize) -> Result<(), AllocError> {
-        self.digits.clear();
-        for _ in 0..count {
-            self.lift_once(direction)?;
+        for rest in self.rests.iter_mut() {
+            *rest /= PRIME as i128;
         }
-        Ok(())
+        self.digits.extend_from_slice(self.values.as_slice())
     }
 
     /// The digits of one unknown, so many.
@@ -211,7 +179,7 @@ impl System {
         for place in 0..5usize {
             if place < count {
                 let at = place.wrapping_mul(self.size).wrapping_add(unknown);
-                out[place] = residue_at(self.digits.as_slice(), at);
+                out[place] = item_at(self.digits.as_slice(), at, 0);
             }
         }
         out
@@ -228,7 +196,7 @@ impl System {
         let Ok(scale) = Frac::new(1, i128::from(common)) else {
             return Ok(false);
         };
-        let mut known = Denominator { value: 1 };
+        let mut known = 1u128;
         for unknown in 0..self.size {
             let digits = self.digits_at(unknown, precision.count);
             let Some(value) = fraction_of(digits, precision, &mut known) else {
@@ -264,7 +232,10 @@ impl System {
                 bits: 127,
             },
         };
-        self.lift(direction, precision.count)?;
+        self.digits.clear();
+        for _ in 0..precision.count {
+            self.lift(direction)?;
+        }
         self.read_off(precision, common, out)
     }
 }

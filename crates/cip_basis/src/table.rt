@@ -1,6 +1,7 @@
 //! The table of a basis: each basic variable as a sum of the loose ones.
 use crate::fixed::{BITS, MOST, UNIT, fixed, long_product, quotient, short_bit_length, step};
 use crate::given::{Given, number_of};
+use crate::lists::{item_at, put_at};
 use crate::stops::Stop;
 use crate::variables::Variables;
 use cip_lin::Row;
@@ -13,15 +14,6 @@ pub(crate) struct Line {
     pub(crate) entries: Vec<i64>,
 }
 
-/// A number of a list, 0 past its end.
-#[inline]
-pub(crate) fn entry_at(entries: &[i64], place: usize) -> i64 {
-    match entries.get(place) {
-        Some(entry) => *entry,
-        None => 0,
-    }
-}
-
 /// The table: a line for each basic variable, what the cost takes of each loose one, and the loose variables.
 #[derive(Drop)]
 pub(crate) struct Table {
@@ -29,18 +21,8 @@ pub(crate) struct Table {
     pub(crate) costs: Vec<i64>,
     pub(crate) loose: Vec<u32>,
     pivot: Vec<(usize, i64)>,
-    work: u64,
-}
-
-/// What a line that is solved for the loose variable at a place takes of it, or of another one whose entry this is.
-#[inline]
-fn solved(entry: i64, is_own: bool, divisor: i64) -> Result<i64, Stop> {
-    if is_own {
-        quotient(UNIT, divisor)
-    } else {
-        let over = quotient(entry, divisor)?;
-        Ok(over.wrapping_neg())
-    }
+    /// How many entries may still be written.
+    pub(crate) work: u64,
 }
 
 /// Solves a line for the loose variable at a place; leaves what it then takes of each loose one, and answers the bits
@@ -51,34 +33,23 @@ fn solve_line(
     pivot: &mut Vec<(usize, i64)>,
 ) -> Result<i32, Stop> {
     pivot.clear();
-    let divisor = entry_at(entries, place);
+    let divisor = item_at(entries, place, 0);
     let mut seen = 0u64;
     for at in 0..entries.len() {
         let entry = entries[at];
         if entry == 0 {
             continue;
         }
-        let number = solved(entry, at == place, divisor)?;
+        let number = if at == place {
+            quotient(UNIT, divisor)?
+        } else {
+            quotient(entry, divisor)?.wrapping_neg()
+        };
         entries[at] = number;
         seen |= number.unsigned_abs();
         pivot.push((at, number))?;
     }
     Ok(short_bit_length(seen))
-}
-
-/// Adds a multiple of the solved line to another; answers the union of the bits of the entries.
-#[inline]
-fn add_multiple(entries: &mut [i64], pivot: &[(usize, i64)], factor: i64) -> u64 {
-    let mut seen = 0u64;
-    for item in pivot {
-        let (place, number) = *item;
-        if let Some(entry) = entries.get_mut(place) {
-            let sum = step(*entry, factor, number);
-            *entry = sum;
-            seen |= sum.unsigned_abs();
-        }
-    }
-    seen
 }
 
 /// Puts the solved line in the place of a loose variable in another line; answers how many entries were written.
@@ -88,7 +59,7 @@ fn put_in(
     pivot: &[(usize, i64)],
     wide: i32,
 ) -> Result<u64, Stop> {
-    let factor = entry_at(entries, place);
+    let factor = item_at(entries, place, 0);
     if factor == 0 {
         return Ok(1);
     }
@@ -96,16 +67,27 @@ fn put_in(
     if bits.wrapping_sub(BITS as i32) > 59 {
         return Err(Stop::GaveUp);
     }
-    set_entry(entries, place, 0);
-    if add_multiple(entries, pivot, factor) >= MOST as u64 {
+    put_at(entries, place, 0);
+    let mut seen = 0u64;
+    for item in pivot {
+        let (at, number) = *item;
+        if let Some(entry) = entries.get_mut(at) {
+            let sum = step(*entry, factor, number);
+            *entry = sum;
+            seen |= sum.unsigned_abs();
+        }
+    }
+    if seen >= MOST as u64 {
         return Err(Stop::GaveUp);
     }
     Ok(pivot.len() as u64)
 }
 
-/// Puts the solved line, which has this number, into all others; answers how many entries were written.
+/// Puts the solved line, which has this number, into all others and into the costs; answers how many entries were
+/// written.
 fn put_in_all(
     lines: &mut [Line],
+    costs: &mut [i64],
     own: usize,
     place: usize,
     pivot: &[(usize, i64)],
@@ -119,7 +101,8 @@ fn put_in_all(
             work = work.wrapping_add(more);
         }
     }
-    Ok(work)
+    let more = put_in(costs, place, pivot, wide)?;
+    Ok(work.wrapping_add(more))
 }
 
 /// Fills the line of a number by the row of that number; there is one, or it is the next.
@@ -166,69 +149,22 @@ fn turn_line(
     solve_line(own.entries.as_mut_slice(), place, pivot)
 }
 
-/// Puts the solved line, which has this number, into all others and into the costs; answers how many entries were
-/// written.
-fn put_in_others(
-    lines: &mut [Line],
-    costs: &mut [i64],
-    own: usize,
-    place: usize,
-    pivot: &[(usize, i64)],
-    wide: i32,
-) -> Result<u64, Stop> {
-    let written = put_in_all(lines, own, place, pivot, wide)?;
-    let more = put_in(costs, place, pivot, wide)?;
-    Ok(written.wrapping_add(more))
-}
-
-/// A variable becomes the loose one at a place.
-fn set_loose(loose: &mut [u32], place: usize, variable: u32) {
-    if let Some(number) = loose.get_mut(place) {
-        *number = variable;
-    }
-}
-
-/// Makes all columns loose, in their order.
-fn fill_loose(columns: usize, loose: &mut Vec<u32>) -> Result<(), Stop> {
-    loose.clear();
-    for column in 0..columns {
-        loose.push(number_of(column))?;
-    }
-    Ok(())
-}
-
-/// Puts the cost of a column at the end.
-fn put_cost(
-    given: &Given,
-    variables: &Variables,
-    up: i32,
-    column: usize,
-    costs: &mut Vec<i64>,
-) -> Result<(), Stop> {
-    let cost = fixed(given.cost(column), up.wrapping_sub(variables.up(column)))?;
-    costs.push(cost)?;
-    Ok(())
-}
-
-/// Fills the costs.
+/// Makes all columns loose, in their order, and fills the costs.
 fn fill_costs(
     given: &Given,
     variables: &Variables,
     up: i32,
+    loose: &mut Vec<u32>,
     costs: &mut Vec<i64>,
 ) -> Result<(), Stop> {
+    loose.clear();
     costs.clear();
     for column in 0..given.columns() {
-        put_cost(given, variables, up, column, costs)?;
+        loose.push(number_of(column))?;
+        let cost = fixed(given.cost(column), up.wrapping_sub(variables.up(column)))?;
+        costs.push(cost)?;
     }
     Ok(())
-}
-
-/// Puts a number at a place of a line.
-fn set_entry(entries: &mut [i64], place: usize, number: i64) {
-    if let Some(entry) = entries.get_mut(place) {
-        *entry = number;
-    }
 }
 
 /// Fills a line by a row.
@@ -244,7 +180,7 @@ fn fill_line(
     for term in row.terms() {
         let column = term.col as usize;
         let number = fixed(term.coef, up.wrapping_sub(variables.up(column)))?;
-        set_entry(entries.as_mut_slice(), column, number);
+        put_at(entries.as_mut_slice(), column, number);
     }
     Ok(())
 }
@@ -259,11 +195,6 @@ impl Table {
             pivot: Vec::new(alloc),
             work: 0,
         }
-    }
-
-    /// Gives it so many entries to write.
-    pub(crate) fn allow(&mut self, work: u64) {
-        self.work = work;
     }
 
     /// Takes so many entries off what may be written.
@@ -302,32 +233,15 @@ impl Table {
 
     /// The loose variable at a place.
     pub(crate) fn loose_at(&self, place: usize) -> u32 {
-        match self.loose.get(place) {
-            Some(number) => *number,
-            None => u32::MAX,
-        }
+        item_at(self.loose.as_slice(), place, u32::MAX)
     }
 
     /// An entry.
     pub(crate) fn entry(&self, line: usize, place: usize) -> i64 {
         match self.lines.get(line) {
-            Some(line) => entry_at(line.entries.as_slice(), place),
+            Some(line) => item_at(line.entries.as_slice(), place, 0),
             None => 0,
         }
-    }
-
-    /// Fills the lines by the rows.
-    fn fill_lines(
-        &mut self,
-        alloc: Global,
-        given: &Given,
-        variables: &Variables,
-    ) -> Result<(), Stop> {
-        self.lines.truncate(given.rows());
-        for number in 0..given.rows() {
-            fill_at(alloc, &mut self.lines, number, given, variables)?;
-        }
-        Ok(())
     }
 
     /// The table of the rows, in which no column is basic.
@@ -338,9 +252,11 @@ impl Table {
         variables: &Variables,
         up: i32,
     ) -> Result<(), Stop> {
-        self.fill_lines(alloc, given, variables)?;
-        fill_loose(given.columns(), &mut self.loose)?;
-        fill_costs(given, variables, up, &mut self.costs)
+        self.lines.truncate(given.rows());
+        for number in 0..given.rows() {
+            fill_at(alloc, &mut self.lines, number, given, variables)?;
+        }
+        fill_costs(given, variables, up, &mut self.loose, &mut self.costs)
     }
 
     /// The variable of a line and the loose one at a place change places.
@@ -349,7 +265,7 @@ impl Table {
         let outgoing = self.basic_at(line);
         let lines = self.lines.as_mut_slice();
         let wide = turn_line(lines, line, incoming, place, &mut self.pivot)?;
-        let written = put_in_others(
+        let written = put_in_all(
             self.lines.as_mut_slice(),
             self.costs.as_mut_slice(),
             line,
@@ -357,7 +273,7 @@ impl Table {
             self.pivot.as_slice(),
             wide,
         )?;
-        set_loose(self.loose.as_mut_slice(), place, outgoing);
+        put_at(self.loose.as_mut_slice(), place, outgoing);
         self.spend(written)
     }
 }
@@ -379,7 +295,7 @@ pub(crate) fn sum_of(entries: &[i64], ways: &[(usize, i64)]) -> i128 {
     let mut sum = 0i128;
     for item in ways {
         let (place, way) = *item;
-        sum = sum.wrapping_add(long_product(entry_at(entries, place), way));
+        sum = sum.wrapping_add(long_product(item_at(entries, place, 0), way));
     }
     sum
 }

@@ -1,25 +1,18 @@
 //! The point of a basis.
-use crate::placement::{Placement, short};
+use crate::given::number_of;
+use crate::lists::put_at;
+use crate::placement::Placement;
 use crate::{Given, Guess, Standing};
 use cip_frac::Frac;
 use cip_lin::{Row, Sides};
 use std::alloc::AllocError;
 
-/// A number of a list, 0 past its end.
-pub(crate) fn number_at(numbers: &[Frac], place: usize) -> Frac {
-    match numbers.get(place) {
-        Some(number) => *number,
-        None => Frac::zero(),
-    }
-}
-
 /// The value of a variable where it stands; 0 of a basic one, none where the side isn't there.
-fn standing_value(standing: Standing, sides: Sides) -> Option<Frac> {
+pub(crate) fn standing_value(standing: Standing, sides: Sides) -> Option<Frac> {
     match standing {
         Standing::Low => sides.low,
         Standing::High => sides.high,
-        Standing::Zero => Some(Frac::zero()),
-        Standing::Basic => Some(Frac::zero()),
+        Standing::Zero | Standing::Basic => Some(Frac::zero()),
     }
 }
 
@@ -31,7 +24,7 @@ pub(crate) fn put_loose(
 ) -> Result<bool, AllocError> {
     point.clear();
     for column in 0..given.columns() {
-        let standing = guess.standing(short(column));
+        let standing = guess.standing(number_of(column));
         match standing_value(standing, given.sides(column)) {
             Some(value) => point.push(value)?,
             None => return Ok(false),
@@ -64,21 +57,7 @@ pub(crate) fn scaled(value: Frac, scale: u64) -> Option<Frac> {
     }
 }
 
-/// What the side at which a row stands leaves for the basic columns, times a number.
-fn right_side(row: &Row, standing: Standing, point: &[Frac], scale: u64) -> Option<Frac> {
-    let sides = Sides {
-        low: row.low(),
-        high: row.high(),
-    };
-    let side = standing_value(standing, sides)?;
-    let sum = sum_at(row, point)?;
-    match side.sub(sum) {
-        Ok(left) => scaled(left, scale),
-        Err(_) => None,
-    }
-}
-
-/// The right side of a loose row, by its number; none where that isn't there.
+/// What the side at which a loose row stands leaves for the basic columns, times a number; none where it isn't there.
 fn right_of(
     guess: &Guess,
     given: &Given,
@@ -86,10 +65,13 @@ fn right_of(
     point: &[Frac],
     scale: u64,
 ) -> Option<Frac> {
-    let standing = guess.standing(short(given.columns().wrapping_add(number)));
-    match given.row(number) {
-        Some(row) => right_side(row, standing, point, scale),
-        None => None,
+    let variable = given.columns().wrapping_add(number);
+    let sum = sum_at(given.row(number)?, point)?;
+    let standing = guess.standing(number_of(variable));
+    let side = standing_value(standing, given.sides(variable))?;
+    match side.sub(sum) {
+        Ok(left) => scaled(left, scale),
+        Err(_) => None,
     }
 }
 
@@ -115,18 +97,11 @@ pub(crate) fn put_right_sides(
     Ok(true)
 }
 
-/// Sets the value of a column.
-fn set_value(point: &mut [Frac], column: usize, value: Frac) {
-    if let Some(place) = point.get_mut(column) {
-        *place = value;
-    }
-}
-
 /// Puts the values of the basic columns into the point.
 pub(crate) fn put_basic(columns: &[u32], values: &[Frac], point: &mut [Frac]) {
     for (place, column) in columns.iter().enumerate() {
         if let Some(value) = values.get(place) {
-            set_value(point, *column as usize, *value);
+            put_at(point, *column as usize, *value);
         }
     }
 }

@@ -1,8 +1,9 @@
 //! The variables of a linear program: columns, then rows.
 use crate::fixed::{OPEN, fixed};
 use crate::given::Given;
+use crate::lists::{item_at, put_at};
 use crate::stops::Stop;
-use cip_lin::{Frac, Sides};
+use cip_lin::Frac;
 use std::alloc::Global;
 
 /// Where a variable of a linear program stands in a basis.
@@ -93,47 +94,28 @@ impl Variable {
         };
     }
 
-    /// The side to go to where one of two is asked for: that, else the other, else 0.
-    fn nearest(&self, wants_low: bool) -> Standing {
-        match (self.has_low(), self.has_high()) {
-            (true, true) => {
-                if wants_low {
-                    Standing::Low
-                } else {
-                    Standing::High
-                }
-            }
-            (true, false) => Standing::Low,
+    /// Puts it at the side that its reduced cost asks for, else at the other, else at 0; where that cost is within the
+    /// tolerance, it stays where it can.
+    pub(crate) fn settle(&mut self, cost: i64, tolerance: i64) {
+        let stays_low = cost >= tolerance.saturating_neg() && self.standing != Standing::High;
+        let wants_low = cost > tolerance || stays_low;
+        let standing = match (self.has_low(), self.has_high()) {
+            (true, true) if !wants_low => Standing::High,
+            (true, _) => Standing::Low,
             (false, true) => Standing::High,
             (false, false) => Standing::Zero,
-        }
-    }
-
-    /// Puts it at the side that its reduced cost asks for; where that is within the tolerance, it stays where it can.
-    pub(crate) fn settle(&mut self, cost: i64, tolerance: i64) {
-        let wants_low = if cost > tolerance {
-            true
-        } else if cost < tolerance.saturating_neg() {
-            false
-        } else {
-            self.standing != Standing::High
         };
-        self.stand(self.nearest(wants_low));
-    }
-
-    /// Takes these sides; one that is too great counts as open.
-    fn take_sides(&mut self, sides: Sides) {
-        self.low = fixed_side(sides.low, self.up, -OPEN);
-        self.high = fixed_side(sides.high, self.up, OPEN);
+        self.stand(standing);
     }
 
     /// Puts it at its other side.
     pub(crate) fn flip(&mut self) {
-        if self.standing == Standing::Low {
-            self.stand(Standing::High);
+        let is_low = self.standing == Standing::Low;
+        self.stand(if is_low {
+            Standing::High
         } else {
-            self.stand(Standing::Low);
-        }
+            Standing::Low
+        });
     }
 }
 
@@ -156,9 +138,13 @@ impl Variables {
         self.items.len()
     }
 
-    /// Takes all away.
-    pub(crate) fn clear(&mut self) {
+    /// So many columns at their low sides, and so many rows that are basic.
+    pub(crate) fn begin(&mut self, columns: usize, rows: usize) -> Result<(), Stop> {
         self.items.clear();
+        self.items.resize(columns, Variable::new(Standing::Low))?;
+        let all = columns.saturating_add(rows);
+        self.items.resize(all, Variable::new(Standing::Basic))?;
+        Ok(())
     }
 
     /// Puts one at the end.
@@ -170,18 +156,14 @@ impl Variables {
     /// A variable, by its number.
     #[inline]
     pub(crate) fn get(&self, number: u32) -> Variable {
-        match self.items.get(number as usize) {
-            Some(variable) => *variable,
-            None => Variable::new(Standing::Basic),
-        }
+        let otherwise = Variable::new(Standing::Basic);
+        item_at(self.items.as_slice(), number as usize, otherwise)
     }
 
     /// Sets a variable.
     #[inline]
     pub(crate) fn set(&mut self, number: u32, variable: Variable) {
-        if let Some(place) = self.items.get_mut(number as usize) {
-            *place = variable;
-        }
+        put_at(self.items.as_mut_slice(), number as usize, variable);
     }
 
     /// The power of two of a variable.
@@ -208,9 +190,10 @@ impl Variables {
 
     /// Takes the sides of a linear program; one that is too great counts as open.
     pub(crate) fn take_sides(&mut self, given: &Given) {
-        let items = self.items.as_mut_slice();
-        for number in 0..items.len() {
-            items[number].take_sides(given.sides(number));
+        for (number, item) in self.items.iter_mut().enumerate() {
+            let sides = given.sides(number);
+            item.low = fixed_side(sides.low, item.up, -OPEN);
+            item.high = fixed_side(sides.high, item.up, OPEN);
         }
     }
 }
