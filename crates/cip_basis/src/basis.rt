@@ -1,10 +1,9 @@
 //! A basis that is guessed, and the systems that are solved for it.
-use crate::combos::{empty_combo, put_costs, put_line, put_multiples, put_own_row};
+use crate::combos::{empty_combo, put_line, put_multiples, put_own_row};
+use crate::lists::put_at;
 use crate::matrix::make_matrix;
-use crate::mended_points::mended_point;
 use crate::placement::Placement;
-use crate::rounded::rounded_combo;
-use crate::values::{put_basic, put_loose, put_right_sides};
+use crate::values::{put_right_sides, put_values};
 use crate::{Direction, Given, Guess, Length, Outcome, Standing, System};
 use cip_frac::Frac;
 use cip_lin::Combo;
@@ -13,16 +12,17 @@ use std::alloc::{AllocError, Global};
 /// A basis that is guessed, kept from program to program, and the lists that its systems are solved in.
 #[derive(Drop)]
 pub struct Basis {
-    guess: Guess,
+    pub(crate) guess: Guess,
     system: System,
     placement: Placement,
     scales: Vec<u64>,
     right: Vec<Frac>,
     solved: Vec<Frac>,
-    // by which multipliers the last guess may show something, if by any
-    outcome: Option<Outcome>,
-    // whether its matrix stands, so that systems can be solved
-    is_made: bool,
+    /// How the last guess ended, if its multipliers may show something: where it gave up over a table that stands, as
+    /// an optimal one, by those of the costs.
+    pub(crate) outcome: Option<Outcome>,
+    /// Whether its matrix stands, so that systems can be solved.
+    pub(crate) is_made: bool,
     /// Whether what was solved for the last guess was in the range, so that rounding may be why nothing is shown.
     pub(crate) is_in_range: bool,
     // whether the table of the last guess was made anew, with less rounding
@@ -56,47 +56,6 @@ impl Basis {
         self.is_anew
     }
 
-    /// The point of the last guess, where it is said to be optimal and its values are in the range.
-    pub(crate) fn own_point(
-        &mut self,
-        alloc: Global,
-        given: &Given,
-    ) -> Result<Option<Vec<Frac>>, AllocError> {
-        if self.is_made && self.outcome == Some(Outcome::Optimal) {
-            self.point(alloc, given, Length::Long)
-        } else {
-            Ok(None)
-        }
-    }
-
-    /// Values near the point of the last guess that keep the rows, so far as is known.
-    pub(crate) fn mended(
-        &self,
-        alloc: Global,
-        given: &Given,
-    ) -> Result<Option<Vec<Frac>>, AllocError> {
-        match self.outcome {
-            Some(Outcome::Optimal) => mended_point(alloc, &self.guess, given),
-            _ => Ok(None),
-        }
-    }
-
-    /// How the last guess ended, and a combination by its multipliers, which are rounded and mended; none where there
-    /// is no such combination. Where it gave up over a table that stands, it is one of the costs.
-    pub(crate) fn rounded(
-        &self,
-        alloc: Global,
-        given: &Given,
-    ) -> Result<Option<(Outcome, Combo)>, AllocError> {
-        let Some(outcome) = self.outcome else {
-            return Ok(None);
-        };
-        match rounded_combo(alloc, &self.guess, given, outcome)? {
-            Some(combo) => Ok(Some((outcome, combo))),
-            None => Ok(None),
-        }
-    }
-
     /// Makes the matrix of the basis, and eliminates it; whether it can be solved.
     fn make(&mut self, alloc: Global, given: &Given) -> Result<bool, AllocError> {
         if !self.placement.list(&self.guess, given)? {
@@ -108,7 +67,6 @@ impl Basis {
             &self.placement,
             &mut self.system,
             &mut self.scales,
-            &mut self.right,
         )?;
         if !made {
             return Ok(false);
@@ -153,7 +111,7 @@ impl Basis {
         point: &mut Vec<Frac>,
     ) -> Result<bool, AllocError> {
         self.is_in_range = true;
-        if !put_loose(&self.guess, given, point)? {
+        if !put_values(&self.guess, given, false, point)? {
             return Ok(false);
         }
         self.is_in_range = false;
@@ -165,16 +123,15 @@ impl Basis {
             point.as_slice(),
             &mut self.right,
         )?;
-        if !are_there {
+        let (right, out) = (self.right.as_slice(), &mut self.solved);
+        if !are_there || !self.system.solve(right, Direction::Rows, size, out)? {
             return Ok(false);
         }
-        let right = self.right.as_slice();
-        let out = &mut self.solved;
-        if !self.system.solve(right, Direction::Rows, size, out)? {
-            return Ok(false);
+        for (place, column) in self.placement.columns.iter().enumerate() {
+            if let Some(value) = self.solved.get(place) {
+                put_at(point.as_mut_slice(), *column as usize, *value);
+            }
         }
-        let columns = self.placement.columns.as_slice();
-        put_basic(columns, self.solved.as_slice(), point.as_mut_slice());
         self.is_in_range = true;
         Ok(true)
     }
@@ -194,17 +151,22 @@ impl Basis {
         }
     }
 
-    /// Solves for the multipliers of the loose rows at the numbers that are kept for the basic columns.
-    fn multipliers(
+    /// Puts the multipliers of the costs into a combination, or those that are to show that a variable can't be brought
+    /// between its sides; whether their parts are at most so long.
+    fn put_combo(
         &mut self,
         given: &Given,
+        outcome: Outcome,
         size: Length,
-        is_turned: bool,
         combo: &mut Combo,
     ) -> Result<bool, AllocError> {
+        let (broken, is_turned) = match outcome {
+            Outcome::Broken { variable, below } => (Some(variable), below),
+            _ => (None, false),
+        };
+        put_line(given, &self.placement, broken, &mut self.right)?;
         self.is_in_range = false;
-        let right = self.right.as_slice();
-        let out = &mut self.solved;
+        let (right, out) = (self.right.as_slice(), &mut self.solved);
         if !self.system.solve(right, Direction::Columns, size, out)? {
             return Ok(false);
         }
@@ -216,28 +178,10 @@ impl Basis {
             is_turned,
             &mut combo.rows,
         )?;
-        Ok(self.is_in_range)
-    }
-
-    /// Puts the multipliers of the costs into a combination, or those that are to show that a variable can't be brought
-    /// between its sides; whether their parts are at most so long.
-    fn put_combo(
-        &mut self,
-        given: &Given,
-        outcome: Outcome,
-        size: Length,
-        combo: &mut Combo,
-    ) -> Result<bool, AllocError> {
-        let Outcome::Broken { variable, below } = outcome else {
-            put_costs(given, &self.placement, &mut self.right)?;
-            return self.multipliers(given, size, false, combo);
-        };
-        put_line(given, &self.placement, variable, &mut self.right)?;
-        if !self.multipliers(given, size, below, combo)? {
-            return Ok(false);
+        if let (Some(variable), true) = (broken, self.is_in_range) {
+            put_own_row(given, variable, is_turned, &mut combo.rows)?;
         }
-        put_own_row(given, variable, below, &mut combo.rows)?;
-        Ok(true)
+        Ok(self.is_in_range)
     }
 
     /// The multipliers of the costs as a combination, where the guess ended with an optimal basis, or those that are to

@@ -16,11 +16,10 @@ pub(crate) fn safe_cost(problem: &Problem<'_>, combo: &Combo, scratch: &mut Scra
     ensures least { IfSome result (CostsAtLeast (program_of problem.entry.now)) }
     ensures room { length scratch.new.row.entries ≡ length scratch.old.row.entries }
 {
-    let cutoff = None;
     let rows = Rows {
         own: problem.own,
         pool: problem.pool,
-        cutoff: &cutoff,
+        cutoff: &None,
         whole: problem.whole,
     };
     match lower_bound(&rows, problem.bounds, problem.costs, combo, scratch) {
@@ -59,11 +58,10 @@ pub(crate) fn is_emptied(problem: &Problem<'_>, combo: &Combo, scratch: &mut Scr
     ensures empty { result ≡ true → HasNoPoint (program_of problem.entry.now) }
     ensures room { length scratch.new.row.entries ≡ length scratch.old.row.entries }
 {
-    let cutoff = None;
     let rows = Rows {
         own: problem.own,
         pool: problem.pool,
-        cutoff: &cutoff,
+        cutoff: &None,
         whole: problem.whole,
     };
     match empties(&rows, problem.bounds, combo, scratch) {

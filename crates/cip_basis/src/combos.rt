@@ -57,19 +57,6 @@ pub(crate) fn put_multiples(
     Ok(true)
 }
 
-/// The costs of the basic columns.
-pub(crate) fn put_costs(
-    given: &Given,
-    placement: &Placement,
-    out: &mut Vec<Frac>,
-) -> Result<(), AllocError> {
-    out.clear();
-    for column in &placement.columns {
-        out.push(given.cost(*column as usize))?;
-    }
-    Ok(())
-}
-
 /// Sets the number of a column, if that is a basic one.
 fn set_column(out: &mut [Frac], placement: &Placement, column: u32, number: Frac) {
     if let Some(place) = placement.place(column) {
@@ -77,21 +64,34 @@ fn set_column(out: &mut [Frac], placement: &Placement, column: u32, number: Frac
     }
 }
 
-/// What a basic variable takes of the basic columns: of a column 1 on itself, of a row its coefficients.
+/// Puts the costs of the basic columns into a list.
+fn put_costs(given: &Given, columns: &[u32], out: &mut [Frac]) {
+    for (place, column) in columns.iter().enumerate() {
+        put_at(out, place, given.cost(*column as usize));
+    }
+}
+
+/// What a basic variable takes of the basic columns: of a column 1 on itself, of a row its coefficients; without a
+/// variable what the costs take of them.
 pub(crate) fn put_line(
     given: &Given,
     placement: &Placement,
-    variable: u32,
+    variable: Option<u32>,
     out: &mut Vec<Frac>,
 ) -> Result<(), AllocError> {
     out.clear();
     out.resize(placement.columns.len(), Frac::zero())?;
+    let numbers = out.as_mut_slice();
+    let Some(number) = variable else {
+        put_costs(given, placement.columns.as_slice(), numbers);
+        return Ok(());
+    };
     let columns = given.columns();
-    if (variable as usize) < columns {
-        set_column(out.as_mut_slice(), placement, variable, Frac::one());
-    } else if let Some(row) = given.row((variable as usize).wrapping_sub(columns)) {
+    if (number as usize) < columns {
+        set_column(numbers, placement, number, Frac::one());
+    } else if let Some(row) = given.row((number as usize).wrapping_sub(columns)) {
         for term in row.terms() {
-            set_column(out.as_mut_slice(), placement, term.col, term.coef);
+            set_column(numbers, placement, term.col, term.coef);
         }
     }
     Ok(())

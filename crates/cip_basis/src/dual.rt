@@ -12,6 +12,7 @@ pub(crate) const PIVOT: u64 = 1 << 15;
 /// A basic variable that is outside: its line, the side that it goes to, and how far that is.
 #[derive(Clone, Copy)]
 pub(crate) struct Leaving {
+    pub(crate) variable: u32,
     pub(crate) line: usize,
     pub(crate) standing: Standing,
     gap: i64,
@@ -41,6 +42,7 @@ pub(crate) fn worst(table: &Table, variables: &Variables, outside: i64) -> Optio
         if way > gap {
             gap = way;
             found = Some(Leaving {
+                variable: item.variable,
                 line,
                 standing,
                 gap,

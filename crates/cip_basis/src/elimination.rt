@@ -81,21 +81,6 @@ fn reduce_rows(
     Ok(())
 }
 
-/// Takes a multiple off the row with a number, if there is one; the other list gets what it was.
-fn take_multiple(
-    rows: &mut [SparseRow],
-    number: u32,
-    multiple: Multiple<'_>,
-    columns: &mut Columns,
-    out: &mut SparseRow,
-) -> Result<(), AllocError> {
-    if let Some(row) = rows.get_mut(number as usize) {
-        write_difference(row.as_slice(), multiple, number, columns, out)?;
-        mem::swap(row, out);
-    }
-    Ok(())
-}
-
 /// Empties the lists of rows and of columns, and has so many of each, none of them done.
 fn ready(
     alloc: Global,
@@ -153,13 +138,11 @@ impl Elimination {
             if *is_done {
                 continue;
             }
-            let len = match self.rows.get(at) {
-                Some(row) => row.len(),
-                None => 0,
-            };
+            let number = number_of(at);
+            let len = self.row(number).len();
             if len < fewest {
                 fewest = len;
-                found = Some(number_of(at));
+                found = Some(number);
             }
             if len <= 1 {
                 break;
@@ -179,7 +162,10 @@ impl Elimination {
 
     /// Takes a column out of a row, by the row that is worked with.
     fn take_out(&mut self, number: u32, pivot: Pivot) -> Result<(), AllocError> {
-        let there = number_on(self.row(number), pivot.column);
+        let Some(row) = self.rows.get_mut(number as usize) else {
+            return Ok(());
+        };
+        let there = number_on(row.as_slice(), pivot.column);
         if there == 0 {
             return Ok(());
         }
@@ -194,24 +180,18 @@ impl Elimination {
             factor,
             column: pivot.column,
         };
-        let rows = self.rows.as_mut_slice();
-        take_multiple(rows, number, multiple, &mut self.columns, &mut self.out)
-    }
-
-    /// Whether a row was solved.
-    fn is_done(&self, number: u32) -> bool {
-        item_at(self.is_done.as_slice(), number as usize, true)
+        let (columns, out) = (&mut self.columns, &mut self.out);
+        write_difference(row.as_slice(), multiple, number, columns, out)?;
+        mem::swap(row, out);
+        Ok(())
     }
 
     /// Takes a column out of all rows that are left.
     fn take_out_all(&mut self, pivot: Pivot) -> Result<(), AllocError> {
         self.columns.list_rows(pivot.column, &mut self.touched)?;
         for at in 0..self.touched.len() {
-            let number = match self.touched.get(at) {
-                Some(number) => *number,
-                None => continue,
-            };
-            if !self.is_done(number) {
+            let number = item_at(self.touched.as_slice(), at, u32::MAX);
+            if !item_at(self.is_done.as_slice(), number as usize, true) {
                 self.take_out(number, pivot)?;
             }
         }

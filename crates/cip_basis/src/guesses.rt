@@ -54,14 +54,6 @@ pub struct Guess {
     is_unfit: bool,
 }
 
-/// Whether a list begins with another.
-fn begins_with(list: &[u64], start: &[u64]) -> bool {
-    match list.split_at_checked(start.len()) {
-        Some((front, _)) => front == start,
-        None => false,
-    }
-}
-
 impl Guess {
     /// No guess yet.
     pub fn new(alloc: Global) -> Guess {
@@ -132,13 +124,6 @@ impl Guess {
         }
     }
 
-    /// Takes the names of the rows behind those that stay.
-    fn take_ids(&mut self, ids: &[u64]) -> Result<(), Stop> {
-        self.ids.clear();
-        self.ids.extend_from_slice(ids)?;
-        Ok(())
-    }
-
     /// Begins with the basis of the rows, unless numbers of a program of as many columns and no more rows didn't fit.
     fn begin(&mut self, alloc: Global, given: &Given) -> Result<(), Stop> {
         let known = self.columns.saturating_add(given.rows());
@@ -148,7 +133,6 @@ impl Guess {
         make_scaled(alloc, given, &mut self.variables)?;
         self.columns = given.columns();
         self.cost_up = cost_up(given.costs, &self.variables);
-        self.take_ids(given.ids)?;
         self.moves = 0;
         self.is_unfit = true;
         self.table
@@ -168,24 +152,32 @@ impl Guess {
             }
             self.variables.push(variable)?;
         }
-        self.take_ids(given.ids)
+        Ok(())
     }
 
     /// Whether what is kept is of this program, but for rows that came at the end.
     fn is_of(&self, given: &Given) -> bool {
-        let known = self.columns.saturating_add(given.own.len());
+        let Some((front, _)) = given.ids.split_at_checked(self.ids.len()) else {
+            return false;
+        };
+        let rows = given.own.len().saturating_add(front.len());
         self.is_made
             && self.columns == given.columns()
-            && self.variables.len() == known.saturating_add(self.ids.len())
-            && begins_with(given.ids, self.ids.as_slice())
+            && self.variables.len() == self.columns.saturating_add(rows)
+            && front == self.ids.as_slice()
     }
 
     /// Readies the table for a program.
     fn ready(&mut self, alloc: Global, given: &Given, anew: bool) -> Result<(), Stop> {
-        if !self.is_of(given) {
+        let is_kept = self.is_of(given);
+        let is_longer = self.ids.len() < given.ids.len();
+        if !is_kept || is_longer {
+            self.ids.clear();
+            self.ids.extend_from_slice(given.ids)?;
+        }
+        if !is_kept {
             return self.begin(alloc, given);
         }
-        let is_longer = self.ids.len() < given.ids.len();
         if is_longer {
             self.grow(given)?;
         }
@@ -203,7 +195,7 @@ impl Guess {
         let Some(leaving) = worst(table, variables, tolerances.outside) else {
             return primal_move(table, variables, tolerances.rate);
         };
-        let variable = table.basic_at(leaving.line);
+        let variable = leaving.variable;
         let below = leaving.standing == Standing::Low;
         if dual_move(table, variables, &mut self.lists, leaving, tolerances)? {
             Ok(None)
@@ -214,7 +206,8 @@ impl Guess {
 
     /// Forms all values anew.
     fn settle(&mut self, rate: i64) -> Result<(), Stop> {
-        let entries = self.table.entries();
+        let lines = self.table.lines.len() as u64;
+        let entries = lines.wrapping_mul(self.table.loose.len() as u64);
         self.table.spend(entries)?;
         settle(
             &self.table,

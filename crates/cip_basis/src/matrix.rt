@@ -1,23 +1,19 @@
 //! The matrix of a basis: the loose rows on the basic columns, each times what makes it whole.
 use crate::placement::Placement;
-use crate::{Given, System, common_denominator, times_whole};
-use cip_frac::Frac;
+use crate::systems::common_multiple;
+use crate::{Given, System, times_whole};
 use cip_lin::Row;
 use std::alloc::{AllocError, Global};
 
-/// Lists the coefficients of a row on basic columns.
-fn list_coefficients(
-    row: &Row,
-    placement: &Placement,
-    out: &mut Vec<Frac>,
-) -> Result<(), AllocError> {
-    out.clear();
+/// The least common denominator of the coefficients of a row on basic columns, where it has at most 63 bits.
+fn denominator_of(row: &Row, placement: &Placement) -> Option<u64> {
+    let mut common = 1;
     for term in row.terms() {
         if placement.place(term.col).is_some() {
-            out.push(term.coef)?;
+            common = common_multiple(common, term.coef)?;
         }
     }
-    Ok(())
+    Some(common)
 }
 
 /// Puts a row, times a number, into the matrix; whether its numbers have 64 bits.
@@ -51,7 +47,6 @@ pub(crate) fn make_matrix(
     placement: &Placement,
     system: &mut System,
     scales: &mut Vec<u64>,
-    scratch: &mut Vec<Frac>,
 ) -> Result<bool, AllocError> {
     scales.clear();
     system.begin(alloc, placement.columns.len())?;
@@ -59,8 +54,7 @@ pub(crate) fn make_matrix(
         let Some(row) = given.row(*number as usize) else {
             return Ok(false);
         };
-        list_coefficients(row, placement, scratch)?;
-        let Some(common) = common_denominator(scratch.as_slice()) else {
+        let Some(common) = denominator_of(row, placement) else {
             return Ok(false);
         };
         scales.push(common)?;

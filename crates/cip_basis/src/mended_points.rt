@@ -1,7 +1,6 @@
 //! Values near the point of a basis that is guessed, changed until they keep the rows.
-use crate::given::number_of;
-use crate::values::{standing_value, sum_at};
-use crate::{Given, Guess, Standing, rounded_outward};
+use crate::values::{brought_between, put_values, sum_at};
+use crate::{Given, Guess, rounded_outward};
 use cip_frac::Frac;
 use cip_lin::{Row, Sides, Term};
 use std::alloc::{AllocError, Global};
@@ -12,59 +11,27 @@ const MOST_LOOKS: u32 = 8;
 // The most columns of a row that are changed for it at once.
 const MOST_CHANGES: u32 = 8;
 
-/// A value, brought between sides.
-fn brought_between(sides: Sides, value: Frac) -> Frac {
-    match (sides.low, sides.high) {
-        (Some(low), _) if value < low => low,
-        (_, Some(high)) if value > high => high,
-        _ => value,
+/// By how much a sum has to rise to lie between sides, below 0 where it has to fall; none where that is out of range.
+fn gap_of(sides: Sides, sum: Frac) -> Option<Frac> {
+    let side = brought_between(sides, sum);
+    if side == sum {
+        return Some(Frac::zero());
     }
-}
-
-/// Where a column stands by a guess: at a side, or near a value, which is rounded; none where that isn't there.
-fn value_by(guess: &Guess, given: &Given, column: usize) -> Option<Frac> {
-    let sides = given.sides(column);
-    let number = number_of(column);
-    match guess.standing(number) {
-        Standing::Basic => Some(brought_between(sides, guess.value(number)?)),
-        standing => standing_value(standing, sides),
-    }
-}
-
-/// The values of all columns by a guess; none where one isn't there.
-fn values_by(alloc: Global, guess: &Guess, given: &Given) -> Result<Option<Vec<Frac>>, AllocError> {
-    let mut values = Vec::new(alloc);
-    for column in 0..given.columns() {
-        let Some(value) = value_by(guess, given, column) else {
-            return Ok(None);
-        };
-        values.push(value)?;
-    }
-    Ok(Some(values))
-}
-
-/// By how much a sum has to rise to keep a row, below 0 where it has to fall; none where that is out of range.
-fn gap_of(row: &Row, sum: Frac) -> Option<Frac> {
-    match (row.low(), row.high()) {
-        (Some(low), _) if sum < low => low.sub(sum).ok(),
-        (_, Some(high)) if sum > high => high.sub(sum).ok(),
-        _ => Some(Frac::zero()),
-    }
+    side.sub(sum).ok()
 }
 
 /// Of the columns of a row whose values may go to where the row wants them, the one with the greatest coefficient.
 fn best_term(given: &Given, row: &Row, gap: Frac, values: &[Frac]) -> Option<Term> {
-    let mut best: Option<Term> = None;
+    let mut best = None;
+    let mut greatest = Frac::zero();
     for term in row.terms() {
         let column = term.col as usize;
         let sides = given.sides(column);
         let rises = gap.is_positive() == term.coef.is_positive();
         let side = if rises { sides.high } else { sides.low };
-        let is_greater = match best {
-            Some(held) => held.coef.abs() < term.coef.abs(),
-            None => true,
-        };
-        if is_greater && side != Some(*values.get(column)?) {
+        let size = term.coef.abs();
+        if size > greatest && side != Some(*values.get(column)?) {
+            greatest = size;
             best = Some(*term);
         }
     }
@@ -76,25 +43,38 @@ fn best_term(given: &Given, row: &Row, gap: Frac, values: &[Frac]) -> Option<Ter
 /// where a number is out of range.
 fn close_by(given: &Given, row: &Row, term: Term, gap: Frac, values: &mut [Frac]) -> Option<Frac> {
     let column = term.col as usize;
-    let place = values.get_mut(column)?;
     if term.coef.is_zero() {
         return None;
     }
-    let mut step = gap.div(term.coef).ok()?;
+    let Ok(mut step) = gap.div(term.coef) else {
+        return None;
+    };
     if row.low() != row.high() {
         step = rounded_outward(step)?;
     }
+    let place = values.get_mut(column)?;
     let before = *place;
-    let wanted = before.add(step).ok()?;
+    let Ok(wanted) = before.add(step) else {
+        return None;
+    };
     let after = brought_between(given.sides(column), wanted);
     *place = after;
-    let closed = after.sub(before).ok()?.mul(term.coef).ok()?;
+    let Ok(moved) = after.sub(before) else {
+        return None;
+    };
+    let Ok(closed) = moved.mul(term.coef) else {
+        return None;
+    };
     gap.sub(closed).ok()
 }
 
 /// Changes values of columns of a row until it is kept; whether it was kept before. None where that fails.
 fn mend_row(given: &Given, row: &Row, values: &mut [Frac]) -> Option<bool> {
-    let mut gap = gap_of(row, sum_at(row, values)?)?;
+    let sides = Sides {
+        low: row.low(),
+        high: row.high(),
+    };
+    let mut gap = gap_of(sides, sum_at(row, values)?)?;
     let was_kept = gap.is_zero();
     let rises = gap.is_positive();
     for _ in 0..MOST_CHANGES {
@@ -124,9 +104,10 @@ pub(crate) fn mended_point(
     guess: &Guess,
     given: &Given,
 ) -> Result<Option<Vec<Frac>>, AllocError> {
-    let Some(mut values) = values_by(alloc, guess, given)? else {
+    let mut values = Vec::new(alloc);
+    if !put_values(guess, given, true, &mut values)? {
         return Ok(None);
-    };
+    }
     for _ in 0..MOST_LOOKS {
         match mend_rows(given, values.as_mut_slice()) {
             Some(true) => return Ok(Some(values)),

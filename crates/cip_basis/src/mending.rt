@@ -81,15 +81,19 @@ fn coefficient_at(row: &Row, column: u32) -> Frac {
             break;
         }
         let middle = front.wrapping_add(back) / 2;
-        match terms.get(middle) {
-            Some(term) if term.col < column => front = middle.wrapping_add(1),
-            _ => back = middle,
+        let Some(term) = terms.get(middle) else {
+            break;
+        };
+        if term.col == column {
+            return term.coef;
+        }
+        if term.col < column {
+            front = middle.wrapping_add(1);
+        } else {
+            back = middle;
         }
     }
-    match terms.get(front) {
-        Some(term) if term.col == column => term.coef,
-        _ => Frac::zero(),
-    }
+    Frac::zero()
 }
 
 /// By how much the multiplier of a row with this coefficient grows to take a rest of a column with these sides: rounded
@@ -218,17 +222,6 @@ impl Mending {
         Ok(true)
     }
 
-    /// Mends the rest of a column, if it has no side; whether that can be done.
-    fn mend_column(&mut self, given: &Given, column: u32) -> Result<bool, AllocError> {
-        if !is_spoiled(given, column as usize, self.rest(column)) {
-            return Ok(true);
-        }
-        match self.best_row(given, column) {
-            Some((number, by)) if self.work > 0 => self.grow(given, number, by),
-            _ => Ok(false),
-        }
-    }
-
     /// Changes multipliers until each rest has its side; whether that could be done with 2^22 terms and 16 columns for
     /// each column looked at. `Err` where memory was refused.
     pub(crate) fn mend(&mut self, given: &Given) -> Result<bool, AllocError> {
@@ -240,7 +233,13 @@ impl Mending {
             let Some(column) = self.spoiled.pop() else {
                 return Ok(true);
             };
-            if !self.mend_column(given, column)? {
+            if !is_spoiled(given, column as usize, self.rest(column)) {
+                continue;
+            }
+            let Some((number, by)) = self.best_row(given, column) else {
+                return Ok(false);
+            };
+            if self.work == 0 || !self.grow(given, number, by)? {
                 return Ok(false);
             }
         }

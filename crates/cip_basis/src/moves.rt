@@ -67,12 +67,16 @@ pub(crate) fn exchange(
     place: usize,
     standing: Standing,
 ) -> Result<(), Stop> {
-    let outgoing = table.basic_at(line);
+    let Some(own) = table.lines.get(line) else {
+        return Err(Stop::GaveUp);
+    };
+    let outgoing = own.variable;
+    let entry = item_at(own.entries.as_slice(), place, 0);
     let mut leaving = variables.get(outgoing);
     let before = leaving.value;
     leaving.stand(standing);
     let way = leaving.value.wrapping_sub(before);
-    let by = quotient(way, table.entry(line, place))?;
+    let by = quotient(way, entry)?;
     follow(table, variables, place, by)?;
     let incoming = table.loose_at(place);
     move_by(variables, incoming, i128::from(by))?;

@@ -4,10 +4,11 @@ ghost use Rattle.cip_rational.specs.Sums.{dot};
 ghost use Rattle.cip_problem.specs.LinearProgram.{IsPoint};
 ghost use Rattle.cip_basis.specs.Shown.{IsReady, program_of};
 
-use crate::Length;
 use crate::basis::Basis;
+use crate::mended_points::mended_point;
 use crate::problem::Problem;
 use crate::tests::{cost_at, is_point};
+use crate::{Length, Outcome};
 use cip_frac::Frac;
 use std::alloc::{AllocError, Global};
 
@@ -48,7 +49,10 @@ pub fn basis_point(
     ensures point { IfOk result (λ found. IfSome found
         (λ point. IsPoint (program_of problem.entry.now) point.items)) }
 {
-    let values = basis.own_point(alloc, &problem.given())?;
+    if !basis.is_made || basis.outcome != Some(Outcome::Optimal) {
+        return Ok(None);
+    }
+    let values = basis.point(alloc, &problem.given(), Length::Long)?;
     Ok(tested(problem, values))
 }
 
@@ -64,6 +68,9 @@ pub fn rounded_point(
     ensures point { IfOk result (λ found. IfSome found
         (λ point. IsPoint (program_of problem.entry.now) point.items)) }
 {
-    let values = basis.mended(alloc, &problem.given())?;
+    if basis.outcome != Some(Outcome::Optimal) {
+        return Ok(None);
+    }
+    let values = mended_point(alloc, &basis.guess, &problem.given())?;
     Ok(tested(problem, values))
 }

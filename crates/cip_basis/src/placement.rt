@@ -15,27 +15,6 @@ pub(crate) struct Placement {
     places: Vec<u32>,
 }
 
-/// Lists the basic columns, and for each column its place among them.
-fn list_columns(
-    columns: &mut Vec<u32>,
-    places: &mut Vec<u32>,
-    guess: &Guess,
-    given: &Given,
-) -> Result<(), AllocError> {
-    columns.clear();
-    places.clear();
-    for column in 0..given.columns() {
-        let number = number_of(column);
-        let mut place = NOWHERE;
-        if guess.standing(number) == Standing::Basic {
-            place = number_of(columns.len());
-            push_number(columns, number)?;
-        }
-        push_number(places, place)?;
-    }
-    Ok(())
-}
-
 impl Placement {
     /// Nothing.
     pub(crate) fn new(alloc: Global) -> Placement {
@@ -46,22 +25,29 @@ impl Placement {
         }
     }
 
-    /// Lists the loose rows.
-    fn list_rows(&mut self, guess: &Guess, given: &Given) -> Result<(), AllocError> {
-        self.rows.clear();
-        for row in 0..given.rows() {
-            let variable = number_of(given.columns().wrapping_add(row));
-            if guess.standing(variable) != Standing::Basic {
-                push_number(&mut self.rows, number_of(row))?;
-            }
-        }
-        Ok(())
-    }
-
-    /// Lists both; whether there are as many.
+    /// Lists the basic columns, with the place of each column among them, and the loose rows; whether there are as
+    /// many.
     pub(crate) fn list(&mut self, guess: &Guess, given: &Given) -> Result<bool, AllocError> {
-        list_columns(&mut self.columns, &mut self.places, guess, given)?;
-        self.list_rows(guess, given)?;
+        self.columns.clear();
+        self.rows.clear();
+        self.places.clear();
+        let columns = given.columns();
+        for variable in 0..columns.saturating_add(given.rows()) {
+            let number = number_of(variable);
+            let is_basic = guess.standing(number) == Standing::Basic;
+            if variable >= columns {
+                if !is_basic {
+                    push_number(&mut self.rows, number_of(variable - columns))?;
+                }
+                continue;
+            }
+            let mut place = NOWHERE;
+            if is_basic {
+                place = number_of(self.columns.len());
+                push_number(&mut self.columns, number)?;
+            }
+            push_number(&mut self.places, place)?;
+        }
         Ok(self.columns.len() == self.rows.len())
     }
 

@@ -103,67 +103,8 @@ pub(crate) struct Multiple<'a> {
     pub(crate) column: u32,
 }
 
-/// A column of a row or of the other one whose multiple is taken off it: what is left there, and which of them have it.
-#[derive(Clone, Copy)]
-struct Place {
-    column: u32,
-    left: u64,
-    is_own: bool,
-    is_other: bool,
-}
-
-/// The first column of a row from a place on, or of the other one from a place on.
-#[inline]
-fn first_place(
-    own: &[(u32, u64)],
-    here: usize,
-    multiple: Multiple<'_>,
-    there: usize,
-) -> Option<Place> {
-    let (column, left, is_own, is_other) = match (own.get(here), multiple.row.get(there)) {
-        (Some(mine), Some(other)) if mine.0 == other.0 => {
-            let left = minus(mine.1, times(multiple.factor, other.1));
-            (mine.0, left, true, true)
-        }
-        (Some(mine), Some(other)) if mine.0 < other.0 => (mine.0, mine.1, true, false),
-        (_, Some(other)) => (
-            other.0,
-            minus(0, times(multiple.factor, other.1)),
-            false,
-            true,
-        ),
-        (Some(mine), None) => (mine.0, mine.1, true, false),
-        (None, None) => return None,
-    };
-    Some(Place {
-        column,
-        left,
-        is_own,
-        is_other,
-    })
-}
-
-/// Writes what is left on a column, unless it is taken out or nothing is left; the columns of the row with this number
-/// change so.
-#[inline]
-fn write_place(
-    place: Place,
-    taken: u32,
-    number: u32,
-    columns: &mut Columns,
-    out: &mut Vec<(u32, u64)>,
-) -> Result<(), AllocError> {
-    if place.is_own && place.is_other && (place.column == taken || place.left == 0) {
-        columns.lose(place.column);
-        return Ok(());
-    }
-    out.push((place.column, place.left))?;
-    if place.is_own {
-        Ok(())
-    } else {
-        columns.gain(place.column, number)
-    }
-}
+// What stands past the end of a row: no column has this number.
+const END: (u32, u64) = (u32::MAX, 0);
 
 /// Writes a row less a multiple of another; the columns of the row with this number change so.
 pub(crate) fn write_difference(
@@ -177,15 +118,28 @@ pub(crate) fn write_difference(
     let mut here = 0usize;
     let mut there = 0usize;
     for _ in 0..own.len().saturating_add(multiple.row.len()) {
-        let Some(place) = first_place(own, here, multiple, there) else {
+        let (mine, number_there) = item_at(own, here, END);
+        let (other, factor) = item_at(multiple.row, there, END);
+        let column = mine.min(other);
+        if column == u32::MAX {
             return Ok(());
-        };
-        write_place(place, multiple.column, number, columns, out)?;
-        if place.is_own {
-            here = here.wrapping_add(1);
         }
-        if place.is_other {
+        let (is_own, is_other) = (mine == column, other == column);
+        let mut left = number_there;
+        if is_own {
+            here = here.wrapping_add(1);
+        } else {
+            left = 0;
+            columns.gain(column, number)?;
+        }
+        if is_other {
             there = there.wrapping_add(1);
+            left = minus(left, times(multiple.factor, factor));
+        }
+        if is_own && is_other && (column == multiple.column || left == 0) {
+            columns.lose(column);
+        } else {
+            out.push((column, left))?;
         }
     }
     Ok(())

@@ -6,6 +6,7 @@ use crate::Outcome;
 use crate::basis::Basis;
 use crate::checks::{is_emptied, safe_cost};
 use crate::problem::Problem;
+use crate::rounded::rounded_combo;
 use cip_cert::Scratch;
 use cip_frac::Frac;
 use cip_lin::Combo;
@@ -58,8 +59,10 @@ pub fn safe_bound(
     ensures safe { IfOk result (λ found. IfSome found (IsSafe (program_of problem.entry.now))) }
     ensures room { length scratch.new.row.entries ≡ length scratch.old.row.entries }
 {
-    let given = problem.given();
-    let Some((outcome, combo)) = basis.rounded(alloc, &given)? else {
+    let Some(outcome) = basis.outcome else {
+        return Ok(None);
+    };
+    let Some(combo) = rounded_combo(alloc, &basis.guess, &problem.given(), outcome)? else {
         return Ok(None);
     };
     let safe = shown_by(problem, outcome, &combo, scratch);

@@ -73,20 +73,6 @@ fn optimum(
     }
 }
 
-/// That there is no point, where a combination shows it.
-fn emptied(problem: &Problem<'_>, combo: &Combo, scratch: &mut Scratch) -> Option<Shown>
-    requires ready { IsReady problem.now }
-    requires room { length problem.now.bounds.now ≤ length scratch.old.row.entries }
-    ensures shown { IfSome result (IsShown (program_of problem.entry.now)) }
-    ensures room { length scratch.new.row.entries ≡ length scratch.old.row.entries }
-{
-    if is_emptied(problem, combo, scratch) {
-        Some(Shown::Empty)
-    } else {
-        None
-    }
-}
-
 /// What a basis shows where parts of numbers are at most so long: its point, where it is optimal, or that there is no
 /// point, where a basic variable that can't be brought between its sides shows it.
 fn shown_by(
@@ -106,7 +92,13 @@ fn shown_by(
         return optimum(alloc, basis, problem, size, scratch);
     }
     match basis.combo(alloc, &problem.given(), outcome, size) {
-        Ok(Some(combo)) => Ok(emptied(problem, &combo, scratch)),
+        Ok(Some(combo)) => {
+            if is_emptied(problem, &combo, scratch) {
+                Ok(Some(Shown::Empty))
+            } else {
+                Ok(None)
+            }
+        }
         Ok(None) => Ok(None),
         Err(_) => Err(AllocError),
     }

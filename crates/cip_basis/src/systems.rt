@@ -9,7 +9,7 @@ use cip_frac::{Frac, short_gcd};
 use std::alloc::{AllocError, Global};
 
 /// How long the parts of a solution may be.
-#[derive(Clone, Copy, PartialEq, Eq)]
+#[derive(Clone, Copy)]
 pub enum Length {
     /// Up to 55 bits.
     Short,
@@ -18,7 +18,7 @@ pub enum Length {
 }
 
 /// Which system of a matrix is meant.
-#[derive(Clone, Copy, PartialEq, Eq)]
+#[derive(Clone, Copy)]
 pub enum Direction {
     /// Values of the columns, for a right side of each row.
     Rows,
@@ -39,19 +39,22 @@ pub struct System {
     digits: Vec<u64>,
 }
 
+/// The least common multiple of a number and the denominator of a fraction, where it has at most 63 bits.
+pub(crate) fn common_multiple(number: u64, fraction: Frac) -> Option<u64> {
+    if fraction.is_whole() {
+        return Some(number);
+    }
+    let under = u64::try_from(fraction.denominator()).ok()?;
+    let part = under.checked_div(short_gcd(number, under))?;
+    let common = number.checked_mul(part)?;
+    if common < 1 << 63 { Some(common) } else { None }
+}
+
 /// The least common denominator of fractions, where it has at most 63 bits.
 pub fn common_denominator(numbers: &[Frac]) -> Option<u64> {
-    let mut common = 1u64;
+    let mut common = 1;
     for number in numbers {
-        if number.is_whole() {
-            continue;
-        }
-        let under = u64::try_from(number.denominator()).ok()?;
-        let part = under.checked_div(short_gcd(common, under))?;
-        common = common.checked_mul(part)?;
-        if common >= 1 << 63 {
-            return None;
-        }
+        common = common_multiple(common, *number)?;
     }
     Some(common)
 }

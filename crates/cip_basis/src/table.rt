@@ -40,11 +40,10 @@ fn solve_line(
         if entry == 0 {
             continue;
         }
-        let number = if at == place {
-            quotient(UNIT, divisor)?
-        } else {
-            quotient(entry, divisor)?.wrapping_neg()
-        };
+        let mut number = quotient(if at == place { UNIT } else { entry }, divisor)?;
+        if at != place {
+            number = number.wrapping_neg();
+        }
         entries[at] = number;
         seen |= number.unsigned_abs();
         pivot.push((at, number))?;
@@ -134,21 +133,6 @@ fn fill_at(
     }
 }
 
-/// Solves a line for the loose variable at a place, which becomes its own; answers the bits of the greatest entry.
-fn turn_line(
-    lines: &mut [Line],
-    line: usize,
-    incoming: u32,
-    place: usize,
-    pivot: &mut Vec<(usize, i64)>,
-) -> Result<i32, Stop> {
-    let Some(own) = lines.get_mut(line) else {
-        return Err(Stop::GaveUp);
-    };
-    own.variable = incoming;
-    solve_line(own.entries.as_mut_slice(), place, pivot)
-}
-
 /// Makes all columns loose, in their order, and fills the costs.
 fn fill_costs(
     given: &Given,
@@ -208,19 +192,6 @@ impl Table {
         }
     }
 
-    /// How many entries there are.
-    pub(crate) fn entries(&self) -> u64 {
-        (self.lines.len() as u64).wrapping_mul(self.loose.len() as u64)
-    }
-
-    /// The variable of a line.
-    pub(crate) fn basic_at(&self, line: usize) -> u32 {
-        match self.lines.get(line) {
-            Some(line) => line.variable,
-            None => u32::MAX,
-        }
-    }
-
     /// What a variable that is basic takes of each loose one.
     pub(crate) fn line_of(&self, variable: u32) -> Option<&[i64]> {
         for line in &self.lines {
@@ -234,14 +205,6 @@ impl Table {
     /// The loose variable at a place.
     pub(crate) fn loose_at(&self, place: usize) -> u32 {
         item_at(self.loose.as_slice(), place, u32::MAX)
-    }
-
-    /// An entry.
-    pub(crate) fn entry(&self, line: usize, place: usize) -> i64 {
-        match self.lines.get(line) {
-            Some(line) => item_at(line.entries.as_slice(), place, 0),
-            None => 0,
-        }
     }
 
     /// The table of the rows, in which no column is basic.
@@ -262,9 +225,12 @@ impl Table {
     /// The variable of a line and the loose one at a place change places.
     pub(crate) fn swap(&mut self, line: usize, place: usize) -> Result<(), Stop> {
         let incoming = self.loose_at(place);
-        let outgoing = self.basic_at(line);
-        let lines = self.lines.as_mut_slice();
-        let wide = turn_line(lines, line, incoming, place, &mut self.pivot)?;
+        let Some(own) = self.lines.get_mut(line) else {
+            return Err(Stop::GaveUp);
+        };
+        let outgoing = own.variable;
+        own.variable = incoming;
+        let wide = solve_line(own.entries.as_mut_slice(), place, &mut self.pivot)?;
         let written = put_in_all(
             self.lines.as_mut_slice(),
             self.costs.as_mut_slice(),

@@ -1,14 +1,26 @@
 //! The point of a basis.
 use crate::given::number_of;
-use crate::lists::put_at;
 use crate::placement::Placement;
 use crate::{Given, Guess, Standing};
 use cip_frac::Frac;
 use cip_lin::{Row, Sides};
 use std::alloc::AllocError;
 
+/// A value, brought between sides.
+pub(crate) fn brought_between(sides: Sides, value: Frac) -> Frac {
+    if let Some(low) = sides.low {
+        if value < low {
+            return low;
+        }
+    }
+    match sides.high {
+        Some(high) if value > high => high,
+        _ => value,
+    }
+}
+
 /// The value of a variable where it stands; 0 of a basic one, none where the side isn't there.
-pub(crate) fn standing_value(standing: Standing, sides: Sides) -> Option<Frac> {
+fn standing_value(standing: Standing, sides: Sides) -> Option<Frac> {
     match standing {
         Standing::Low => sides.low,
         Standing::High => sides.high,
@@ -16,19 +28,31 @@ pub(crate) fn standing_value(standing: Standing, sides: Sides) -> Option<Frac> {
     }
 }
 
-/// The values of the columns that aren't basic, and 0 of the others; whether all are there.
-pub(crate) fn put_loose(
+/// Where a column stands by a guess: at a side, and if it is basic at 0, or near its value, which is rounded; none
+/// where that isn't there.
+fn value_by(guess: &Guess, given: &Given, column: usize, near: bool) -> Option<Frac> {
+    let sides = given.sides(column);
+    let number = number_of(column);
+    let standing = guess.standing(number);
+    if near && standing == Standing::Basic {
+        return Some(brought_between(sides, guess.value(number)?));
+    }
+    standing_value(standing, sides)
+}
+
+/// The values of all columns by a guess, those of basic ones 0, or near what they are; whether all are there.
+pub(crate) fn put_values(
     guess: &Guess,
     given: &Given,
+    near: bool,
     point: &mut Vec<Frac>,
 ) -> Result<bool, AllocError> {
     point.clear();
     for column in 0..given.columns() {
-        let standing = guess.standing(number_of(column));
-        match standing_value(standing, given.sides(column)) {
-            Some(value) => point.push(value)?,
-            None => return Ok(false),
-        }
+        let Some(value) = value_by(guess, given, column, near) else {
+            return Ok(false);
+        };
+        point.push(value)?;
     }
     Ok(true)
 }
@@ -95,13 +119,4 @@ pub(crate) fn put_right_sides(
         }
     }
     Ok(true)
-}
-
-/// Puts the values of the basic columns into the point.
-pub(crate) fn put_basic(columns: &[u32], values: &[Frac], point: &mut [Frac]) {
-    for (place, column) in columns.iter().enumerate() {
-        if let Some(value) = values.get(place) {
-            put_at(point, *column as usize, *value);
-        }
-    }
 }
