@@ -81,20 +81,6 @@ fn reduce_rows(
     Ok(())
 }
 
-/// Empties the lists of rows and of columns, and has so many of each, none of them done.
-fn ready(
-    alloc: Global,
-    size: usize,
-    is_done: &mut Vec<bool>,
-    rows: &mut Vec<SparseRow>,
-    columns: &mut Columns,
-) -> Result<(), AllocError> {
-    is_done.clear();
-    is_done.resize(size, false)?;
-    ready_lists(alloc, rows, size)?;
-    columns.begin(alloc, size)
-}
-
 impl Elimination {
     /// Nothing.
     pub(crate) fn new(alloc: Global) -> Elimination {
@@ -119,13 +105,10 @@ impl Elimination {
     ) -> Result<(), AllocError> {
         self.operations.clear();
         self.pivots.clear();
-        ready(
-            alloc,
-            size,
-            &mut self.is_done,
-            &mut self.rows,
-            &mut self.columns,
-        )?;
+        self.is_done.clear();
+        self.is_done.resize(size, false)?;
+        ready_lists(alloc, &mut self.rows, size)?;
+        self.columns.begin(alloc, size)?;
         let rows = self.rows.as_mut_slice();
         reduce_rows(matrix, size, &mut self.columns, rows)
     }
@@ -240,7 +223,7 @@ impl Elimination {
         Ok(true)
     }
 
-    /// The row that was solved.
+    /// The numbers of a row; none where there is no such row.
     fn row(&self, number: u32) -> &[(u32, u64)] {
         match self.rows.get(number as usize) {
             Some(row) => row.as_slice(),

@@ -122,8 +122,11 @@ pub(crate) fn fixed(value: Frac, up: i32) -> Result<i64, Stop> {
         power.wrapping_sub(cut)
     };
     match raised(p, lifted).checked_div(shortened) {
-        Some(whole) if power < 0 => kept(raised(whole, power)),
-        Some(whole) => kept(whole),
+        Some(whole) => kept(if power < 0 {
+            raised(whole, power)
+        } else {
+            whole
+        }),
         None => Ok(0),
     }
 }

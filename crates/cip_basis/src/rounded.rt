@@ -1,6 +1,7 @@
 //! A combination by the multipliers of a basis that is guessed, which are rounded and mended.
 use crate::combos::{empty_combo, put_multiple, row_of};
 use crate::given::number_of;
+use crate::lists::put_at;
 use crate::mending::{Mending, has_side};
 use crate::{Given, Guess, Outcome, RowMultiplier};
 use cip_frac::Frac;
@@ -10,13 +11,9 @@ use std::alloc::{AllocError, Global};
 /// Sets the multiplier of a row, unless the side that it takes isn't there.
 fn set_multiplier(given: &Given, row: u32, multiplier: Frac, multipliers: &mut [Frac]) {
     let number = row as usize;
-    let is_there = match given.row(number) {
-        Some(row) => has_side(row, multiplier),
-        None => false,
-    };
-    if let Some(place) = multipliers.get_mut(number) {
-        if is_there {
-            *place = multiplier;
+    if let Some(row) = given.row(number) {
+        if has_side(row, multiplier) {
+            put_at(multipliers, number, multiplier);
         }
     }
 }

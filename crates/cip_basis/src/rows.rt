@@ -118,14 +118,14 @@ pub(crate) fn write_difference(
     let mut here = 0usize;
     let mut there = 0usize;
     for _ in 0..own.len().saturating_add(multiple.row.len()) {
-        let (mine, number_there) = item_at(own, here, END);
-        let (other, factor) = item_at(multiple.row, there, END);
-        let column = mine.min(other);
+        let (own_column, own_number) = item_at(own, here, END);
+        let (other_column, other_number) = item_at(multiple.row, there, END);
+        let column = own_column.min(other_column);
         if column == u32::MAX {
             return Ok(());
         }
-        let (is_own, is_other) = (mine == column, other == column);
-        let mut left = number_there;
+        let (is_own, is_other) = (own_column == column, other_column == column);
+        let mut left = own_number;
         if is_own {
             here = here.wrapping_add(1);
         } else {
@@ -134,7 +134,7 @@ pub(crate) fn write_difference(
         }
         if is_other {
             there = there.wrapping_add(1);
-            left = minus(left, times(multiple.factor, factor));
+            left = minus(left, times(multiple.factor, other_number));
         }
         if is_own && is_other && (column == multiple.column || left == 0) {
             columns.lose(column);

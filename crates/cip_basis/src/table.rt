@@ -4,7 +4,6 @@ use crate::given::{Given, number_of};
 use crate::lists::{item_at, put_at};
 use crate::stops::Stop;
 use crate::variables::Variables;
-use cip_lin::Row;
 use std::alloc::Global;
 
 /// A basic variable, and what it takes of each loose one.
@@ -123,14 +122,19 @@ fn fill_at(
     }
     let columns = given.columns();
     let variable = columns.wrapping_add(number);
-    match lines.get_mut(number) {
-        Some(line) => {
-            line.variable = number_of(variable);
-            let up = variables.up(variable);
-            fill_line(&mut line.entries, row, columns, up, variables)
-        }
-        None => Ok(()),
+    let up = variables.up(variable);
+    let Some(line) = lines.get_mut(number) else {
+        return Ok(());
+    };
+    line.variable = number_of(variable);
+    line.entries.clear();
+    line.entries.resize(columns, 0)?;
+    for term in row.terms() {
+        let column = term.col as usize;
+        let entry = fixed(term.coef, up.wrapping_sub(variables.up(column)))?;
+        put_at(line.entries.as_mut_slice(), column, entry);
     }
+    Ok(())
 }
 
 /// Makes all columns loose, in their order, and fills the costs.
@@ -147,24 +151,6 @@ fn fill_costs(
         loose.push(number_of(column))?;
         let cost = fixed(given.cost(column), up.wrapping_sub(variables.up(column)))?;
         costs.push(cost)?;
-    }
-    Ok(())
-}
-
-/// Fills a line by a row.
-fn fill_line(
-    entries: &mut Vec<i64>,
-    row: &Row,
-    columns: usize,
-    up: i32,
-    variables: &Variables,
-) -> Result<(), Stop> {
-    entries.clear();
-    entries.resize(columns, 0)?;
-    for term in row.terms() {
-        let column = term.col as usize;
-        let number = fixed(term.coef, up.wrapping_sub(variables.up(column)))?;
-        put_at(entries.as_mut_slice(), column, number);
     }
     Ok(())
 }
