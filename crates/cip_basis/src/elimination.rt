@@ -66,21 +66,6 @@ fn reduce_row(
     Ok(())
 }
 
-/// The first rows of a matrix modulo the prime.
-fn reduce_rows(
-    matrix: &[Vec<(u32, i64)>],
-    size: usize,
-    columns: &mut Columns,
-    rows: &mut [SparseRow],
-) -> Result<(), AllocError> {
-    for at in 0..size {
-        if let (Some(numbers), Some(row)) = (matrix.get(at), rows.get_mut(at)) {
-            reduce_row(numbers.as_slice(), number_of(at), columns, row)?;
-        }
-    }
-    Ok(())
-}
-
 impl Elimination {
     /// Nothing.
     pub(crate) fn new(alloc: Global) -> Elimination {
@@ -109,8 +94,12 @@ impl Elimination {
         self.is_done.resize(size, false)?;
         ready_lists(alloc, &mut self.rows, size)?;
         self.columns.begin(alloc, size)?;
-        let rows = self.rows.as_mut_slice();
-        reduce_rows(matrix, size, &mut self.columns, rows)
+        for at in 0..size {
+            if let (Some(numbers), Some(row)) = (matrix.get(at), self.rows.get_mut(at)) {
+                reduce_row(numbers.as_slice(), number_of(at), &mut self.columns, row)?;
+            }
+        }
+        Ok(())
     }
 
     /// The row that is left and has the fewest numbers, if it has any.
@@ -132,15 +121,6 @@ impl Elimination {
             }
         }
         if fewest == 0 { None } else { found }
-    }
-
-    /// Copies a row to the one that is worked with.
-    fn copy_row(&mut self, number: u32) -> Result<(), AllocError> {
-        self.own.clear();
-        match self.rows.get(number as usize) {
-            Some(row) => self.own.extend_from_slice(row.as_slice()),
-            None => Ok(()),
-        }
     }
 
     /// Takes a column out of a row, by the row that is worked with.
@@ -187,7 +167,10 @@ impl Elimination {
         let Some(row) = self.shortest() else {
             return Ok(false);
         };
-        self.copy_row(row)?;
+        self.own.clear();
+        if let Some(numbers) = self.rows.get(row as usize) {
+            self.own.extend_from_slice(numbers.as_slice())?;
+        }
         let Some((column, number)) = rarest(self.own.as_slice(), &self.columns) else {
             return Ok(false);
         };

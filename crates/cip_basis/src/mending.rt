@@ -168,7 +168,8 @@ impl Mending {
     /// none where it can't.
     fn tried(&self, given: &Given, row: &Row, number: usize, column: u32) -> Option<(Frac, usize)> {
         let sides = given.sides(column as usize);
-        let by = growth(self.rest(column), coefficient_at(row, column), sides)?;
+        let rest = item_at(self.rests.as_slice(), column as usize, Frac::zero());
+        let by = growth(rest, coefficient_at(row, column), sides)?;
         let before = self.multipliers.get(number)?;
         let Ok(after) = before.add(by) else {
             return None;
@@ -178,11 +179,6 @@ impl Mending {
         }
         let count = count_spoiled(given, self.rests.as_slice(), row, by)?;
         Some((by, count))
-    }
-
-    /// The rest of a column.
-    fn rest(&self, column: u32) -> Frac {
-        item_at(self.rests.as_slice(), column as usize, Frac::zero())
     }
 
     /// The row that takes the rest of a column and spoils the fewest columns, with by how much its multiplier grows.
@@ -233,7 +229,8 @@ impl Mending {
             let Some(column) = self.spoiled.pop() else {
                 return Ok(true);
             };
-            if !is_spoiled(given, column as usize, self.rest(column)) {
+            let rest = item_at(self.rests.as_slice(), column as usize, Frac::zero());
+            if !is_spoiled(given, column as usize, rest) {
                 continue;
             }
             let Some((number, by)) = self.best_row(given, column) else {
