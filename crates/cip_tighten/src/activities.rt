@@ -2,9 +2,9 @@
 ghost use Rattle.std.specs.Prelude.{None, codes};
 
 use crate::budgets::Budget;
-use crate::implied::{Implied, Narrowing, Region, Source, list_implied};
+use crate::implied::{Implied, Region, Source};
 use crate::patience::Patience;
-use crate::reductions::{MOST_REDUCTIONS, multiple_of, reduction_of};
+use crate::reductions::{MOST_REDUCTIONS, add_side, multiple_of};
 use crate::watched::Watched;
 use cip_frac::Frac;
 use cip_lin::{Row, RowId, Side, Sides};
@@ -29,53 +29,19 @@ pub struct ActivityPropagator {
     budget: Budget,
 }
 
-/// Whether a value lies between these sides.
-fn has_values(sides: Sides) -> bool {
-    match (sides.low, sides.high) {
+/// Takes a side of a column, and answers whether the column has a value left.
+fn narrowed(sides: &mut [Sides], implied: Implied) -> bool {
+    let Some(own) = sides.get_mut(implied.col as usize) else {
+        return true;
+    };
+    match implied.side {
+        Side::Low => own.low = Some(implied.value),
+        Side::High => own.high = Some(implied.value),
+    }
+    match (own.low, own.high) {
         (Some(low), Some(high)) => low <= high,
         _ => true,
     }
-}
-
-/// Sides with one of them taken over.
-fn with_side(own: Sides, implied: Implied) -> Sides {
-    let value = Some(implied.value);
-    match implied.side {
-        Side::Low => Sides {
-            low: value,
-            high: own.high,
-        },
-        Side::High => Sides {
-            low: own.low,
-            high: value,
-        },
-    }
-}
-
-/// Takes a side of a column, and answers whether the column has a value left.
-fn narrowed(sides: &mut [Sides], implied: Implied) -> bool {
-    let place = implied.col as usize;
-    if place >= sides.len() {
-        return true;
-    }
-    let own = with_side(sides[place], implied);
-    sides[place] = own;
-    has_values(own)
-}
-
-/// Adds sides that a row by one of its sides implies.
-fn add_sides(
-    alloc: Global,
-    id: RowId,
-    source: Source,
-    implied: &[Implied],
-    reductions: &mut Vec<Reduction>,
-) -> Result<(), AllocError> {
-    let multiple = multiple_of(id, source);
-    for item in implied {
-        reductions.push(reduction_of(alloc, *item, &[multiple])?)?;
-    }
-    Ok(())
 }
 
 impl ActivityPropagator {
@@ -91,13 +57,6 @@ impl ActivityPropagator {
         }
     }
 
-    /// Takes the node's box, and has the rows wait of the columns whose sides have changed.
-    fn look(&mut self, sides: &[Sides]) -> Result<(), AllocError> {
-        self.watched.look(sides)?;
-        self.sides.clear();
-        self.sides.extend_from_slice(sides)
-    }
-
     /// Takes the sides that were listed, and has the rows of their columns wait. Answers whether each column has a
     /// value left.
     fn take_sides(&mut self) -> Result<bool, AllocError> {
@@ -108,33 +67,6 @@ impl ActivityPropagator {
             self.watched.wait_for_column(item.col)?;
         }
         Ok(true)
-    }
-
-    /// Adds what a row by one of its sides implies, and answers whether the box may have a point.
-    fn narrow_by(
-        &mut self,
-        alloc: Global,
-        view: &View<'_>,
-        id: RowId,
-        row: &Row,
-        source: Source,
-        reductions: &mut Vec<Reduction>,
-    ) -> Result<bool, AllocError> {
-        let region = Region {
-            sides: self.sides.as_slice(),
-            whole: view.whole,
-            is_exact: false,
-        };
-        let most = MOST_REDUCTIONS.saturating_sub(reductions.len());
-        self.implied.clear();
-        let narrowing = list_implied(row, source, &region, most, &mut self.implied)?;
-        let times = self.implied.len().saturating_add(1);
-        self.budget.spend(row.terms().len().saturating_mul(times));
-        add_sides(alloc, id, source, self.implied.as_slice(), reductions)?;
-        if narrowing == Narrowing::Contradiction {
-            return Ok(false);
-        }
-        self.take_sides()
     }
 
     /// Adds what a row implies, and answers whether the call ends behind it: no point of the box keeps the row, or the
@@ -148,44 +80,23 @@ impl ActivityPropagator {
         reductions: &mut Vec<Reduction>,
     ) -> Result<bool, AllocError> {
         for source in [Source::AtLeast, Source::AtMost] {
-            if !self.narrow_by(alloc, view, id, row, source, reductions)? {
+            let region = Region {
+                sides: self.sides.as_slice(),
+                whole: view.whole,
+                is_exact: false,
+            };
+            let multiple = multiple_of(id, source);
+            let ends = add_side(alloc, &region, multiple, row, &mut self.implied, reductions)?;
+            let times = self.implied.len().saturating_add(1);
+            self.budget.spend(row.terms().len().saturating_mul(times));
+            if ends || !self.take_sides()? {
                 return Ok(true);
             }
         }
         Ok(reductions.len() >= MOST_REDUCTIONS)
     }
 
-    /// The same of the cutoff row, where there is one.
-    fn narrow_by_cost(
-        &mut self,
-        alloc: Global,
-        view: &View<'_>,
-        reductions: &mut Vec<Reduction>,
-    ) -> Result<bool, AllocError> {
-        match view.cutoff {
-            Some(row) => self.narrow(alloc, view, RowId::Cutoff, row, reductions),
-            None => Ok(false),
-        }
-    }
-
-    /// The same of a row of the program, which waits again where the call ends behind it.
-    fn narrow_by_row(
-        &mut self,
-        alloc: Global,
-        view: &View<'_>,
-        number: u32,
-        row: &Row,
-        reductions: &mut Vec<Reduction>,
-    ) -> Result<bool, AllocError> {
-        let ends = self.narrow(alloc, view, RowId::Own(number), row, reductions)?;
-        self.watched.end(number);
-        if ends {
-            self.watched.wait_for(number)?;
-        }
-        Ok(ends)
-    }
-
-    /// Adds what the rows that wait imply.
+    /// Adds what the rows that wait imply. One behind which the call ends waits again.
     fn narrow_by_rows(
         &mut self,
         alloc: Global,
@@ -201,45 +112,43 @@ impl ActivityPropagator {
                 return Ok(());
             };
             terms = terms.saturating_add(row.terms().len());
-            if self.narrow_by_row(alloc, view, number, row, reductions)? || terms > MOST_TERMS {
+            let ends = self.narrow(alloc, view, RowId::Own(number), row, reductions)?;
+            self.watched.end(number);
+            if ends {
+                return self.watched.wait_for(number);
+            }
+            if terms > MOST_TERMS {
                 return Ok(());
             }
         }
         Ok(())
     }
 
-    /// Adds what the cutoff row and the rows that wait imply.
-    fn narrow_all(
-        &mut self,
-        alloc: Global,
-        view: &View<'_>,
-        reductions: &mut Vec<Reduction>,
-    ) -> Result<(), AllocError> {
-        if !self.narrow_by_cost(alloc, view, reductions)? {
-            self.narrow_by_rows(alloc, view, reductions)?;
-        }
-        self.watched.see(self.sides.as_slice())
-    }
-
-    /// Whether a row waits, or another cost is held than when rows were looked at last.
-    fn has_work(&mut self, view: &View<'_>) -> bool {
-        let is_new = self.held != view.held;
-        self.held = view.held;
-        is_new || self.watched.count() > 0
-    }
-
-    /// Adds what is implied, and notes whether there was anything.
+    /// Takes the node's box; where a row waits, or another cost is held than when rows were looked at last, adds what
+    /// the cutoff row and the rows that wait imply, and notes whether there was anything.
     fn look_and_narrow(
         &mut self,
         alloc: Global,
         view: &View<'_>,
         reductions: &mut Vec<Reduction>,
     ) -> Result<(), AllocError> {
-        self.look(view.bounds.as_slice())?;
-        if !self.has_work(view) {
+        let sides = view.bounds.as_slice();
+        self.watched.look(sides)?;
+        self.sides.clear();
+        self.sides.extend_from_slice(sides)?;
+        let is_new = self.held != view.held;
+        self.held = view.held;
+        if !is_new && self.watched.count() == 0 {
             return Ok(());
         }
-        self.narrow_all(alloc, view, reductions)?;
+        let ends = match view.cutoff {
+            Some(row) => self.narrow(alloc, view, RowId::Cutoff, row, reductions)?,
+            None => false,
+        };
+        if !ends {
+            self.narrow_by_rows(alloc, view, reductions)?;
+        }
+        self.watched.see(self.sides.as_slice())?;
         if reductions.is_empty() {
             self.patience.lose();
         } else {
@@ -283,10 +192,10 @@ impl Plugin for ActivityPropagator {
 
 impl Propagator for ActivityPropagator {
     fn propagate(&mut self, alloc: Global, view: &View<'_>) -> Result<Vec<Reduction>, AllocError> {
-        let mut reductions = Vec::new(alloc);
         if !self.budget.may_begin() || !self.patience.is_turn() {
-            return Ok(reductions);
+            return Ok(Vec::new(alloc));
         }
+        let mut reductions = Vec::new(alloc);
         match self.look_and_narrow(alloc, view, &mut reductions) {
             Ok(()) => Ok(reductions),
             Err(fault) => Err(fault),

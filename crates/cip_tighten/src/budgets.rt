@@ -18,7 +18,7 @@ pub(crate) struct Budget {
 }
 
 /// How many terms a program has.
-fn terms_of(own: &[Row]) -> usize {
+pub(crate) fn terms_of(own: &[Row]) -> usize {
     let mut terms = 0usize;
     for row in own {
         terms = terms.saturating_add(row.terms().len());

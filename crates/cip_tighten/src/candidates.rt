@@ -1,6 +1,8 @@
 //! Cuts that were found, and which of them are brought.
-use crate::numbers::{UNIT, common_divisor};
+use crate::numbers::UNIT;
+use crate::stops::Stop;
 use crate::sums::Terms;
+use cip_frac::short_gcd;
 use cip_plugin::Cut;
 use std::alloc::{AllocError, Global};
 
@@ -13,52 +15,54 @@ const LEAST: u128 = 2_800_000;
 // The most cuts that are kept in a round.
 const MOST_FOUND: usize = 200;
 
-/// The divisor that coefficients have in common, and the sum of the squares of what is left of them.
+/// The divisor that a cut's coefficients have in common, the sum of the squares of what is left of them, and its score.
 #[derive(Clone, Copy)]
 pub struct Measure {
-    /// The divisor; 0 of no coefficient.
+    /// The divisor.
     pub divisor: u64,
     /// The sum of the squares.
     pub square: u128,
+    /// The square of how far the last point is cut off for the length of the cut, over 2^48.
+    pub score: u128,
 }
 
 /// The greatest common divisor of coefficients.
 fn divisor_of(terms: &Terms) -> u64 {
     let mut divisor = 0;
     for term in terms {
-        divisor = common_divisor(divisor, term.1);
+        divisor = short_gcd(divisor, term.1.unsigned_abs());
     }
     divisor
 }
 
-/// The measure of coefficients that have at most 20 bits without their common divisor, and aren't all 0.
-pub fn measure_of(terms: &Terms) -> Option<Measure> {
+/// The measure of a cut that the last point breaks by so much, roughly, over 2^24 and before the common divisor is
+/// taken out; none where its coefficients are all 0, or one has more than 20 bits without their common divisor, and
+/// where the point is cut off by less than a ten-thousandth of the cut's length.
+pub fn measure_of(terms: &Terms, broken: i128) -> Option<Measure> {
+    if broken <= 0 {
+        return None;
+    }
     let divisor = divisor_of(terms);
     let mut square = 0u128;
     for term in terms {
-        let size = term.1.unsigned_abs().checked_div(divisor)?;
+        let size = term.1.unsigned_abs().checked_div(divisor).unwrap_or(MOST);
         if size >= MOST {
             return None;
         }
         let long = u128::from(size);
         square = square.wrapping_add(long.wrapping_mul(long));
     }
-    if square == 0 {
-        return None;
-    }
-    Some(Measure { divisor, square })
-}
-
-/// The square of how far a point is cut off for the length of the cut, over 2^48: it breaks the cut by so much,
-/// roughly, over 2^24 and before the common divisor is taken out. None where that is less than a ten-thousandth.
-pub fn score(broken: i128, measure: Measure) -> Option<u128> {
-    let far = broken.checked_div(i128::from(measure.divisor))?;
-    if far <= 0 {
-        return None;
-    }
+    let far = broken.checked_div(i128::from(divisor)).unwrap_or(0);
     let size = far.unsigned_abs().min(1 << 60);
-    let value = size.wrapping_mul(size).checked_div(measure.square)?;
-    if value < LEAST { None } else { Some(value) }
+    let score = size.wrapping_mul(size).checked_div(square).unwrap_or(0);
+    if score < LEAST {
+        return None;
+    }
+    Some(Measure {
+        divisor,
+        square,
+        score,
+    })
 }
 
 /// A cut that was found.
@@ -68,17 +72,10 @@ pub struct Candidate {
     pub terms: Terms,
     /// The sum of their squares.
     pub square: u128,
-    /// What `score` answers.
+    /// How far it cuts the last point off, as its measure says.
     pub score: u128,
     /// The cut, until it is brought.
     pub cut: Option<Cut>,
-}
-
-/// A cut by its score and its place.
-#[derive(Clone, Copy, PartialEq, Eq, PartialOrd, Ord)]
-struct Rank {
-    score: u128,
-    place: usize,
 }
 
 /// The product of two cuts' coefficients.
@@ -108,25 +105,17 @@ fn first_from(terms: &[(u32, i64)], start: usize, col: u32) -> usize {
     terms.len()
 }
 
-/// Whether two cuts are nearly parallel: the cosine of their angle is above .9.
-fn are_parallel(one: &Candidate, other: &Candidate) -> bool {
-    let both = product_of(one.terms.as_slice(), other.terms.as_slice());
-    if both <= 0 {
-        return false;
-    }
-    let size = both.unsigned_abs();
-    let squares = one.square.wrapping_mul(other.square);
-    size.wrapping_mul(size).wrapping_mul(100) > squares.wrapping_mul(81)
-}
-
-/// Whether a cut is nearly parallel to one of these.
+/// Whether a cut is nearly parallel to one of these: the cosine of their angle is above .9.
 fn is_like_one(list: &[Candidate], picked: &[usize], place: usize) -> bool {
     let Some(candidate) = list.get(place) else {
         return true;
     };
     for other in picked {
         if let Some(held) = list.get(*other) {
-            if are_parallel(candidate, held) {
+            let both = product_of(candidate.terms.as_slice(), held.terms.as_slice());
+            let size = both.max(0).unsigned_abs();
+            let squares = candidate.square.wrapping_mul(held.square);
+            if size.wrapping_mul(size).wrapping_mul(100) > squares.wrapping_mul(81) {
                 return true;
             }
         }
@@ -134,15 +123,7 @@ fn is_like_one(list: &[Candidate], picked: &[usize], place: usize) -> bool {
     false
 }
 
-/// Brings a cut, unless it was brought before.
-fn bring(candidate: &mut Candidate, cuts: &mut Vec<Cut>) -> Result<(), AllocError> {
-    if let Some(cut) = candidate.cut.take() {
-        cuts.push(cut)?;
-    }
-    Ok(())
-}
-
-/// Picks the cut at a place and brings it, unless it is nearly parallel to one that was picked.
+/// Picks the cut at a place and brings it, unless it is nearly parallel to one that was picked, or was brought before.
 fn pick(
     list: &mut [Candidate],
     picked: &mut Vec<usize>,
@@ -153,15 +134,17 @@ fn pick(
         return Ok(());
     }
     picked.push(place)?;
-    match list.get_mut(place) {
-        Some(candidate) => bring(candidate, cuts),
-        None => Ok(()),
+    if let Some(candidate) = list.get_mut(place) {
+        if let Some(cut) = candidate.cut.take() {
+            cuts.push(cut)?;
+        }
     }
+    Ok(())
 }
 
 /// Brings the best cuts, at most so many; the last of the ranks is the best.
 fn bring_best(
-    ranks: &[Rank],
+    ranks: &[(u128, usize)],
     list: &mut [Candidate],
     picked: &mut Vec<usize>,
     most: usize,
@@ -171,16 +154,16 @@ fn bring_best(
         if cuts.len() >= most {
             return Ok(());
         }
-        pick(list, picked, rank.place, cuts)?;
+        pick(list, picked, rank.1, cuts)?;
     }
     Ok(())
 }
 
-/// The cuts that were found in a round.
+/// The cuts that were found in a round, and each by its score and its place.
 #[derive(Drop)]
 pub struct Candidates {
     list: Vec<Candidate>,
-    ranks: Vec<Rank>,
+    ranks: Vec<(u128, usize)>,
     picked: Vec<usize>,
 }
 
@@ -213,13 +196,19 @@ impl Candidates {
 
     /// Keeps a cut. `Err` where memory was refused, and then nothing more is to be kept until all are taken away.
     pub fn push(&mut self, candidate: Candidate) -> Result<(), AllocError> {
-        let rank = Rank {
-            score: candidate.score,
-            place: self.list.len(),
-        };
-        self.ranks.push(rank)?;
+        let rank = (candidate.score, self.list.len());
         self.list.push(candidate)?;
+        self.ranks.push(rank)?;
         Ok(())
+    }
+
+    /// Keeps a cut, if there is one. `Err` comes as of `push`, and where memory was refused for the cut.
+    pub(crate) fn keep(&mut self, found: Result<Candidate, Stop>) -> Result<(), AllocError> {
+        match found {
+            Ok(candidate) => self.push(candidate),
+            Err(Stop::GaveUp) => Ok(()),
+            Err(Stop::NoMemory) => Err(AllocError),
+        }
     }
 
     /// The best cuts, at most so many, none nearly parallel to a better one; each is brought once. `Err` where memory
@@ -238,8 +227,11 @@ impl Candidates {
     }
 }
 
-/// By how much a row is broken, roughly and over 2^24: what it comes to, over 2^24, less its right side. None where
-/// that leaves the range.
-pub fn broken_by(sum: i128, right: i128) -> Option<i128> {
-    sum.checked_sub(right.checked_mul(i128::from(UNIT))?)
+/// By how much a row is broken, roughly and over 2^24: what it comes to, over 2^24, less its right side. 0 where that
+/// leaves the range.
+pub fn broken_by(sum: i128, right: i128) -> i128 {
+    match right.checked_mul(i128::from(UNIT)) {
+        Some(far) => sum.checked_sub(far).unwrap_or(0),
+        None => 0,
+    }
 }

@@ -1,4 +1,5 @@
 //! In which rows each column stands.
+use crate::tight::short;
 use cip_lin::Row;
 use std::alloc::{AllocError, Global};
 
@@ -47,30 +48,16 @@ fn add_up(counts: &mut [u32]) -> usize {
     sum as usize
 }
 
-/// Writes a number down at the end of a column's list.
-fn put(number: u32, col: u32, ends: &mut [u32], rows: &mut [u32]) {
-    let Some(end) = ends.get_mut(col as usize) else {
-        return;
-    };
-    if let Some(place) = rows.get_mut(*end as usize) {
-        *place = number;
-    }
-    *end = end.wrapping_add(1);
-}
-
-/// Counts the rows of each column, and leaves where its list begins; answers how long all lists are.
-fn count_rows(own: &[Row], columns: Taken<'_>, ends: &mut [u32]) -> usize {
-    for row in own {
-        count_row(row, columns, ends);
-    }
-    add_up(ends)
-}
-
-/// Writes a row down at each of its columns.
+/// Writes a row down at the end of the list of each of its columns.
 fn fill_row(number: u32, row: &Row, columns: Taken<'_>, ends: &mut [u32], rows: &mut [u32]) {
     for term in row.terms() {
         if columns.has(term.col) {
-            put(number, term.col, ends, rows);
+            if let Some(end) = ends.get_mut(term.col as usize) {
+                if let Some(place) = rows.get_mut(*end as usize) {
+                    *place = number;
+                }
+                *end = end.wrapping_add(1);
+            }
         }
     }
 }
@@ -78,8 +65,7 @@ fn fill_row(number: u32, row: &Row, columns: Taken<'_>, ends: &mut [u32], rows: 
 /// Writes rows down at each of their columns.
 fn fill(own: &[Row], columns: Taken<'_>, ends: &mut [u32], rows: &mut [u32]) {
     for (number, row) in own.iter().enumerate() {
-        let short = u32::try_from(number).unwrap_or(u32::MAX);
-        fill_row(short, row, columns, ends, rows);
+        fill_row(short(number), row, columns, ends, rows);
     }
 }
 
@@ -107,19 +93,19 @@ impl ColumnRows {
             only_continuous,
         };
         self.ends.resize(whole.len().saturating_add(1), 0)?;
-        let count = count_rows(own, columns, self.ends.as_mut_slice());
+        for row in own {
+            count_row(row, columns, self.ends.as_mut_slice());
+        }
+        let count = add_up(self.ends.as_mut_slice());
         self.rows.resize(count, 0)?;
         let (ends, rows) = (self.ends.as_mut_slice(), self.rows.as_mut_slice());
         fill(own, columns, ends, rows);
         Ok(())
     }
 
-    /// Where the list of the column before this one ends.
-    fn start_of(&self, col: u32) -> usize {
-        let Some(before) = (col as usize).checked_sub(1) else {
-            return 0;
-        };
-        match self.ends.get(before) {
+    /// Where the list of a column ends; 0 of one that isn't there.
+    fn end_of(&self, column: usize) -> usize {
+        match self.ends.get(column) {
             Some(end) => *end as usize,
             None => 0,
         }
@@ -127,10 +113,8 @@ impl ColumnRows {
 
     /// The rows of a column, by their rising numbers; none of a column that isn't there.
     pub fn rows_of(&self, col: u32) -> &[u32] {
-        let end = match self.ends.get(col as usize) {
-            Some(end) => *end as usize,
-            None => 0,
-        };
-        self.rows.get(self.start_of(col)..end).unwrap_or(&[])
+        let column = col as usize;
+        let start = self.end_of(column.wrapping_sub(1));
+        self.rows.get(start..self.end_of(column)).unwrap_or(&[])
     }
 }

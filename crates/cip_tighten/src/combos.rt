@@ -1,7 +1,6 @@
 //! Combinations that cuts are made of.
-use crate::numbers::ratio;
 use crate::shifts::Shift;
-use crate::stops::{Stop, found};
+use crate::stops::Stop;
 use cip_frac::Frac;
 use cip_lin::{ColumnMultiple, Combo, RowId, RowMultiple};
 use std::alloc::Global;
@@ -18,7 +17,9 @@ pub fn empty_combo(alloc: Global) -> Combo {
 /// Adds a row, a quotient of two numbers times. `GaveUp` where the quotient is none or leaves the range, `NoMemory`
 /// where memory was refused.
 pub fn push_row(combo: &mut Combo, row: RowId, over: i128, under: i128) -> Result<(), Stop> {
-    let factor = found(ratio(over, under))?;
+    let Ok(factor) = Frac::new(over, under) else {
+        return Err(Stop::GaveUp);
+    };
     combo.rows.push(RowMultiple { row, factor })?;
     Ok(())
 }
@@ -26,25 +27,24 @@ pub fn push_row(combo: &mut Combo, row: RowId, over: i128, under: i128) -> Resul
 /// Adds that a way is at least 0, a quotient of two numbers times, unless that is 0. Errors come as of a row, and
 /// `GaveUp` also where the way has no side.
 pub fn push_way(combo: &mut Combo, shift: Shift, over: i128, under: i128) -> Result<(), Stop> {
-    let weight = found(ratio(over, under))?;
+    let Ok(weight) = Frac::new(over, under) else {
+        return Err(Stop::GaveUp);
+    };
     if weight.is_zero() {
         return Ok(());
     }
     if shift.side.is_none() {
         return Err(Stop::GaveUp);
     }
-    push_side(combo, shift, weight)
-}
-
-/// Adds the side from which a way is told, with a weight above 0.
-fn push_side(combo: &mut Combo, shift: Shift, weight: Frac) -> Result<(), Stop> {
     let col = shift.col;
     if shift.is_turned {
         let factor = weight.neg();
         combo.highs.push(ColumnMultiple { col, factor })?;
     } else {
-        let factor = weight;
-        combo.lows.push(ColumnMultiple { col, factor })?;
+        combo.lows.push(ColumnMultiple {
+            col,
+            factor: weight,
+        })?;
     }
     Ok(())
 }

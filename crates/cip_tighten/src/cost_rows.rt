@@ -26,37 +26,17 @@ fn add_terms(sums: &mut [Frac], terms: &[Term], factor: Frac) -> bool {
     true
 }
 
-/// The side of a row that a multiple of it uses.
-fn side_of(row: &Row, factor: Frac) -> Option<Frac> {
-    if factor.is_negative() {
-        row.high()
-    } else {
-        row.low()
-    }
-}
-
-/// Whether none of these is the cutoff row.
-fn are_rows(multiples: &[RowMultiple]) -> bool {
-    for multiple in multiples {
-        if multiple.row == RowId::Cutoff {
-            return false;
-        }
-    }
-    true
-}
-
-/// A row of these coefficients that is at least a number.
-fn filled(alloc: Global, sums: &[Frac], right: Frac) -> Result<Row, RowFault> {
-    let mut row = Row::empty(alloc, Some(right), None);
-    for place in 0..sums.len() {
-        if !sums[place].is_zero() {
+/// Adds these coefficients to a row.
+fn append_all(row: &mut Row, sums: &[Frac]) -> Result<(), RowFault> {
+    for (place, sum) in sums.iter().enumerate() {
+        if !sum.is_zero() {
             row.append(Term {
                 col: short(place),
-                coef: sums[place],
+                coef: *sum,
             })?;
         }
     }
-    Ok(row)
+    Ok(())
 }
 
 impl CostRow {
@@ -71,24 +51,18 @@ impl CostRow {
 
     /// Adds a multiple of a row to the sum, and answers whether it has the side and stayed in range.
     fn add(&mut self, row: &Row, factor: Frac) -> bool {
-        let Some(side) = side_of(row, factor) else {
-            return false;
+        let side = if factor.is_negative() {
+            row.high()
+        } else {
+            row.low()
         };
-        add_terms(self.sums.as_mut_slice(), row.terms(), factor)
-            && self.right.add_product(&factor, &side)
-    }
-
-    /// Adds all rows of a combination, and answers whether each is there, has the side and stayed in range.
-    fn add_rows(&mut self, view: &View<'_>, multiples: &[RowMultiple]) -> bool {
-        for multiple in multiples {
-            let Some(row) = row_of(view, multiple.row) else {
-                return false;
-            };
-            if !self.add(row, multiple.factor) {
-                return false;
+        match side {
+            Some(side) => {
+                add_terms(self.sums.as_mut_slice(), row.terms(), factor)
+                    && self.right.add_product(&factor, &side)
             }
+            None => false,
         }
-        true
     }
 
     /// Takes the names of the rows of a combination, and that of the cutoff row. `Err` where memory was refused.
@@ -105,8 +79,8 @@ impl CostRow {
         Ok(())
     }
 
-    /// The rows of a combination added up with the cutoff row by -1; none where one isn't there or has no side, or the
-    /// sum leaves the range. `Err` where memory was refused.
+    /// The rows of a combination without the cutoff row, added up with that by -1; none where one isn't there or has no
+    /// side, or the sum leaves the range. `Err` where memory was refused.
     pub(crate) fn take(
         &mut self,
         alloc: Global,
@@ -114,18 +88,30 @@ impl CostRow {
         combo: &Combo,
         cutoff: &Row,
     ) -> Result<Option<Row>, AllocError> {
-        if cutoff.high().is_none() || !are_rows(combo.rows.as_slice()) {
+        if cutoff.high().is_none() {
             return Ok(None);
         }
         self.take_names(combo, view.costs.len())?;
-        let minus = Frac::one().neg();
-        if !self.add_rows(view, combo.rows.as_slice()) || !self.add(cutoff, minus) {
+        for multiple in &combo.rows {
+            match row_of(view, multiple.row) {
+                Some(row) if self.add(row, multiple.factor) => {}
+                _ => return Ok(None),
+            }
+        }
+        if !self.add(cutoff, Frac::one().neg()) {
             return Ok(None);
         }
-        match filled(alloc, self.sums.as_slice(), self.right) {
-            Ok(row) => Ok(Some(row)),
-            Err(RowFault::NoMemory) => Err(AllocError),
-            Err(_) => Ok(None),
+        let mut row = Row::empty(alloc, Some(self.right), None);
+        let outcome = append_all(&mut row, self.sums.as_slice());
+        match outcome {
+            Ok(()) => Ok(Some(row)),
+            Err(fault) => {
+                drop(row);
+                match fault {
+                    RowFault::NoMemory => Err(AllocError),
+                    _ => Ok(None),
+                }
+            }
         }
     }
 }

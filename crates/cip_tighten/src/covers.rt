@@ -1,6 +1,6 @@
 //! Covers: columns of a row, each with two values, that can't all stand at the costlier one. The row, divided by the
 //! greatest of their coefficients and rounded, says that one of them doesn't.
-use crate::candidates::{Candidate, Candidates};
+use crate::candidates::Candidates;
 use crate::mixing::best_division;
 use crate::numbers::UNIT;
 use crate::roundings::rounded_cut;
@@ -35,7 +35,7 @@ pub(crate) struct Covers {
 }
 
 /// In which order columns come into a cover.
-#[derive(Clone, Copy, PartialEq, Eq)]
+#[derive(Clone, Copy)]
 enum Order {
     /// What is left of the way for the coefficient, the least first.
     ByRate,
@@ -43,28 +43,21 @@ enum Order {
     ByWay,
 }
 
-/// By what a column stands in an order.
-fn key_of(shift: Shift, order: Order) -> i64 {
-    let left = UNIT.saturating_sub(shift.way);
-    match order {
-        Order::ByWay => left,
-        Order::ByRate => {
-            let raised = i128::from(left) << 24;
-            match raised.checked_div(i128::from(shift.coef)) {
-                Some(rate) => i64::try_from(rate).unwrap_or(i64::MAX),
-                None => i64::MAX,
-            }
-        }
-    }
-}
-
 /// Lists the columns that may stand in a cover, in an order.
 fn list_picks(items: &[Shift], order: Order, picks: &mut Vec<Pick>) -> Result<(), Stop> {
     picks.clear();
     for (place, shift) in items.iter().enumerate() {
         if shift.is_unit {
+            let left = UNIT.saturating_sub(shift.way);
+            let key = match order {
+                Order::ByWay => left,
+                Order::ByRate => {
+                    let rate = (i128::from(left) << 24).checked_div(i128::from(shift.coef));
+                    i64::try_from(rate.unwrap_or(i128::MAX)).unwrap_or(i64::MAX)
+                }
+            };
             picks.push(Pick {
-                key: key_of(*shift, order),
+                key,
                 place,
                 coef: shift.coef,
                 way: shift.way,
@@ -111,32 +104,18 @@ fn thin(cover: &mut Vec<Pick>, sum: i128, limit: i128, kept: &mut Vec<Pick>) -> 
     Ok(())
 }
 
-/// Tells the ways of these columns from their other sides.
-fn flip_all(kept: &[Pick], shifted: &mut Shifted) -> Result<(), Stop> {
-    for pick in kept {
-        shifted.flip(pick.place)?;
-    }
-    Ok(())
-}
-
-/// Lists the coefficients of these columns.
-fn list_coefficients(kept: &[Pick], divisors: &mut Vec<i64>) -> Result<(), Stop> {
+/// Tells the ways of the cover's columns from their other sides, and lists their coefficients, the greatest first.
+fn turn(kept: &[Pick], shifted: &mut Shifted, divisors: &mut Vec<i64>) -> Result<(), Stop> {
     divisors.clear();
     for pick in kept {
+        shifted.flip(pick.place)?;
         divisors.push(pick.coef)?;
     }
+    divisors.sort_unstable();
+    divisors.reverse();
+    divisors.dedup();
+    divisors.truncate(MOST_DIVISORS);
     Ok(())
-}
-
-/// Tells a row in the ways of its columns; answers what they come to at most.
-fn take_row(view: &View<'_>, sum: &Sum, shifted: &mut Shifted) -> Result<i128, Stop> {
-    let point = view.point.unwrap_or(&[]);
-    shifted.take(view, point, &sum.terms, sum.right, Aim::Positive)?;
-    let limit = shifted.right.floor();
-    if !shifted.is_fractional || limit < 0 {
-        return Err(Stop::GaveUp);
-    }
-    Ok(limit)
 }
 
 impl Covers {
@@ -152,64 +131,24 @@ impl Covers {
         }
     }
 
-    /// Tells the ways of the cover's columns from their other sides, and lists their coefficients, the greatest first.
-    fn turn_cover(&mut self) -> Result<(), Stop> {
-        let kept = self.kept.as_slice();
-        flip_all(kept, &mut self.shifted)?;
-        list_coefficients(kept, &mut self.divisors)?;
-        self.divisors.sort_unstable();
-        self.divisors.reverse();
-        self.divisors.dedup();
-        self.divisors.truncate(MOST_DIVISORS);
-        Ok(())
-    }
-
-    /// Finds a cover in an order, and tells the row in the ways of its columns from their costlier values.
+    /// Finds a cover in an order: its columns' coefficients come to more than the limit. Tells the row in the ways of
+    /// these columns from their costlier values.
     fn find(&mut self, view: &View<'_>, sum: &Sum, order: Order) -> Result<(), Stop> {
-        let limit = take_row(view, sum, &mut self.shifted)?;
-        self.pick(order, limit)?;
-        self.turn_cover()
-    }
-
-    /// Picks the columns of a cover in an order: their coefficients come to more than the limit.
-    fn pick(&mut self, order: Order, limit: i128) -> Result<(), Stop> {
+        let point = view.point.unwrap_or(&[]);
+        self.shifted
+            .take(view, point, &sum.terms, sum.right, Aim::Positive)?;
+        let limit = self.shifted.right.floor();
+        if !self.shifted.is_fractional || limit < 0 {
+            return Err(Stop::GaveUp);
+        }
         list_picks(self.shifted.items.as_slice(), order, &mut self.picks)?;
         let come_to = fill(self.picks.as_slice(), limit, &mut self.cover)?;
-        thin(&mut self.cover, come_to, limit, &mut self.kept)
+        thin(&mut self.cover, come_to, limit, &mut self.kept)?;
+        turn(self.kept.as_slice(), &mut self.shifted, &mut self.divisors)
     }
 
-    /// Keeps the cut of the cover that was found, by the greatest of its coefficients and rounded.
-    fn keep_rounded(
-        &mut self,
-        alloc: Global,
-        sum: &Sum,
-        candidates: &mut Candidates,
-    ) -> Result<(), Stop> {
-        let by = match self.divisors.first() {
-            Some(by) if *by > 0 => *by,
-            _ => return Err(Stop::GaveUp),
-        };
-        let candidate = rounded_cut(alloc, sum, &self.shifted, by)?;
-        candidates.push(candidate)?;
-        Ok(())
-    }
-
-    /// Keeps the best mixed rounding of the row by a coefficient of the cover that was found: it leaves the columns
-    /// outside of the cover more than rounding does.
-    fn keep_mixed(
-        &mut self,
-        alloc: Global,
-        view: &View<'_>,
-        sum: &Sum,
-        candidates: &mut Candidates,
-    ) -> Result<(), Stop> {
-        let best = best_division(&self.shifted, self.divisors.as_slice(), &mut self.terms)?;
-        let candidate = mixed_cut(alloc, view, sum, &self.shifted, best)?;
-        candidates.push(candidate)?;
-        Ok(())
-    }
-
-    /// Keeps the cuts of a cover, if one is found in this order.
+    /// Keeps the cuts of a cover, if one is found in this order: the row by the greatest of its coefficients and
+    /// rounded, and the best mixed rounding by one of them, which leaves the columns outside of the cover more.
     fn keep_by(
         &mut self,
         alloc: Global,
@@ -219,8 +158,13 @@ impl Covers {
         candidates: &mut Candidates,
     ) -> Result<(), Stop> {
         self.find(view, sum, order)?;
-        unless_refused(self.keep_rounded(alloc, sum, candidates))?;
-        self.keep_mixed(alloc, view, sum, candidates)
+        let divisors = self.divisors.as_slice();
+        if let Some(by) = divisors.first() {
+            candidates.keep(rounded_cut(alloc, sum, &self.shifted, *by))?;
+        }
+        let best = best_division(&self.shifted, divisors, &mut self.terms)?;
+        candidates.keep(mixed_cut(alloc, view, sum, &self.shifted, best))?;
+        Ok(())
     }
 
     /// Keeps the cuts of covers of a row that is at most its right side.

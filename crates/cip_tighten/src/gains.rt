@@ -1,4 +1,5 @@
 //! What rounds of cuts gained.
+use crate::budgets::terms_of;
 use crate::numbers::{UNIT, rough};
 use cip_frac::Frac;
 use cip_plugin::View;
@@ -19,22 +20,16 @@ pub struct Gains {
     stale: u32,
 }
 
-/// What a column costs at a value, roughly, over 2^24; none where that leaves the range.
-fn rough_product(cost: Frac, value: Frac) -> Option<i128> {
-    if cost.is_zero() || value.is_zero() {
-        return Some(0);
-    }
-    let product = cost.numerator().checked_mul(i128::from(rough(value)))?;
-    product.checked_div(cost.denominator())
-}
-
 /// What a point costs, roughly, over 2^24: the sum of what each column costs, which is rounded. None where that leaves
 /// the range.
 pub fn cost_of(costs: &[Frac], point: &[Frac]) -> Option<i64> {
     let mut sum = 0i128;
     for (column, value) in point.iter().enumerate() {
         if let Some(cost) = costs.get(column) {
-            sum = sum.checked_add(rough_product(*cost, *value)?)?;
+            if !cost.is_zero() && !value.is_zero() {
+                let product = cost.numerator().checked_mul(i128::from(rough(*value)))?;
+                sum = sum.checked_add(product.checked_div(cost.denominator())?)?;
+            }
         }
     }
     i64::try_from(sum).ok()
@@ -79,29 +74,6 @@ fn has_whole_costs(view: &View<'_>) -> bool {
     true
 }
 
-/// Whether a row more may be what keeps the optimum from being shown: it is shown now, a value of its point has a long
-/// denominator, and costs aren't whole, so that no bound rounded up is as good.
-fn may_lose(view: &View<'_>, point: &[Frac]) -> bool {
-    view.combo.is_some() && is_long(point, MOST_UNDER) && !has_whole_costs(view)
-}
-
-/// How many coefficients the rows of the program have.
-fn own_terms(view: &View<'_>) -> usize {
-    let mut count = 0usize;
-    for row in view.own {
-        count = count.saturating_add(row.terms().len());
-    }
-    count
-}
-
-/// Whether a program isn't small, and more than a third of its coefficients are there. Cuts are as long as its rows
-/// then, and cost each later linear program more than they save.
-fn is_dense(view: &View<'_>) -> bool {
-    let own = own_terms(view);
-    let places = view.own.len().saturating_mul(view.costs.len());
-    own > MOST_SMALL && own.saturating_mul(3) > places
-}
-
 /// Whether a cost rose by less than a ten-thousandth.
 fn is_small(before: Option<i64>, now: Option<i64>) -> bool {
     match (before, now) {
@@ -125,7 +97,10 @@ impl Gains {
     }
 
     /// Whether one more round may pay: at the root, with a point that is to be cut off, unless the program is dense,
-    /// cuts may keep an optimum from being shown, or the last rounds gained little.
+    /// cuts may keep an optimum from being shown, or the last rounds gained little. Cuts may do so where it is shown
+    /// now, a value of its point has a long denominator, and costs aren't whole, so that no bound rounded up is as
+    /// good. A program is dense that isn't small, and has more than a third of its coefficients: cuts are as long as
+    /// its rows then, and cost each later linear program more than they save.
     pub fn may_pay(&mut self, view: &View<'_>) -> bool {
         let Some(point) = view.point else {
             return false;
@@ -133,7 +108,12 @@ impl Gains {
         if view.node != 0 || self.stale >= MOST_STALE {
             return false;
         }
-        if is_dense(view) || may_lose(view, point) || !has_fraction(view.whole, point) {
+        let own = terms_of(view.own);
+        let places = view.own.len().saturating_mul(view.costs.len());
+        if (own > MOST_SMALL && own.saturating_mul(3) > places)
+            || (view.combo.is_some() && is_long(point, MOST_UNDER) && !has_whole_costs(view))
+            || !has_fraction(view.whole, point)
+        {
             return false;
         }
         let cost = cost_of(view.costs, point);

@@ -46,11 +46,9 @@ pub struct Region<'a> {
     pub is_exact: bool,
 }
 
-/// The least that a row's products come to, as far as there is one: the sum of those that have a least value, what that
-/// leaves of the row's limit, and how many have none.
+/// What the least of a row's products leave of its limit, as far as they have a least value, and how many have none.
 #[derive(Clone, Copy)]
 struct Least {
-    sum: Frac,
     slack: Frac,
     open: usize,
 }
@@ -61,9 +59,7 @@ struct AtMost<'a> {
     terms: &'a [Term],
     is_negated: bool,
     limit: Frac,
-    sides: &'a [Sides],
-    whole: &'a [bool],
-    is_exact: bool,
+    region: Region<'a>,
 }
 
 /// The side at which the product of a coefficient is least.
@@ -75,42 +71,29 @@ fn least_side(coef: Frac, sides: Sides) -> Option<Frac> {
     }
 }
 
-/// The other side.
-fn greatest_side(coef: Frac, sides: Sides) -> Option<Frac> {
-    if coef.is_negative() {
-        sides.low
-    } else {
-        sides.high
-    }
-}
-
-/// A number with the product of two others added, where it is in range.
-fn with_product(number: Frac, left: Frac, right: Frac) -> Option<Frac> {
-    let mut sum = number;
-    if sum.add_product(&left, &right) {
-        Some(sum)
-    } else {
-        None
-    }
-}
-
 /// What is left for the product of a term where the others are least; none where one of those has no least value.
 fn left_for(coef: Frac, sides: Sides, least: Least) -> Option<Frac> {
-    match least_side(coef, sides) {
-        Some(side) if least.open == 0 => with_product(least.slack, coef, side),
-        None if least.open == 1 => Some(least.slack),
-        _ => None,
-    }
+    let mut left = least.slack;
+    let is_there = match least_side(coef, sides) {
+        Some(side) => least.open == 0 && left.add_product(&coef, &side),
+        None => least.open == 1,
+    };
+    if is_there { Some(left) } else { None }
 }
 
 /// Whether the product of a term may come to more than what is left for it.
 fn may_narrow(coef: Frac, sides: Sides, left: Frac) -> bool {
-    let Some(side) = greatest_side(coef, sides) else {
-        return true;
+    let greatest = if coef.is_negative() {
+        sides.low
+    } else {
+        sides.high
     };
-    match coef.mul(side) {
-        Ok(most) => most > left,
-        Err(_) => false,
+    match greatest {
+        Some(side) => match coef.mul(side) {
+            Ok(most) => most > left,
+            Err(_) => false,
+        },
+        None => true,
     }
 }
 
@@ -126,24 +109,16 @@ impl<'a> AtMost<'a> {
 
     /// The sides of a column.
     fn sides_of(&self, col: u32) -> Sides {
-        match self.sides.get(col as usize) {
+        match self.region.sides.get(col as usize) {
             Some(sides) => *sides,
             None => Sides::open(),
         }
     }
 
-    /// Whether a column is whole.
-    fn is_whole(&self, col: u32) -> bool {
-        match self.whole.get(col as usize) {
-            Some(is_whole) => *is_whole,
-            None => false,
-        }
-    }
-
     /// A side of a column, rounded: inward for a whole column, and outward for another.
     fn rounded(&self, col: u32, value: Frac, is_high: bool) -> Frac {
-        let is_whole = self.is_whole(col);
-        if self.is_exact && !is_whole {
+        let is_whole = self.region.whole.get(col as usize) == Some(&true);
+        if self.region.is_exact && !is_whole {
             value
         } else if is_high == is_whole {
             value.rounded_down()
@@ -152,26 +127,27 @@ impl<'a> AtMost<'a> {
         }
     }
 
-    /// The least that its products come to; none where that, or what it leaves, isn't in range.
+    /// What the least of its products leave; none where that isn't in range, or more than one has no least value.
     fn least(&self) -> Option<Least> {
-        let mut least = Least {
-            sum: Frac::zero(),
-            slack: Frac::zero(),
-            open: 0,
-        };
+        let mut sum = Frac::zero();
+        let mut open = 0usize;
         for term in self.terms {
             let coef = self.coefficient(term);
             match least_side(coef, self.sides_of(term.col)) {
-                Some(side) => least.sum = with_product(least.sum, coef, side)?,
-                None => least.open = least.open.saturating_add(1),
+                Some(side) if !sum.add_product(&coef, &side) => return None,
+                Some(_) => {}
+                None => open = open.saturating_add(1),
             }
         }
-        least.slack = self.limit.sub(least.sum).ok()?;
-        Some(least)
+        match self.limit.sub(sum) {
+            Ok(slack) if open <= 1 => Some(Least { slack, open }),
+            _ => None,
+        }
     }
 
-    /// The side of a term's column that is implied, as it is.
-    fn exact_by(&self, term: &Term, least: Least) -> Option<Implied> {
+    /// The side of the first term's column that is implied, as it is.
+    fn first_exact(&self, least: Least) -> Option<Implied> {
+        let term = self.terms.first()?;
         let coef = self.coefficient(term);
         let left = left_for(coef, self.sides_of(term.col), least)?;
         if coef.is_zero() {
@@ -203,59 +179,20 @@ impl<'a> AtMost<'a> {
         }
         let is_high = coef.is_positive();
         let value = self.rounded(term.col, left.div(coef).ok()?, is_high);
-        stronger(term.col, sides, is_high, value)
-    }
-}
-
-/// A side of the row's first column that leaves it no value, where the row can't be kept.
-fn contradiction(row: &AtMost<'_>, least: Least) -> Option<Implied> {
-    row.exact_by(row.terms.first()?, least)
-}
-
-/// A side of a column, if it is stronger than the one that is there.
-fn stronger(col: u32, sides: Sides, is_high: bool, value: Frac) -> Option<Implied> {
-    if value.numerator().unsigned_abs() > MOST as u128 {
-        return None;
-    }
-    let (side, is_stronger) = if is_high {
-        (Side::High, sides.high.is_none_or(|high| value < high))
-    } else {
-        (Side::Low, sides.low.is_none_or(|low| value > low))
-    };
-    if is_stronger {
-        Some(Implied { col, side, value })
-    } else {
-        None
-    }
-}
-
-/// Lists what a row that is at most a number implies, as long as there are fewer than so many.
-fn list_at_most(
-    row: &AtMost<'_>,
-    most: usize,
-    out: &mut Vec<Implied>,
-) -> Result<Narrowing, AllocError> {
-    let Some(least) = row.least() else {
-        return Ok(Narrowing::Sides);
-    };
-    if least.open > 1 {
-        return Ok(Narrowing::Sides);
-    }
-    if least.open == 0 && least.sum > row.limit {
-        if let Some(implied) = contradiction(row, least) {
-            out.push(implied)?;
+        let is_stronger = match if is_high { sides.high } else { sides.low } {
+            Some(own) if is_high => value < own,
+            Some(own) => value > own,
+            None => true,
+        };
+        if !is_stronger || value.numerator().unsigned_abs() > MOST as u128 {
+            return None;
         }
-        return Ok(Narrowing::Contradiction);
+        Some(Implied {
+            col: term.col,
+            side: if is_high { Side::High } else { Side::Low },
+            value,
+        })
     }
-    for term in row.terms {
-        if out.len() >= most {
-            return Ok(Narrowing::Sides);
-        }
-        if let Some(implied) = row.implied_by(term, least) {
-            out.push(implied)?;
-        }
-    }
-    Ok(Narrowing::Sides)
 }
 
 /// Lists the sides of columns that a side of a row implies in a box, stronger ones alone, as long as there are fewer
@@ -267,21 +204,32 @@ pub fn list_implied(
     most: usize,
     out: &mut Vec<Implied>,
 ) -> Result<Narrowing, AllocError> {
-    let limit = match source {
-        Source::AtMost => row.high(),
-        Source::AtLeast => row.low(),
-    };
-    let Some(limit) = limit else {
+    let is_negated = source == Source::AtLeast;
+    let Some(limit) = (if is_negated { row.low() } else { row.high() }) else {
         return Ok(Narrowing::Sides);
     };
-    let is_negated = source == Source::AtLeast;
     let lent = AtMost {
         terms: row.terms(),
         is_negated,
         limit: if is_negated { limit.neg() } else { limit },
-        sides: region.sides,
-        whole: region.whole,
-        is_exact: region.is_exact,
+        region: *region,
     };
-    list_at_most(&lent, most, out)
+    let Some(least) = lent.least() else {
+        return Ok(Narrowing::Sides);
+    };
+    if least.open == 0 && least.slack < Frac::zero() {
+        if let Some(implied) = lent.first_exact(least) {
+            out.push(implied)?;
+        }
+        return Ok(Narrowing::Contradiction);
+    }
+    for term in row.terms() {
+        if out.len() >= most {
+            return Ok(Narrowing::Sides);
+        }
+        if let Some(implied) = lent.implied_by(term, least) {
+            out.push(implied)?;
+        }
+    }
+    Ok(Narrowing::Sides)
 }

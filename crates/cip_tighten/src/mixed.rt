@@ -4,7 +4,7 @@ ghost use Rattle.std.specs.Prelude.{None, codes};
 use crate::candidates::Candidates;
 use crate::column_rows::ColumnRows;
 use crate::gains::Gains;
-use crate::mixing::{Scored, best_division, list_divisors};
+use crate::mixing::{best_division, list_divisors};
 use crate::paths::go_on;
 use crate::shifts::{Shift, Shifted, list_nearest};
 use crate::split_cuts::mixed_cut;
@@ -59,27 +59,16 @@ impl MixedSeparator {
         }
     }
 
-    /// The best division of the sum with its sign.
-    fn best(&mut self) -> Result<Scored, Stop> {
+    /// Keeps the best mixed rounding of the sum with its sign.
+    fn mix(&mut self, alloc: Global, view: &View<'_>) -> Result<(), Stop> {
         let items = self.shifted.items.as_slice();
         list_divisors(items, &mut self.divisors)?;
         let looked_at = items.len().saturating_mul(self.divisors.len());
         self.work = self.work.saturating_add(looked_at);
-        best_division(&self.shifted, self.divisors.as_slice(), &mut self.terms)
-    }
-
-    /// Keeps the best mixed rounding of the sum with its sign.
-    fn mix(&mut self, alloc: Global, view: &View<'_>) -> Result<(), Stop> {
-        let best = self.best()?;
-        let cut = mixed_cut(alloc, view, &self.sum, &self.shifted, best)?;
-        self.candidates.push(cut)?;
+        let best = best_division(&self.shifted, self.divisors.as_slice(), &mut self.terms)?;
+        let cut = mixed_cut(alloc, view, &self.sum, &self.shifted, best);
+        self.candidates.keep(cut)?;
         Ok(())
-    }
-
-    /// Turns the sum's sign.
-    fn turn(&mut self) {
-        self.sum.turn();
-        self.shifted.turn();
     }
 
     /// Keeps the best mixed roundings of the sum with both signs.
@@ -91,31 +80,12 @@ impl MixedSeparator {
             return Err(Stop::GaveUp);
         }
         unless_refused(self.mix(alloc, view))?;
-        self.turn();
+        self.sum.turn();
+        self.shifted.turn();
         unless_refused(self.mix(alloc, view))?;
-        self.turn();
+        self.sum.turn();
+        self.shifted.turn();
         Ok(())
-    }
-
-    /// Keeps the best mixed roundings of the sum with both signs, and answers whether there was one.
-    fn has_mixed(&mut self, alloc: Global, view: &View<'_>) -> Result<bool, AllocError> {
-        let before = self.candidates.len();
-        unless_refused(self.mix_both(alloc, view))?;
-        Ok(self.candidates.len() > before)
-    }
-
-    /// Keeps cuts of the sum, and adds a row to it where there was none; answers whether there was one.
-    fn is_mixed_or_goes_on(
-        &mut self,
-        alloc: Global,
-        view: &View<'_>,
-        point: &[Frac],
-    ) -> Result<bool, Stop> {
-        if self.has_mixed(alloc, view)? {
-            return Ok(true);
-        }
-        go_on(view, point, &self.standings, &self.columns, &mut self.sum)?;
-        Ok(false)
     }
 
     /// Adds rows to the one at a place until there is a cut, or no more row to add.
@@ -126,26 +96,19 @@ impl MixedSeparator {
         point: &[Frac],
         place: usize,
     ) -> Result<(), Stop> {
-        let Ok(row) = tight_at(view, &self.standings, place) else {
+        let Some(row) = tight_at(view, &self.standings, place) else {
             return Err(Stop::GaveUp);
         };
         self.sum.begin(&row)?;
         for _ in 1..MOST_ROWS {
-            if self.is_mixed_or_goes_on(alloc, view, point)? {
+            let before = self.candidates.len();
+            unless_refused(self.mix_both(alloc, view))?;
+            if self.candidates.len() > before {
                 return Ok(());
             }
+            go_on(view, point, &self.standings, &self.columns, &mut self.sum)?;
         }
         self.mix_both(alloc, view)
-    }
-
-    /// The next row to begin with.
-    fn next_place(&mut self) -> usize {
-        let place = self.next;
-        self.next = place.wrapping_add(1);
-        if self.next >= self.standings.len() {
-            self.next = 0;
-        }
-        place
     }
 
     /// Keeps cuts that begin with any row that stands at a side, as far as the work of a round goes.
@@ -161,26 +124,14 @@ impl MixedSeparator {
             if self.candidates.is_full() || self.work > MOST_WORK {
                 return Ok(());
             }
-            let place = self.next_place();
+            let place = self.next;
+            self.next = place.wrapping_add(1);
+            if self.next >= self.standings.len() {
+                self.next = 0;
+            }
             unless_refused(self.search_from(alloc, view, point, place))?;
         }
         Ok(())
-    }
-
-    /// The cuts of a round.
-    fn cuts(
-        &mut self,
-        alloc: Global,
-        view: &View<'_>,
-        point: &[Frac],
-    ) -> Result<Vec<Cut>, AllocError> {
-        if !self.gains.may_pay(view) {
-            return Ok(Vec::new(alloc));
-        }
-        self.standings.take(view, point)?;
-        list_nearest(view, point, &mut self.ways)?;
-        self.search_all(alloc, view, point)?;
-        self.candidates.choose(alloc, MOST_CUTS)
     }
 }
 
@@ -216,9 +167,13 @@ impl Plugin for MixedSeparator {
 
 impl Separator for MixedSeparator {
     fn separate(&mut self, alloc: Global, view: &View<'_>) -> Result<Vec<Cut>, AllocError> {
-        match view.point {
-            Some(point) => self.cuts(alloc, view, point),
-            None => Ok(Vec::new(alloc)),
+        if !self.gains.may_pay(view) {
+            return Ok(Vec::new(alloc));
         }
+        let point = view.point.unwrap_or(&[]);
+        self.standings.take(view, point)?;
+        list_nearest(view, point, &mut self.ways)?;
+        self.search_all(alloc, view, point)?;
+        self.candidates.choose(alloc, MOST_CUTS)
     }
 }

@@ -3,10 +3,10 @@
 //! stays where it is below 0, over 1 - f, and is 0 else; the right side goes down.
 //!
 //! All is told times the common denominator, so that it stays whole.
-use crate::candidates::{broken_by, measure_of, score};
+use crate::candidates::{broken_by, measure_of};
 use crate::numbers::kept;
 use crate::shifts::{Shift, Shifted};
-use crate::stops::{Stop, found};
+use crate::stops::Stop;
 use crate::sums::Terms;
 use cip_frac::Frac;
 
@@ -35,60 +35,61 @@ pub(crate) fn divided(right: Frac, by: i64) -> Option<Division> {
     if by <= 0 || under > MOST_UNDER {
         return None;
     }
-    let whole = under.checked_mul(i128::from(by))?;
-    let part = right.numerator().checked_rem_euclid(whole)?;
+    let over = right.numerator();
+    let whole = under.wrapping_mul(i128::from(by));
+    let part = over.checked_rem_euclid(whole).unwrap_or(0);
     if part == 0 {
         return None;
     }
     Some(Division {
         by,
         under,
-        floor: right.numerator().checked_div_euclid(whole)?,
+        floor: over.checked_div_euclid(whole).unwrap_or(0),
         part,
-        rest: whole.checked_sub(part)?,
+        rest: whole.wrapping_sub(part),
     })
 }
 
 impl Division {
     /// What a whole column's coefficient leaves, over the same denominator.
-    pub(crate) fn part_of(&self, shift: Shift) -> Option<i128> {
-        let left = shift.coef.checked_rem_euclid(self.by)?;
-        i128::from(left).checked_mul(self.under)
+    pub(crate) fn part_of(&self, shift: Shift) -> i128 {
+        let left = shift.coef.checked_rem_euclid(self.by).unwrap_or(0);
+        i128::from(left).wrapping_mul(self.under)
     }
 
     /// The whole number that a whole column's coefficient goes down to.
-    pub(crate) fn floor_of(&self, shift: Shift) -> Option<i128> {
-        Some(i128::from(shift.coef.checked_div_euclid(self.by)?))
-    }
-
-    /// The coefficient of a whole column.
-    fn whole_coefficient(&self, shift: Shift) -> Option<i128> {
-        let part = self.part_of(shift)?;
-        if shift.side.is_none() && part != 0 {
-            return None;
-        }
-        let down = self.floor_of(shift)?.checked_mul(self.rest)?;
-        down.checked_add(part.checked_sub(self.part)?.max(0))
+    pub(crate) fn floor_of(&self, shift: Shift) -> i128 {
+        i128::from(shift.coef.checked_div_euclid(self.by).unwrap_or(0))
     }
 
     /// The coefficient of a way in the mixed rounding.
     pub(crate) fn coefficient(&self, shift: Shift) -> Option<i64> {
-        if shift.is_whole {
-            kept(self.whole_coefficient(shift)?)
-        } else {
-            kept(i128::from(shift.coef.min(0)).checked_mul(self.under)?)
+        if !shift.is_whole {
+            return kept(i128::from(shift.coef.min(0)).wrapping_mul(self.under));
         }
+        let part = self.part_of(shift);
+        if shift.side.is_none() && part != 0 {
+            return None;
+        }
+        let down = self.floor_of(shift).wrapping_mul(self.rest);
+        kept(down.wrapping_add(part.wrapping_sub(self.part).max(0)))
     }
 
-    /// By how much the last point breaks the mixed rounding, roughly.
-    pub(crate) fn broken(&self, items: &[Shift]) -> Option<i128> {
+    /// By how much the last point breaks the mixed rounding, roughly; 0 where that leaves the range, or a way has no
+    /// coefficient.
+    pub(crate) fn broken(&self, items: &[Shift]) -> i128 {
         let mut sum = 0i128;
         for shift in items {
-            let number = self.coefficient(*shift)?;
+            let Some(number) = self.coefficient(*shift) else {
+                return 0;
+            };
             let way = i128::from(number).wrapping_mul(i128::from(shift.way));
             sum = sum.wrapping_add(way);
         }
-        broken_by(sum, self.floor.checked_mul(self.rest)?)
+        match self.floor.checked_mul(self.rest) {
+            Some(right) => broken_by(sum, right),
+            None => 0,
+        }
     }
 }
 
@@ -100,7 +101,9 @@ pub(crate) fn write_terms(
 ) -> Result<(), Stop> {
     terms.clear();
     for shift in items {
-        let number = found(division.coefficient(*shift))?;
+        let Some(number) = division.coefficient(*shift) else {
+            return Err(Stop::GaveUp);
+        };
         if number != 0 {
             terms.push((shift.col, shift.column_coefficient(number)))?;
         }
@@ -117,23 +120,21 @@ pub(crate) struct Scored {
 
 /// The mixed rounding of a row that is divided by a number, where it has a score.
 fn score_by(shifted: &Shifted, by: i64, terms: &mut Terms) -> Result<Scored, Stop> {
-    let division = found(divided(shifted.right, by))?;
+    let Some(division) = divided(shifted.right, by) else {
+        return Err(Stop::GaveUp);
+    };
     let items = shifted.items.as_slice();
-    let broken = found(division.broken(items))?;
+    let broken = division.broken(items);
     if broken <= 0 {
         return Err(Stop::GaveUp);
     }
     write_terms(division, items, terms)?;
-    let size = found(measure_of(terms))?;
-    let score = found(score(broken, size))?;
-    Ok(Scored { division, score })
-}
-
-/// The better of two, if there are any.
-fn better(held: Option<Scored>, other: Scored) -> Option<Scored> {
-    match held {
-        Some(before) if before.score >= other.score => Some(before),
-        _ => Some(other),
+    match measure_of(terms, broken) {
+        Some(size) => Ok(Scored {
+            division,
+            score: size.score,
+        }),
+        None => Err(Stop::GaveUp),
     }
 }
 
@@ -147,7 +148,10 @@ fn best_of(
     let mut best = start;
     for by in divisors {
         match score_by(shifted, *by, terms) {
-            Ok(one) => best = better(best, one),
+            Ok(one) => match best {
+                Some(before) if before.score >= one.score => {}
+                _ => best = Some(one),
+            },
             Err(Stop::GaveUp) => {}
             Err(stop) => return Err(stop),
         }
@@ -161,14 +165,19 @@ pub(crate) fn best_division(
     divisors: &[i64],
     terms: &mut Terms,
 ) -> Result<Scored, Stop> {
-    let first = found(best_of(shifted, divisors, None, terms)?)?;
+    let Some(first) = best_of(shifted, divisors, None, terms)? else {
+        return Err(Stop::GaveUp);
+    };
     let by = first.division.by;
     let more = [
         by.saturating_mul(2),
         by.saturating_mul(4),
         by.saturating_mul(8),
     ];
-    found(best_of(shifted, &more, Some(first), terms)?)
+    match best_of(shifted, &more, Some(first), terms)? {
+        Some(best) => Ok(best),
+        None => Err(Stop::GaveUp),
+    }
 }
 
 /// Lists the numbers that a row is tried with: 1, and the sizes of the coefficients of its whole columns that lie

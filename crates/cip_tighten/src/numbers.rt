@@ -33,39 +33,21 @@ pub fn kept(number: i128) -> Option<i64> {
 
 /// The product of two numbers, where its size is at most 2^40.
 pub fn product(a: i64, b: i64) -> Option<i64> {
-    kept(i128::from(a).checked_mul(i128::from(b))?)
+    kept(i128::from(a).wrapping_mul(i128::from(b)))
 }
 
-/// The least common multiple of a number and a denominator, where it is at most 2^40.
+/// The least common multiple of a number of at most 2^40 and a denominator, where it is at most 2^40.
 pub(crate) fn common_multiple(number: i64, denominator: i128) -> Option<i64> {
+    let Ok(under) = u64::try_from(denominator) else {
+        return None;
+    };
     let size = number.unsigned_abs();
-    let under = u64::try_from(denominator).ok()?;
-    let part = under.checked_div(short_gcd(size, under))?;
-    kept(i128::from(size).checked_mul(i128::from(part))?)
+    let part = under.checked_div(short_gcd(size, under)).unwrap_or(0);
+    kept(i128::from(size).wrapping_mul(i128::from(part)))
 }
 
 /// A fraction times a number that its denominator divides, where the product's size is at most 2^40.
 pub fn raised(number: Frac, common: i64) -> Option<i64> {
-    let times = i128::from(common).checked_div(number.denominator())?;
-    kept(number.numerator().checked_mul(times)?)
-}
-
-/// The greatest common divisor of a number and the size of another.
-pub(crate) fn common_divisor(number: u64, other: i64) -> u64 {
-    short_gcd(number, other.unsigned_abs())
-}
-
-/// The quotient of two whole numbers as a fraction, where there is one.
-pub fn ratio(over: i128, under: i128) -> Option<Frac> {
-    Frac::new(over, under).ok()
-}
-
-/// A number with the product of two others added, where it is in range.
-pub(crate) fn with_product(number: Frac, left: Frac, right: Frac) -> Option<Frac> {
-    let mut sum = number;
-    if sum.add_product(&left, &right) {
-        Some(sum)
-    } else {
-        None
-    }
+    let times = i128::from(common).checked_div(number.denominator());
+    kept(number.numerator().saturating_mul(times.unwrap_or(0)))
 }

@@ -7,8 +7,7 @@ use crate::implied::{Implied, Narrowing, Region, Source, list_implied};
 use crate::numbers::{UNIT, rough};
 use crate::patience::Patience;
 use crate::reductions::reduction_of;
-use cip_frac::Frac;
-use cip_lin::{Combo, Row, RowMultiple};
+use cip_lin::{Combo, Row, RowId};
 use cip_plugin::{Plugin, Propagator, Reduction, View};
 use std::alloc::{AllocError, Global};
 
@@ -32,10 +31,16 @@ pub struct ReducedCostPropagator {
     patience: Patience,
 }
 
-/// Whether what a point costs is less than the most that a cheaper one may cost by at most a sixteenth of that,
-/// roughly.
-fn is_near(costs: &[Frac], point: &[Frac], most: Frac) -> bool {
-    let Some(cost) = cost_of(costs, point) else {
+/// Whether reduced costs may imply sides: of the root, or where what the last point costs is less than the most that a
+/// cheaper one may cost by at most a sixteenth of that, roughly.
+fn may_pay(view: &View<'_>) -> bool {
+    let (Some(point), Some(most)) = (view.point, most_cost(view)) else {
+        return false;
+    };
+    if view.node == 0 {
+        return true;
+    }
+    let Some(cost) = cost_of(view.costs, point) else {
         return false;
     };
     let far = i128::from(rough(most));
@@ -43,51 +48,15 @@ fn is_near(costs: &[Frac], point: &[Frac], most: Frac) -> bool {
     gap.wrapping_mul(16) <= far.wrapping_abs().max(i128::from(UNIT))
 }
 
-/// Whether reduced costs may imply sides: of the root, or where the last point's cost is near the one held.
-fn may_pay(view: &View<'_>) -> bool {
-    match (view.point, most_cost(view)) {
-        (Some(point), Some(most)) => view.node == 0 || is_near(view.costs, point, most),
-        _ => false,
-    }
-}
-
-/// Whether a factor of the bound's rows has a long denominator: then work on these rows is long, and so is the judge's
-/// on each side.
-fn is_long(combo: &Combo) -> bool {
+/// Whether the bound's rows may be added up: none is the cutoff row, and no factor has a long denominator, so that work
+/// on these rows isn't long, and the judge's on each side isn't.
+fn may_add(combo: &Combo) -> bool {
     for multiple in combo.rows.as_slice() {
-        if multiple.factor.denominator() > MOST_UNDER {
-            return true;
+        if multiple.row == RowId::Cutoff || multiple.factor.denominator() > MOST_UNDER {
+            return false;
         }
     }
-    false
-}
-
-/// Whether a column is whole.
-fn is_whole(whole: &[bool], col: u32) -> bool {
-    match whole.get(col as usize) {
-        Some(is_whole) => *is_whole,
-        None => false,
-    }
-}
-
-/// Adds sides of whole columns, or all of them where they show that the box has no point.
-fn add_sides(
-    alloc: Global,
-    view: &View<'_>,
-    implied: &[Implied],
-    rows: &[RowMultiple],
-    narrowing: Narrowing,
-    reductions: &mut Vec<Reduction>,
-) -> Result<(), AllocError> {
-    for item in implied {
-        if reductions.len() >= MOST_SIDES {
-            return Ok(());
-        }
-        if narrowing == Narrowing::Contradiction || is_whole(view.whole, item.col) {
-            reductions.push(reduction_of(alloc, *item, rows)?)?;
-        }
-    }
-    Ok(())
+    true
 }
 
 impl ReducedCostPropagator {
@@ -100,7 +69,8 @@ impl ReducedCostPropagator {
         }
     }
 
-    /// Adds what the row of reduced costs implies.
+    /// Adds what the row of reduced costs implies: sides of whole columns, or all of them where they show that the box
+    /// has no point.
     fn narrow(
         &mut self,
         alloc: Global,
@@ -116,20 +86,23 @@ impl ReducedCostPropagator {
         self.implied.clear();
         let most = view.costs.len();
         let narrowing = list_implied(row, Source::AtLeast, &region, most, &mut self.implied)?;
-        add_sides(
-            alloc,
-            view,
-            self.implied.as_slice(),
-            self.cost_row.rows.as_slice(),
-            narrowing,
-            reductions,
-        )
+        let rows = self.cost_row.rows.as_slice();
+        for item in &self.implied {
+            if reductions.len() >= MOST_SIDES {
+                return Ok(());
+            }
+            let is_whole = view.whole.get(item.col as usize) == Some(&true);
+            if narrowing == Narrowing::Contradiction || is_whole {
+                reductions.push(reduction_of(alloc, *item, rows)?)?;
+            }
+        }
+        Ok(())
     }
 
     /// The row of reduced costs, where the last linear program has a combination.
     fn row(&mut self, alloc: Global, view: &View<'_>) -> Result<Option<Row>, AllocError> {
         match (view.combo, view.cutoff) {
-            (Some(combo), Some(cutoff)) if !is_long(combo) => self
+            (Some(combo), Some(cutoff)) if may_add(combo) => self
                 .cost_row
                 .take(alloc, view, combo, cutoff),
             _ => Ok(None),
@@ -147,7 +120,9 @@ impl ReducedCostPropagator {
             return Ok(());
         }
         if let Some(row) = self.row(alloc, view)? {
-            self.narrow(alloc, view, &row, reductions)?;
+            let outcome = self.narrow(alloc, view, &row, reductions);
+            drop(row);
+            outcome?;
         }
         if reductions.is_empty() {
             self.patience.lose();

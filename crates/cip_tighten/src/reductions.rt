@@ -17,15 +17,6 @@ pub fn multiple_of(row: RowId, source: Source) -> RowMultiple {
     RowMultiple { row, factor }
 }
 
-/// These rows with their factors, as a combination. `Err` where memory was refused.
-pub fn combo_of(alloc: Global, rows: &[RowMultiple]) -> Result<Combo, AllocError> {
-    Ok(Combo {
-        rows: rows.to_vec(alloc)?,
-        lows: Vec::new(alloc),
-        highs: Vec::new(alloc),
-    })
-}
-
 /// A side that these rows imply, with them as its combination. `Err` where memory was refused.
 pub fn reduction_of(
     alloc: Global,
@@ -36,36 +27,19 @@ pub fn reduction_of(
         col: implied.col,
         side: implied.side,
         value: implied.value,
-        combo: combo_of(alloc, rows)?,
+        combo: Combo {
+            rows: rows.to_vec(alloc)?,
+            lows: Vec::new(alloc),
+            highs: Vec::new(alloc),
+        },
     })
 }
 
-/// Adds sides that a multiple of a row implies to the reductions.
-fn add_all(
+/// Adds the sides that a side of a row implies in a box to the reductions, and answers whether no point of the box
+/// keeps it. What is implied is listed.
+pub(crate) fn add_side(
     alloc: Global,
-    multiple: RowMultiple,
-    implied: &[Implied],
-    reductions: &mut Vec<Reduction>,
-) -> Result<(), AllocError> {
-    for item in implied {
-        reductions.push(reduction_of(alloc, *item, &[multiple])?)?;
-    }
-    Ok(())
-}
-
-/// The node's box.
-fn region_of<'a>(view: &View<'a>) -> Region<'a> {
-    Region {
-        sides: view.bounds.as_slice(),
-        whole: view.whole,
-        is_exact: false,
-    }
-}
-
-/// Adds the sides that a side of a row implies to the reductions, and answers whether no point of the box keeps it.
-fn add_side(
-    alloc: Global,
-    view: &View<'_>,
+    region: &Region<'_>,
     multiple: RowMultiple,
     row: &Row,
     implied: &mut Vec<Implied>,
@@ -78,8 +52,10 @@ fn add_side(
         Source::AtLeast
     };
     let most = MOST_REDUCTIONS.saturating_sub(reductions.len());
-    let narrowing = list_implied(row, source, &region_of(view), most, implied)?;
-    add_all(alloc, multiple, implied.as_slice(), reductions)?;
+    let narrowing = list_implied(row, source, region, most, implied)?;
+    for item in implied.as_slice() {
+        reductions.push(reduction_of(alloc, *item, &[multiple])?)?;
+    }
     Ok(narrowing == Narrowing::Contradiction)
 }
 
@@ -94,12 +70,17 @@ pub fn add_reductions(
     implied: &mut Vec<Implied>,
     reductions: &mut Vec<Reduction>,
 ) -> Result<Option<Source>, AllocError> {
+    let region = Region {
+        sides: view.bounds.as_slice(),
+        whole: view.whole,
+        is_exact: false,
+    };
     let low = multiple_of(id, Source::AtLeast);
-    if add_side(alloc, view, low, row, implied, reductions)? {
+    if add_side(alloc, &region, low, row, implied, reductions)? {
         return Ok(Some(Source::AtLeast));
     }
     let high = multiple_of(id, Source::AtMost);
-    if add_side(alloc, view, high, row, implied, reductions)? {
+    if add_side(alloc, &region, high, row, implied, reductions)? {
         return Ok(Some(Source::AtMost));
     }
     Ok(None)

@@ -40,13 +40,6 @@ impl RoundingSeparator {
         }
     }
 
-    /// Keeps the cut of the sum divided by a number.
-    fn divide(&mut self, alloc: Global, by: i64) -> Result<(), Stop> {
-        let cut = rounded_cut(alloc, &self.sum, &self.shifted, by)?;
-        self.candidates.push(cut)?;
-        Ok(())
-    }
-
     /// Keeps the cuts of the sum as it is.
     fn divide_all(&mut self, alloc: Global, view: &View<'_>) -> Result<(), Stop> {
         let point = view.point.unwrap_or(&[]);
@@ -55,14 +48,15 @@ impl RoundingSeparator {
             return Ok(());
         }
         for by in DIVISORS {
-            unless_refused(self.divide(alloc, by))?;
+            self.candidates
+                .keep(rounded_cut(alloc, &self.sum, &self.shifted, by))?;
         }
         Ok(())
     }
 
     /// Keeps the cuts of a row.
     fn search_row(&mut self, alloc: Global, view: &View<'_>, place: usize) -> Result<(), Stop> {
-        let Ok(row) = tight_at(view, &self.standings, place) else {
+        let Some(row) = tight_at(view, &self.standings, place) else {
             return Err(Stop::GaveUp);
         };
         self.sum.begin_at_most(&row)?;

@@ -1,6 +1,6 @@
 //! A row in the ways of its columns from their sides.
-use crate::numbers::{UNIT, rough, with_product};
-use crate::stops::{Stop, found};
+use crate::numbers::{UNIT, rough};
+use crate::stops::Stop;
 use crate::sums::Terms;
 use crate::tight::short;
 use cip_frac::Frac;
@@ -9,7 +9,7 @@ use cip_plugin::View;
 use std::alloc::{AllocError, Global};
 
 /// From which of its sides a column's way is told.
-#[derive(Clone, Copy, PartialEq, Eq)]
+#[derive(Clone, Copy)]
 pub enum Aim {
     /// From the side that is nearer.
     Nearest,
@@ -68,19 +68,16 @@ pub fn place_of(view: &View<'_>, point: &[Frac], col: u32) -> Option<(Sides, Fra
     Some((*sides, *value, *whole))
 }
 
-/// Whether the high side is nearer than the low one.
-fn is_high_nearer(low: Frac, high: Frac, value: Frac) -> bool {
-    let at = rough(value);
-    rough(high).wrapping_sub(at) < at.wrapping_sub(rough(low))
-}
-
 /// Whether a way is told from the high side.
 fn is_from_high(sides: Sides, value: Frac, is_positive: bool, by_sign: bool) -> bool {
     if by_sign {
         return !is_positive;
     }
     match (sides.low, sides.high) {
-        (Some(low), Some(high)) => is_high_nearer(low, high, value),
+        (Some(low), Some(high)) => {
+            let at = rough(value);
+            rough(high).wrapping_sub(at) < at.wrapping_sub(rough(low))
+        }
         (None, Some(_)) => true,
         _ => false,
     }
@@ -95,15 +92,6 @@ fn is_unit(sides: Sides) -> bool {
         },
         _ => false,
     }
-}
-
-/// How far a value roughly is from a side.
-fn way_from(side: Option<Frac>, value: Frac) -> i64 {
-    let from = match side {
-        Some(side) => rough(side),
-        None => 0,
-    };
-    rough(value).wrapping_sub(from)
 }
 
 /// The way of a column with this coefficient.
@@ -121,7 +109,10 @@ fn shift_of(view: &View<'_>, point: &[Frac], term: (u32, i64), aim: Aim) -> Opti
         Some(side) if is_whole && !side.is_whole() => return None,
         _ => {}
     }
-    let way = way_from(side, value);
+    let mut way = rough(value);
+    if let Some(from) = side {
+        way = way.wrapping_sub(rough(from));
+    }
     Some(Shift {
         col: term.0,
         coef: if is_turned {
@@ -149,34 +140,6 @@ pub fn list_nearest(
         ways.push(shift_of(view, point, (col, 1), Aim::Nearest))?;
     }
     Ok(())
-}
-
-/// The way of a column that was listed, with this coefficient.
-fn with_coefficient(ways: &[Option<Shift>], term: (u32, i64)) -> Option<Shift> {
-    let mut item = (*ways.get(term.0 as usize)?)?;
-    item.coef = item.column_coefficient(term.1);
-    Some(item)
-}
-
-/// The right side of a row behind a column with this coefficient, whose way is told from this side.
-fn right_behind(right: Frac, side: Option<Frac>, coef: i64) -> Option<Frac> {
-    match side {
-        Some(side) => with_product(right, Frac::from(coef.wrapping_neg()), side),
-        None => Some(right),
-    }
-}
-
-/// Tells a way from the other side, that is one further, and answers the right side of its row then.
-fn flipped(item: &mut Shift, from: Frac, right: Frac) -> Option<Frac> {
-    let times = Frac::from(item.coef.wrapping_neg());
-    let behind = with_product(right, times, Frac::one())?;
-    let by = Frac::from(if item.is_turned { -1 } else { 1 });
-    let side = from.add(by).ok()?;
-    item.side = Some(side);
-    item.coef = item.coef.wrapping_neg();
-    item.way = UNIT.wrapping_sub(item.way);
-    item.is_turned = !item.is_turned;
-    Some(behind)
 }
 
 /// A row in the ways of its columns, which is at most its right side.
@@ -213,7 +176,10 @@ impl Shifted {
     ) -> Result<(), Stop> {
         self.begin(right);
         for term in terms {
-            self.add(shift_of(view, point, *term, aim), term.1)?;
+            let Some(item) = shift_of(view, point, *term, aim) else {
+                return Err(Stop::GaveUp);
+            };
+            self.add(item, term.1)?;
         }
         Ok(())
     }
@@ -228,7 +194,12 @@ impl Shifted {
     ) -> Result<(), Stop> {
         self.begin(right);
         for term in terms {
-            self.add(with_coefficient(ways, *term), term.1)?;
+            let Some(Some(way)) = ways.get(term.0 as usize) else {
+                return Err(Stop::GaveUp);
+            };
+            let mut item = *way;
+            item.coef = item.column_coefficient(term.1);
+            self.add(item, term.1)?;
         }
         Ok(())
     }
@@ -240,12 +211,18 @@ impl Shifted {
         self.is_fractional = false;
     }
 
-    /// Adds the way of a column with this coefficient, if there is one.
-    fn add(&mut self, item: Option<Shift>, coef: i64) -> Result<(), Stop> {
-        let way = found(item)?;
-        self.right = found(right_behind(self.right, way.side, coef))?;
-        self.is_fractional |= way.is_fractional();
-        self.items.push(way)?;
+    /// Adds the way of a column with this coefficient.
+    fn add(&mut self, item: Shift, coef: i64) -> Result<(), Stop> {
+        if let Some(side) = item.side {
+            if !self
+                .right
+                .add_product(&Frac::from(coef.wrapping_neg()), &side)
+            {
+                return Err(Stop::GaveUp);
+            }
+        }
+        self.is_fractional |= item.is_fractional();
+        self.items.push(item)?;
         Ok(())
     }
 
@@ -263,10 +240,21 @@ impl Shifted {
         let Some(item) = self.items.get_mut(place) else {
             return Ok(());
         };
-        let Some(side) = item.side else {
+        let Some(from) = item.side else {
             return Ok(());
         };
-        self.right = found(flipped(item, side, self.right))?;
+        let times = Frac::from(item.coef.wrapping_neg());
+        let by = Frac::from(if item.is_turned { -1 } else { 1 });
+        let Ok(side) = from.add(by) else {
+            return Err(Stop::GaveUp);
+        };
+        if !self.right.add_product(&times, &Frac::one()) {
+            return Err(Stop::GaveUp);
+        }
+        item.side = Some(side);
+        item.coef = item.coef.wrapping_neg();
+        item.way = UNIT.wrapping_sub(item.way);
+        item.is_turned = !item.is_turned;
         Ok(())
     }
 }

@@ -2,7 +2,7 @@
 use std::alloc::{AllocError, AllocFailed};
 
 /// Why work on a cut ends without one.
-#[derive(Clone, Copy, PartialEq, Eq)]
+#[derive(Clone, Copy)]
 pub enum Stop {
     /// A number is too great, or a side that is wanted isn't there.
     GaveUp,
@@ -19,14 +19,6 @@ impl From<AllocError> for Stop {
 impl<T: Drop> From<AllocFailed<T>> for Stop {
     fn from(_error: AllocFailed<T>) -> Stop {
         Stop::NoMemory
-    }
-}
-
-/// What is there, or else that the work gave up.
-pub fn found<T>(value: Option<T>) -> Result<T, Stop> {
-    match value {
-        Some(value) => Ok(value),
-        None => Err(Stop::GaveUp),
     }
 }
 

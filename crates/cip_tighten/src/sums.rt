@@ -1,6 +1,6 @@
 //! Rows that stand at a side, made whole and added up.
-use crate::numbers::{product, raised, with_product};
-use crate::stops::{Stop, found};
+use crate::numbers::{product, raised};
+use crate::stops::Stop;
 use cip_frac::Frac;
 use cip_lin::{RowId, Term};
 use std::alloc::Global;
@@ -80,13 +80,6 @@ pub struct Multiple<'a> {
     pub times: i64,
 }
 
-impl<'a> Multiple<'a> {
-    /// What it adds by a term.
-    fn coefficient(&self, term: &Term) -> Option<i64> {
-        product(raised(term.coef, self.common)?, self.times)
-    }
-}
-
 /// What stands at the next column of two rows: the sum there, and how far each list goes on.
 #[derive(Clone, Copy)]
 struct Next {
@@ -96,38 +89,7 @@ struct Next {
     other: usize,
 }
 
-/// The next column of the first row alone.
-fn next_own(own: (u32, i64), factor: i64) -> Option<Next> {
-    Some(Next {
-        col: own.0,
-        value: product(own.1, factor)?,
-        own: 1,
-        other: 0,
-    })
-}
-
-/// The next column of the second row alone.
-fn next_other(term: &Term, multiple: Multiple<'_>) -> Option<Next> {
-    Some(Next {
-        col: term.col,
-        value: multiple.coefficient(term)?,
-        own: 0,
-        other: 1,
-    })
-}
-
-/// The next column of both rows.
-fn next_both(own: (u32, i64), factor: i64, term: &Term, multiple: Multiple<'_>) -> Option<Next> {
-    let first = product(own.1, factor)?;
-    Some(Next {
-        col: own.0,
-        value: first.checked_add(multiple.coefficient(term)?)?,
-        own: 1,
-        other: 1,
-    })
-}
-
-/// The next column of the two rows, of which one goes on at least.
+/// The next column of the two rows, of which one goes on at least; none where a number is above 2^40 in size.
 #[inline]
 fn next_of(
     own: Option<&(u32, i64)>,
@@ -135,14 +97,34 @@ fn next_of(
     factor: i64,
     multiple: Multiple<'_>,
 ) -> Option<Next> {
-    let Some(term) = other else {
-        return next_own(*own?, factor);
+    let mine = match own {
+        Some(item) => item.0,
+        None => u32::MAX,
     };
-    match own {
-        Some(mine) if mine.0 < term.col => next_own(*mine, factor),
-        Some(mine) if mine.0 == term.col => next_both(*mine, factor, term, multiple),
-        _ => next_other(term, multiple),
+    let col = match other {
+        Some(term) => mine.min(term.col),
+        None => mine,
+    };
+    let mut next = Next {
+        col,
+        value: 0,
+        own: 0,
+        other: 0,
+    };
+    if let Some(item) = own {
+        if item.0 == col {
+            next.value = product(item.1, factor)?;
+            next.own = 1;
+        }
     }
+    if let Some(term) = other {
+        if term.col == col {
+            let more = product(raised(term.coef, multiple.common)?, multiple.times)?;
+            next.value = next.value.wrapping_add(more);
+            next.other = 1;
+        }
+    }
+    Some(next)
 }
 
 /// Writes a row times a factor with a multiple of another one added, without coefficients of 0. `GaveUp` where a number
@@ -161,7 +143,9 @@ pub fn write_sum(
             return Ok(());
         }
         let next = next_of(own.get(here), multiple.terms.get(there), factor, multiple);
-        let step = found(next)?;
+        let Some(step) = next else {
+            return Err(Stop::GaveUp);
+        };
         if step.value != 0 {
             out.push((step.col, step.value))?;
         }
@@ -171,24 +155,14 @@ pub fn write_sum(
     Ok(())
 }
 
-/// The right side of a sum, taken so often, with a row added so often.
-fn right_of_sum(right: Frac, own: i64, row: &TightRow<'_>, times: i64) -> Option<Frac> {
-    let factor = product(times, row.common)?;
-    let before = with_product(Frac::zero(), right, Frac::from(own))?;
-    with_product(before, row.side, Frac::from(factor))
-}
-
-/// Each row is taken so often as it was.
-fn scale_used(list: &mut [Used], factor: i64) -> Result<(), Stop> {
-    for used in list.iter_mut() {
-        used.times = found(product(used.times, factor))?;
-    }
-    Ok(())
-}
-
 /// The rows of a sum that is taken so often, with a row so often behind them.
 fn use_row(list: &mut Vec<Used>, own: i64, row: &TightRow<'_>, times: i64) -> Result<(), Stop> {
-    scale_used(list.as_mut_slice(), own)?;
+    for used in list.iter_mut() {
+        let Some(scaled) = product(used.times, own) else {
+            return Err(Stop::GaveUp);
+        };
+        used.times = scaled;
+    }
     list.push(Used {
         id: row.id,
         standing: row.standing,
@@ -249,10 +223,17 @@ impl Sum {
         };
         write_sum(self.terms.as_slice(), own, multiple, &mut self.spare)?;
         mem::swap(&mut self.terms, &mut self.spare);
-        if self.terms.len() > MOST_TERMS {
+        let Some(factor) = product(times, row.common) else {
+            return Err(Stop::GaveUp);
+        };
+        let mut right = Frac::zero();
+        if self.terms.len() > MOST_TERMS
+            || !right.add_product(&self.right, &Frac::from(own))
+            || !right.add_product(&row.side, &Frac::from(factor))
+        {
             return Err(Stop::GaveUp);
         }
-        self.right = found(right_of_sum(self.right, own, row, times))?;
+        self.right = right;
         use_row(&mut self.used, own, row, times)
     }
 

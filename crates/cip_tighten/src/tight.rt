@@ -1,6 +1,5 @@
 //! Rows that stand at a side at the last point.
-use crate::numbers::{common_multiple, with_product};
-use crate::stops::{Stop, found};
+use crate::numbers::common_multiple;
 use crate::sums::{Standing, TightRow};
 use cip_frac::Frac;
 use cip_lin::{Row, RowId, Term};
@@ -29,8 +28,10 @@ pub fn row_of<'a>(view: &View<'a>, id: RowId) -> Option<&'a Row> {
 pub fn activity(terms: &[Term], point: &[Frac]) -> Option<Frac> {
     let mut sum = Frac::zero();
     for term in terms {
-        let value = point.get(term.col as usize)?;
-        sum = with_product(sum, term.coef, *value)?;
+        match point.get(term.col as usize) {
+            Some(value) if sum.add_product(&term.coef, value) => {}
+            _ => return None,
+        }
     }
     Some(sum)
 }
@@ -53,17 +54,6 @@ fn standing_of(row: &Row, point: &[Frac]) -> Standing {
     }
 }
 
-/// The least number that makes a row's coefficients whole.
-fn common_of(terms: &[Term]) -> Option<i64> {
-    let mut common = 1;
-    for term in terms {
-        if !term.coef.is_whole() {
-            common = common_multiple(common, term.coef.denominator())?;
-        }
-    }
-    Some(common)
-}
-
 /// A row with the side at which it stands; none where the row or the side isn't there, or the number that makes the row
 /// whole is above 2^40.
 pub fn tight_row<'a>(view: &View<'a>, id: RowId, standing: Standing) -> Option<TightRow<'a>> {
@@ -73,24 +63,23 @@ pub fn tight_row<'a>(view: &View<'a>, id: RowId, standing: Standing) -> Option<T
         Standing::High => row.high()?,
         _ => row.low()?,
     };
+    let terms = row.terms();
+    let mut common = 1;
+    for term in terms {
+        if !term.coef.is_whole() {
+            common = common_multiple(common, term.coef.denominator())?;
+        }
+    }
     Some(TightRow {
         id,
-        terms: row.terms(),
+        terms,
         standing,
         side,
-        common: common_of(row.terms())?,
+        common,
     })
 }
 
-/// Lists at which of its sides each row of the program stands at a point.
-fn list_own(view: &View<'_>, point: &[Frac], list: &mut Vec<Standing>) -> Result<(), AllocError> {
-    for row in view.own {
-        list.push(standing_of(row, point))?;
-    }
-    Ok(())
-}
-
-/// The same for the rows of the pool.
+/// Lists at which of its sides each row of the pool stands at a point.
 fn list_pool(view: &View<'_>, point: &[Frac], list: &mut Vec<Standing>) -> Result<(), AllocError> {
     for kept in view.pool {
         list.push(standing_of(&kept.row, point))?;
@@ -115,7 +104,9 @@ impl Standings {
     /// Takes a point. `Err` where memory was refused.
     pub fn take(&mut self, view: &View<'_>, point: &[Frac]) -> Result<(), AllocError> {
         self.list.clear();
-        list_own(view, point, &mut self.list)?;
+        for row in view.own {
+            self.list.push(standing_of(row, point))?;
+        }
         list_pool(view, point, &mut self.list)
     }
 
@@ -133,24 +124,14 @@ impl Standings {
     }
 }
 
-/// The name of the row at a place: the program's own, then those of the pool.
-pub(crate) fn id_at(view: &View<'_>, place: usize) -> Option<RowId> {
-    if place < view.own.len() {
-        return Some(RowId::Own(short(place)));
-    }
-    let kept = view.pool.get(place.wrapping_sub(view.own.len()))?;
-    Some(RowId::Pool(kept.id))
-}
-
-/// A row by its place with the side at which it stands. `GaveUp` where `tight_row` has none.
-pub fn tight_at<'a>(
-    view: &View<'a>,
-    standings: &Standings,
-    place: usize,
-) -> Result<TightRow<'a>, Stop> {
-    let id = found(id_at(view, place))?;
-    match tight_row(view, id, standings.get(place)) {
-        Some(row) => Ok(row),
-        None => Err(Stop::GaveUp),
-    }
+/// A row by its place, of the program and then of the pool, with the side at which it stands; none where `tight_row`
+/// has none.
+pub fn tight_at<'a>(view: &View<'a>, standings: &Standings, place: usize) -> Option<TightRow<'a>> {
+    let own = view.own.len();
+    let id = if place < own {
+        RowId::Own(short(place))
+    } else {
+        RowId::Pool(view.pool.get(place.wrapping_sub(own))?.id)
+    };
+    tight_row(view, id, standings.get(place))
 }

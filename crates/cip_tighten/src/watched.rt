@@ -1,5 +1,6 @@
 //! Which rows have to be looked at again as a box changes.
 use crate::column_rows::ColumnRows;
+use crate::tight::short;
 use cip_lin::{Row, Sides};
 use std::alloc::{AllocError, Global};
 
@@ -13,33 +14,19 @@ pub struct Watched {
     waiting: Vec<u32>,
 }
 
-/// Has a row wait, if it is there and doesn't wait.
-fn wait_at(number: u32, is_waiting: &mut [bool], waiting: &mut Vec<u32>) -> Result<(), AllocError> {
-    match is_waiting.get_mut(number as usize) {
-        Some(own) if !*own => *own = true,
-        _ => return Ok(()),
-    }
-    waiting.push(number)?;
-    Ok(())
-}
-
-/// Has these rows wait.
+/// Has those of these rows wait that are there and don't wait.
 fn wait_all(
     rows: &[u32],
     is_waiting: &mut [bool],
     waiting: &mut Vec<u32>,
 ) -> Result<(), AllocError> {
     for number in rows {
-        wait_at(*number, is_waiting, waiting)?;
-    }
-    Ok(())
-}
-
-/// Has all rows wait.
-fn list_waiting(is_waiting: &mut [bool], waiting: &mut Vec<u32>) -> Result<(), AllocError> {
-    for number in 0..is_waiting.len() {
-        let short = u32::try_from(number).unwrap_or(u32::MAX);
-        wait_at(short, is_waiting, waiting)?;
+        if let Some(own) = is_waiting.get_mut(*number as usize) {
+            if !*own {
+                *own = true;
+                waiting.push(*number)?;
+            }
+        }
     }
     Ok(())
 }
@@ -60,8 +47,10 @@ impl Watched {
         self.columns.take(own, whole, false)?;
         self.waiting.clear();
         self.is_waiting.clear();
-        self.is_waiting.resize(own.len(), false)?;
-        list_waiting(self.is_waiting.as_mut_slice(), &mut self.waiting)?;
+        self.is_waiting.resize(own.len(), true)?;
+        for number in 0..own.len() {
+            self.waiting.push(short(number))?;
+        }
         self.see(sides)
     }
 
@@ -73,7 +62,7 @@ impl Watched {
 
     /// Has a row wait, where it neither waits nor is in work. `Err` where memory was refused.
     pub fn wait_for(&mut self, number: u32) -> Result<(), AllocError> {
-        wait_at(number, self.is_waiting.as_mut_slice(), &mut self.waiting)
+        wait_all(&[number], self.is_waiting.as_mut_slice(), &mut self.waiting)
     }
 
     /// Has the rows of a column wait that neither wait nor are in work. `Err` where memory was refused.
@@ -85,10 +74,9 @@ impl Watched {
     /// Takes a box as seen, and has the rows wait of the columns whose sides differ from those that were seen before.
     /// `Err` where memory was refused.
     pub fn look(&mut self, sides: &[Sides]) -> Result<(), AllocError> {
-        for col in 0..sides.len() {
-            let short = u32::try_from(col).unwrap_or(u32::MAX);
-            if self.seen.get(col) != sides.get(col) {
-                self.wait_for_column(short)?;
+        for (col, own) in sides.iter().enumerate() {
+            if self.seen.get(col) != Some(own) {
+                self.wait_for_column(short(col))?;
             }
         }
         self.see(sides)
