@@ -1,6 +1,6 @@
-//! Coefficients of columns in rows, and what rows come to at a point.
+//! Coefficients of columns in rows, and how far columns may go on.
 use cip_frac::Frac;
-use cip_lin::{Row, Term};
+use cip_lin::{Row, Sides};
 
 /// The coefficient of a column in a row, where it has one.
 pub(crate) fn coefficient(row: &Row, col: u32) -> Option<Frac> {
@@ -14,29 +14,21 @@ pub(crate) fn coefficient(row: &Row, col: u32) -> Option<Frac> {
     }
 }
 
-/// What terms come to at a point; none where that leaves the range.
-pub(crate) fn activity(terms: &[Term], point: &[Frac]) -> Option<Frac> {
-    let mut sum = Frac::zero();
-    for term in terms {
-        let value = point.get(term.col as usize)?;
-        if !sum.add_product(&term.coef, value) {
-            return None;
-        }
-    }
-    Some(sum)
-}
-
-/// Whether a row that comes to this is kept.
-pub(crate) fn is_kept(row: &Row, activity: Frac) -> bool {
-    row.low().is_none_or(|low| low <= activity) && row.high().is_none_or(|high| activity <= high)
-}
-
-/// How far what a row comes to may go on, up or down; none where it may go without end, or that leaves the range.
-fn room(row: &Row, activity: Frac, is_up: bool) -> Option<Frac> {
-    if is_up {
-        row.high()?.sub(activity).ok()
+/// How far a value between two sides may go on, up or down; none where it may go without end, or that leaves the range.
+pub(crate) fn room(sides: Sides, value: Frac, is_up: bool) -> Option<Frac> {
+    let room = if is_up {
+        sides.high?.sub(value)
     } else {
-        activity.sub(row.low()?).ok()
+        value.sub(sides.low?)
+    };
+    room.ok()
+}
+
+/// The sides of a row.
+pub(crate) fn sides_of(row: &Row) -> Sides {
+    Sides {
+        low: row.low(),
+        high: row.high(),
     }
 }
 
@@ -46,7 +38,8 @@ pub(crate) fn reach(row: &Row, activity: Frac, coef: Frac, is_up: bool) -> Optio
     if coef.is_zero() {
         return None;
     }
-    let room = room(row, activity, coef.is_positive() == is_up)?;
-    let quotient = room.div(coef).ok()?;
-    Some(quotient.abs())
+    match room(sides_of(row), activity, coef.is_positive() == is_up)?.div(coef) {
+        Ok(quotient) => Some(quotient.abs()),
+        Err(_) => None,
+    }
 }

@@ -1,10 +1,11 @@
 //! A dive: columns are fixed one after another, and behind each what rows imply is taken.
 use crate::shares::Share;
-use crate::wholes::{is_whole_at, nearest, rough_distance};
+use crate::splits::rough_part;
+use crate::wholes::{is_whole_at, nearest};
 use cip_frac::Frac;
 use cip_lin::{Row, Side, Sides};
 use cip_plugin::View;
-use cip_tighten::{Implied, Narrowing, Region, Source, Watched, list_implied, short};
+use cip_tighten::{Implied, Narrowing, Region, Source, UNIT, Watched, list_implied, short};
 use std::alloc::{AllocError, Global};
 
 // The most columns of a dive whose first value is given up for another.
@@ -31,71 +32,39 @@ pub(crate) struct Dive {
     turned: usize,
 }
 
-/// The sides between which a column has its values: of a whole one, the whole numbers next to its sides.
-fn inner(sides: Sides, is_whole: bool) -> Sides {
-    if !is_whole {
-        return sides;
-    }
-    Sides {
-        low: sides.low.map(|low| low.rounded_up()),
-        high: sides.high.map(|high| high.rounded_down()),
-    }
-}
-
-/// The number between two sides that is nearest to another; none where the sides cross.
-fn clamped(sides: Sides, value: Frac) -> Option<Frac> {
-    let raised = match sides.low {
-        Some(low) if value < low => low,
-        _ => value,
-    };
-    match sides.high {
-        Some(high) if raised > high => {
-            if sides.low.is_some_and(|low| low > high) {
-                None
-            } else {
-                Some(high)
-            }
+/// The value between a column's sides that is nearest to another, of a whole column a whole one; none where no value
+/// lies between them.
+fn nearest_between(sides: Sides, is_whole: bool, value: Frac) -> Option<Frac> {
+    let mut inner = sides;
+    let mut first = value;
+    if is_whole {
+        first = nearest(value);
+        if let Some(low) = sides.low {
+            inner.low = Some(low.rounded_up());
         }
-        _ => Some(raised),
+        if let Some(high) = sides.high {
+            inner.high = Some(high.rounded_down());
+        }
     }
-}
-
-/// One value.
-fn only(value: Frac) -> Sides {
-    Sides {
-        low: Some(value),
-        high: Some(value),
+    if let Some(low) = inner.low {
+        if first < low {
+            first = low;
+        }
     }
-}
-
-/// Whether a value lies between two sides.
-fn has_values(sides: Sides) -> bool {
-    match (sides.low, sides.high) {
-        (Some(low), Some(high)) => low <= high,
-        _ => true,
+    if let Some(high) = inner.high {
+        if first > high {
+            first = high;
+        }
     }
-}
-
-/// Sides with one of them taken over.
-fn with_side(own: Sides, implied: Implied) -> Sides {
-    let value = Some(implied.value);
-    match implied.side {
-        Side::Low => Sides {
-            low: value,
-            high: own.high,
-        },
-        Side::High => Sides {
-            low: own.low,
-            high: value,
-        },
-    }
+    if inner.cross() { None } else { Some(first) }
 }
 
 /// The value next to the first one of a whole column, on the side on which the point lies, if it lies between the
 /// sides; else on the other side.
 fn second(sides: Sides, first: Frac, value: Frac) -> Option<Frac> {
-    let above = first.add(Frac::one()).ok()?;
-    let below = first.sub(Frac::one()).ok()?;
+    let (Ok(above), Ok(below)) = (first.add(Frac::one()), first.sub(Frac::one())) else {
+        return None;
+    };
     let (near, far) = if value > first {
         (above, below)
     } else {
@@ -144,28 +113,25 @@ impl Dive {
         }
     }
 
-    /// Lists the columns in the order in which they are fixed.
-    fn list_turns(&mut self, whole: &[bool], point: &[Frac]) -> Result<(), AllocError> {
-        self.turns.clear();
-        for col in 0..short(point.len()) {
-            let distance = match point.get(col as usize) {
-                Some(value) if is_whole_at(whole, col) => rough_distance(*value),
-                _ => i64::MAX,
-            };
-            self.turns.push(Turn { distance, col })?;
-        }
-        self.turns.sort_unstable();
-        Ok(())
-    }
-
-    /// Takes the node's box, in which no row waits.
+    /// Takes the node's box, in which no row waits, and lists the columns in the order in which they are fixed.
     fn begin(&mut self, view: &View<'_>, point: &[Frac]) -> Result<(), AllocError> {
         self.watched.calm();
         self.before.clear();
         self.turned = 0;
         self.sides.clear();
         self.sides.extend_from_slice(view.bounds.as_slice())?;
-        self.list_turns(view.whole, point)
+        self.turns.clear();
+        for (place, value) in point.iter().enumerate() {
+            let col = short(place);
+            let mut distance = i64::MAX;
+            if is_whole_at(view.whole, col) {
+                let below = rough_part(*value);
+                distance = below.min(UNIT.wrapping_sub(below));
+            }
+            self.turns.push(Turn { distance, col })?;
+        }
+        self.turns.sort_unstable();
+        Ok(())
     }
 
     /// Takes sides of a column, has its rows wait, and answers whether it has a value left.
@@ -177,7 +143,7 @@ impl Dive {
         *own = sides;
         self.before.push((col, old))?;
         self.watched.wait_for_column(col)?;
-        Ok(has_values(sides))
+        Ok(!sides.cross())
     }
 
     /// Takes the sides that were listed, and answers whether each column has a value left.
@@ -186,7 +152,11 @@ impl Dive {
             let Some(item) = self.implied.get(place).copied() else {
                 return Ok(false);
             };
-            let sides = with_side(self.sides_of(item.col), item);
+            let mut sides = self.sides_of(item.col);
+            match item.side {
+                Side::Low => sides.low = Some(item.value),
+                Side::High => sides.high = Some(item.value),
+            }
             if !self.set(item.col, sides)? {
                 return Ok(false);
             }
@@ -209,29 +179,20 @@ impl Dive {
         self.set_implied()
     }
 
-    /// Takes what a row implies, and answers whether the box may have a point; not where the share is spent.
-    fn narrow_at(
-        &mut self,
-        view: &View<'_>,
-        number: u32,
-        share: &mut Share,
-    ) -> Result<bool, AllocError> {
-        let Some(row) = view.own.get(number as usize) else {
-            return Ok(false);
-        };
-        if !share.spend(row.terms().len()) || !self.narrow_by(view.whole, row, Source::AtLeast)? {
-            return Ok(false);
-        }
-        self.narrow_by(view.whole, row, Source::AtMost)
-    }
-
     /// Takes what the rows imply that wait, and answers whether the box may have a point; not where the share is spent.
     fn narrow(&mut self, view: &View<'_>, share: &mut Share) -> Result<bool, AllocError> {
         for _ in 0..MOST_ROWS {
             let Some(number) = self.watched.next() else {
                 return Ok(true);
             };
-            let is_kept = self.narrow_at(view, number, share)?;
+            let is_kept = match view.own.get(number as usize) {
+                Some(row) => {
+                    share.spend(row.terms().len())
+                        && self.narrow_by(view.whole, row, Source::AtLeast)?
+                        && self.narrow_by(view.whole, row, Source::AtMost)?
+                }
+                None => false,
+            };
             self.watched.end(number);
             if !is_kept {
                 return Ok(false);
@@ -248,7 +209,11 @@ impl Dive {
         value: Frac,
         share: &mut Share,
     ) -> Result<bool, AllocError> {
-        if !self.set(col, only(value))? {
+        let sides = Sides {
+            low: Some(value),
+            high: Some(value),
+        };
+        if !self.set(col, sides)? {
             return Ok(false);
         }
         self.narrow(view, share)
@@ -266,26 +231,8 @@ impl Dive {
         self.watched.calm();
     }
 
-    /// Fixes a whole column at the value next to its first one, and answers whether the box may have a point.
-    fn fix_second(
-        &mut self,
-        view: &View<'_>,
-        col: u32,
-        first: Frac,
-        value: Frac,
-        share: &mut Share,
-    ) -> Result<bool, AllocError> {
-        if self.turned >= MOST_TURNS || !is_whole_at(view.whole, col) {
-            return Ok(false);
-        }
-        self.turned = self.turned.saturating_add(1);
-        match second(self.sides_of(col), first, value) {
-            Some(other) => self.fix(view, col, other, share),
-            None => Ok(false),
-        }
-    }
-
-    /// Fixes a column near its value, and answers whether the box may have a point.
+    /// Fixes a column near its value, or a whole one at the value next to that where no point is left, and answers
+    /// whether the box may have a point.
     fn fix_near(
         &mut self,
         view: &View<'_>,
@@ -294,12 +241,11 @@ impl Dive {
         share: &mut Share,
     ) -> Result<bool, AllocError> {
         let is_whole = is_whole_at(view.whole, col);
-        let sides = inner(self.sides_of(col), is_whole);
-        let wanted = if is_whole { nearest(value) } else { value };
-        let Some(first) = clamped(sides, wanted) else {
+        let sides = self.sides_of(col);
+        let Some(first) = nearest_between(sides, is_whole, value) else {
             return Ok(false);
         };
-        if self.sides_of(col).is_fixed() {
+        if sides.is_fixed() {
             return Ok(true);
         }
         let mark = self.before.len();
@@ -307,22 +253,12 @@ impl Dive {
             return Ok(true);
         }
         self.go_back(mark);
-        self.fix_second(view, col, first, value, share)
-    }
-
-    /// Fixes the column whose turn has this place near its value, and answers whether the box may have a point.
-    fn fix_at(
-        &mut self,
-        view: &View<'_>,
-        point: &[Frac],
-        place: usize,
-        share: &mut Share,
-    ) -> Result<bool, AllocError> {
-        let Some(turn) = self.turns.get(place).copied() else {
+        if self.turned >= MOST_TURNS || !is_whole {
             return Ok(false);
-        };
-        match point.get(turn.col as usize) {
-            Some(value) => self.fix_near(view, turn.col, *value, share),
+        }
+        self.turned = self.turned.saturating_add(1);
+        match second(self.sides_of(col), first, value) {
+            Some(other) => self.fix(view, col, other, share),
             None => Ok(false),
         }
     }
@@ -337,7 +273,13 @@ impl Dive {
     ) -> Result<bool, AllocError> {
         self.begin(view, point)?;
         for place in 0..self.turns.len() {
-            if !self.fix_at(view, point, place, share)? {
+            let Some(turn) = self.turns.get(place).copied() else {
+                return Ok(false);
+            };
+            let Some(value) = point.get(turn.col as usize) else {
+                return Ok(false);
+            };
+            if !self.fix_near(view, turn.col, *value, share)? {
                 return Ok(false);
             }
         }

@@ -6,7 +6,6 @@ use crate::dives::Dive;
 use crate::guesses::only_guess;
 use crate::lengths::has_long_rest;
 use crate::shares::Share;
-use cip_frac::Frac;
 use cip_plugin::{Guess, Heuristic, Plugin, View};
 use std::alloc::{AllocError, Global};
 
@@ -32,22 +31,18 @@ impl DiveHeuristic {
         }
     }
 
-    /// Dives, and answers whether the box that is left may be a point of the program.
-    fn go(&mut self, view: &View<'_>, point: &[Frac]) -> Result<bool, AllocError> {
+    /// Dives where that may pay, and answers whether the box that is left may be a point of the program.
+    fn has_gone(&mut self, view: &View<'_>) -> Result<bool, AllocError> {
+        let Some(point) = view.point else {
+            return Ok(false);
+        };
+        if has_long_rest(view.whole, point) || !self.share.may_begin() {
+            return Ok(false);
+        }
         let before = self.share.left();
         let is_there = self.dive.go(view, point, &mut self.share)?;
         self.share.end(before, is_there);
         Ok(is_there)
-    }
-
-    /// Whether a dive came to a point.
-    fn has_gone(&mut self, view: &View<'_>) -> Result<bool, AllocError> {
-        match view.point {
-            Some(point) if !has_long_rest(view.whole, point) && self.share.may_begin() => {
-                self.go(view, point)
-            }
-            _ => Ok(false),
-        }
     }
 }
 

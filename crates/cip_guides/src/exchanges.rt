@@ -1,10 +1,9 @@
 //! A point in work that keeps the rows of a program, and moves of its columns.
-use crate::coefficients::{activity, coefficient, is_kept, reach};
-use crate::wholes::is_whole_at;
+use crate::coefficients::{coefficient, reach, room, sides_of};
 use cip_frac::Frac;
 use cip_lin::Row;
 use cip_plugin::View;
-use cip_tighten::ColumnRows;
+use cip_tighten::{ColumnRows, activity};
 use std::alloc::{AllocError, Global};
 
 /// A point, and what each row comes to at it.
@@ -20,18 +19,6 @@ pub(crate) struct Placed {
 pub(crate) struct Move {
     pub(crate) col: u32,
     pub(crate) by: Frac,
-}
-
-/// The shorter one of two reaches, the second of which is that of the row at a place.
-fn nearer(
-    first: Option<(Frac, Option<usize>)>,
-    other: Frac,
-    place: usize,
-) -> Option<(Frac, Option<usize>)> {
-    match first {
-        Some((most, kept_by)) if most <= other => Some((most, kept_by)),
-        _ => Some((other, Some(place))),
-    }
 }
 
 impl Placed {
@@ -74,30 +61,16 @@ impl Placed {
     }
 
     /// A row of a column by its place, what it comes to, and the column's coefficient.
-    fn row_at<'a>(&self, own: &'a [Row], col: u32, place: usize) -> Option<(&'a Row, Frac, Frac)> {
+    pub(crate) fn row_at<'a>(
+        &self,
+        own: &'a [Row],
+        col: u32,
+        place: usize,
+    ) -> Option<(&'a Row, Frac, Frac)> {
         let number = *self.columns.rows_of(col).get(place)? as usize;
         let row = own.get(number)?;
         let sum = *self.activities.get(number)?;
         Some((row, sum, coefficient(row, col)?))
-    }
-
-    /// How far a column may go on by its own side; none where that isn't there, or the range is left.
-    fn own_reach(&self, view: &View<'_>, col: u32, is_up: bool) -> Option<Frac> {
-        let sides = view.root.as_slice().get(col as usize)?;
-        let value = *self.values.get(col as usize)?;
-        if is_up {
-            sides.high?.sub(value).ok()
-        } else {
-            value.sub(sides.low?).ok()
-        }
-    }
-
-    /// How far a column may go on by one of its rows; none where that lets it go without end, or the range is left.
-    fn reach_in_row(&self, own: &[Row], col: u32, place: usize, is_up: bool) -> Option<Frac> {
-        match self.row_at(own, col, place) {
-            Some((row, sum, coef)) => reach(row, sum, coef, is_up),
-            None => None,
-        }
     }
 
     /// How far a column may go on, with the place of the first of its rows that keeps it from going farther, where one
@@ -108,16 +81,29 @@ impl Placed {
         col: u32,
         is_up: bool,
     ) -> Option<(Frac, Option<usize>)> {
-        let mut least = match self.own_reach(view, col, is_up) {
-            Some(own) => Some((own, None)),
-            None => None,
+        let column = col as usize;
+        let mut least = match (view.root.as_slice().get(column), self.values.get(column)) {
+            (Some(sides), Some(value)) => room(*sides, *value, is_up),
+            _ => None,
         };
+        let mut kept_by = None;
         for place in 0..self.count(col) {
-            if let Some(other) = self.reach_in_row(view.own, col, place, is_up) {
-                least = nearer(least, other, place);
+            let reach = match self.row_at(view.own, col, place) {
+                Some((row, sum, coef)) => reach(row, sum, coef, is_up),
+                None => None,
+            };
+            if let Some(other) = reach {
+                let is_nearer = match least {
+                    Some(most) => other < most,
+                    None => true,
+                };
+                if is_nearer {
+                    least = Some(other);
+                    kept_by = Some(place);
+                }
             }
         }
-        least
+        Some((least?, kept_by))
     }
 
     /// Moves a column, and answers whether nothing left the range; else it is of no use until a point is taken.
@@ -145,36 +131,17 @@ impl Placed {
 
     /// Whether the rows of a column are kept, and its own sides.
     pub(crate) fn keeps(&self, view: &View<'_>, col: u32) -> bool {
-        let Some(sides) = view.root.as_slice().get(col as usize) else {
-            return false;
-        };
-        let Some(value) = self.values.get(col as usize) else {
-            return false;
-        };
-        if !sides.contains(*value) {
-            return false;
+        let column = col as usize;
+        match (view.root.as_slice().get(column), self.values.get(column)) {
+            (Some(sides), Some(value)) if sides.contains(*value) => {}
+            _ => return false,
         }
         for place in 0..self.count(col) {
             match self.row_at(view.own, col, place) {
-                Some((row, sum, _)) if is_kept(row, sum) => {}
+                Some((row, sum, _)) if sides_of(row).contains(sum) => {}
                 _ => return false,
             }
         }
         true
-    }
-
-    /// The row that keeps a column from going on, by its place.
-    pub(crate) fn row_of<'a>(&self, own: &'a [Row], col: u32, place: usize) -> Option<&'a Row> {
-        let number = *self.columns.rows_of(col).get(place)? as usize;
-        own.get(number)
-    }
-}
-
-/// The farthest step of a column that may go so far: of a whole column a whole number.
-pub(crate) fn step_of(view: &View<'_>, col: u32, reach: Frac) -> Frac {
-    if is_whole_at(view.whole, col) {
-        reach.rounded_down()
-    } else {
-        reach
     }
 }

@@ -2,8 +2,7 @@
 ghost use Rattle.std.specs.Prelude.{None, codes, length, IfOk};
 ghost use Rattle.cip_guides.specs.FullGuesses.{AreFull};
 
-use crate::coefficients::coefficient;
-use crate::exchanges::{Move, Placed, step_of};
+use crate::exchanges::{Move, Placed};
 use crate::guesses::only_guess;
 use crate::lengths::MOST_UNDER;
 use crate::shares::Share;
@@ -51,23 +50,12 @@ fn unit(col: u32, is_up: bool) -> Move {
     }
 }
 
-/// Whether two columns that are moved by 1 cost less together.
-fn costs_less(view: &View<'_>, first: (u32, bool), other: (u32, bool)) -> bool {
-    let cost = signed(cost_of(view, first.0), first.1);
-    match cost.add(signed(cost_of(view, other.0), other.1)) {
-        Ok(sum) => sum.is_negative(),
-        Err(_) => false,
-    }
-}
-
 /// Lists the columns with a cost, the costliest first.
 fn list_costs(costs: &[Frac], order: &mut Vec<(i64, u32)>) -> Result<(), AllocError> {
     order.clear();
-    for col in 0..short(costs.len()) {
-        if let Some(cost) = costs.get(col as usize) {
-            if !cost.is_zero() {
-                order.push((rough(cost.abs()).wrapping_neg(), col))?;
-            }
+    for (column, cost) in costs.iter().enumerate() {
+        if !cost.is_zero() {
+            order.push((rough(cost.abs()).wrapping_neg(), short(column)))?;
         }
     }
     order.sort_unstable();
@@ -93,37 +81,14 @@ impl ExchangeHeuristic {
         }
     }
 
-    /// Moves a column, and back again where a row isn't kept then. Answers whether it was moved.
-    fn shift(&mut self, view: &View<'_>, step: Move) -> bool {
-        let Move { col, by } = step;
-        self.go(view, step);
-        if self.placed.keeps(view, col) {
-            return true;
-        }
-        self.go(view, Move { col, by: by.neg() });
-        false
-    }
-
-    /// Moves two columns, and back again where a row isn't kept then. Answers whether they were moved.
-    fn shift_both(&mut self, view: &View<'_>, first: (u32, bool), other: (u32, bool)) -> bool {
-        self.go(view, unit(first.0, first.1));
-        self.go(view, unit(other.0, other.1));
-        if self.placed.keeps(view, first.0) && self.placed.keeps(view, other.0) {
-            return true;
-        }
-        self.go(view, unit(first.0, !first.1));
-        self.go(view, unit(other.0, !other.1));
-        false
-    }
-
     /// Takes the work of looking at a column's rows, and answers whether it was there.
     fn spend(&mut self, col: u32) -> bool {
         let rows = self.placed.count(col).saturating_add(1);
         !self.is_lost && self.share.spend(rows)
     }
 
-    /// Moves a column and that of a term of a row together, where they cost less. The column has a coefficient in the
-    /// row. Answers whether they were moved.
+    /// Moves a column by 1, and that of a term of a row the other way, where they cost less together; and back again
+    /// where a row isn't kept then. The column has a coefficient in the row. Answers whether they were moved.
     fn exchange_with(
         &mut self,
         view: &View<'_>,
@@ -136,18 +101,27 @@ impl ExchangeHeuristic {
         }
         let rises = coef.is_positive() == first.1;
         let other = (term.col, term.coef.is_positive() != rises);
-        if !costs_less(view, first, other) || !self.spend(first.0) || !self.spend(term.col) {
+        let cost = signed(cost_of(view, first.0), first.1);
+        let costs_less = match cost.add(signed(cost_of(view, other.0), other.1)) {
+            Ok(sum) => sum.is_negative(),
+            Err(_) => false,
+        };
+        if !costs_less || !self.spend(first.0) || !self.spend(term.col) {
             return false;
         }
-        self.shift_both(view, first, other)
+        self.go(view, unit(first.0, first.1));
+        self.go(view, unit(other.0, other.1));
+        if self.placed.keeps(view, first.0) && self.placed.keeps(view, other.0) {
+            return true;
+        }
+        self.go(view, unit(first.0, !first.1));
+        self.go(view, unit(other.0, !other.1));
+        false
     }
 
     /// Moves a column together with another one of the row that keeps it. Answers whether they were moved.
     fn exchange(&mut self, view: &View<'_>, first: (u32, bool), place: usize) -> bool {
-        let Some(row) = self.placed.row_of(view.own, first.0, place) else {
-            return false;
-        };
-        let Some(coef) = coefficient(row, first.0) else {
+        let Some((row, _, coef)) = self.placed.row_at(view.own, first.0, place) else {
             return false;
         };
         for term in row.terms() {
@@ -161,7 +135,8 @@ impl ExchangeHeuristic {
         false
     }
 
-    /// Moves a column to where it costs less, or with another one. Answers whether it was moved.
+    /// Moves a column to where it costs less, and back again where a row isn't kept then; or with another one. Answers
+    /// whether it was moved.
     fn improve(&mut self, view: &View<'_>, col: u32) -> bool {
         let is_up = cost_of(view, col).is_negative();
         if !self.spend(col) {
@@ -170,33 +145,29 @@ impl ExchangeHeuristic {
         let Some((reach, kept_by)) = self.placed.reach(view, col, is_up) else {
             return false;
         };
-        let step = step_of(view, col, reach);
+        let is_whole = is_whole_at(view.whole, col);
+        let step = if is_whole {
+            reach.rounded_down()
+        } else {
+            reach
+        };
         if step.is_positive() {
             let by = signed(step, is_up);
-            return self.shift(view, Move { col, by });
+            self.go(view, Move { col, by });
+            if self.placed.keeps(view, col) {
+                return true;
+            }
+            self.go(view, Move { col, by: by.neg() });
+            return false;
         }
         match kept_by {
-            Some(place) if is_whole_at(view.whole, col) => self.exchange(view, (col, is_up), place),
+            Some(place) if is_whole => self.exchange(view, (col, is_up), place),
             _ => false,
         }
     }
 
-    /// Moves all columns in their order, and answers whether one was moved and nothing left the range.
-    fn improve_all(&mut self, view: &View<'_>) -> bool {
-        let mut is_better = false;
-        for place in 0..self.order.len() {
-            let Some((_, col)) = self.order.get(place).copied() else {
-                return false;
-            };
-            if self.improve(view, col) {
-                is_better = true;
-            }
-        }
-        is_better && !self.is_lost
-    }
-
-    /// Works on a point, unless it was worked on before, or the share is spent. Answers whether it came to a better
-    /// one.
+    /// Works on a point, unless it was worked on before, or the share is spent: moves all columns in their order.
+    /// Answers whether it came to a better one, and nothing left the range.
     fn has_improved(&mut self, view: &View<'_>) -> Result<bool, AllocError> {
         let Some(guess) = view.guess else {
             return Ok(false);
@@ -209,7 +180,14 @@ impl ExchangeHeuristic {
         if is_long(guess, MOST_UNDER) || !self.placed.place(view.own, guess)? {
             return Ok(false);
         }
-        Ok(self.improve_all(view))
+        let mut is_better = false;
+        for place in 0..self.order.len() {
+            let Some((_, col)) = self.order.get(place).copied() else {
+                return Ok(false);
+            };
+            is_better |= self.improve(view, col);
+        }
+        Ok(is_better && !self.is_lost)
     }
 }
 

@@ -3,7 +3,7 @@ use cip_tighten::UNIT;
 use std::alloc::{AllocError, Global};
 
 /// Which half of a split.
-#[derive(Clone, Copy, PartialEq, Eq)]
+#[derive(Clone, Copy)]
 pub(crate) enum Direction {
     Down,
     Up,

@@ -1,4 +1,5 @@
 //! In how many ways rows keep a column from going up or down.
+use crate::wholes::nearest;
 use cip_frac::Frac;
 use cip_lin::Row;
 use std::alloc::{AllocError, Global};
@@ -19,29 +20,17 @@ pub(crate) struct Locks {
     by_column: Vec<Lock>,
 }
 
-/// One more, if so.
-fn counted(count: u32, is_one: bool) -> u32 {
-    count.saturating_add(u32::from(is_one))
-}
-
-/// A column's locks with those of a row in which it has this coefficient.
-fn locked(lock: Lock, coef: Frac, has_low: bool, has_high: bool) -> Lock {
-    let is_negative = coef.is_negative();
-    let down = if is_negative { has_high } else { has_low };
-    let up = if is_negative { has_low } else { has_high };
-    Lock {
-        down: counted(lock.down, down),
-        up: counted(lock.up, up),
-    }
-}
-
 /// Adds the locks of a row.
 fn lock_row(row: &Row, locks: &mut [Lock]) {
-    let has_low = row.low().is_some();
-    let has_high = row.high().is_some();
+    let low = u32::from(row.low().is_some());
+    let high = u32::from(row.high().is_some());
     for term in row.terms() {
+        let is_negative = term.coef.is_negative();
         if let Some(lock) = locks.get_mut(term.col as usize) {
-            *lock = locked(*lock, term.coef, has_low, has_high);
+            lock.down = lock
+                .down
+                .saturating_add(if is_negative { high } else { low });
+            lock.up = lock.up.saturating_add(if is_negative { low } else { high });
         }
     }
 }
@@ -64,11 +53,13 @@ impl Locks {
         Ok(())
     }
 
-    /// Whether no row keeps a column from going down, and whether none keeps it from going up.
-    pub(crate) fn is_free(&self, col: usize) -> (bool, bool) {
+    /// The whole number to which a column goes: to where no row keeps it from going, down before up, else to the nearer
+    /// one.
+    pub(crate) fn rounded(&self, col: usize, value: Frac) -> Frac {
         match self.by_column.get(col) {
-            Some(lock) => (lock.down == 0, lock.up == 0),
-            None => (true, true),
+            Some(lock) if lock.down > 0 && lock.up > 0 => nearest(value),
+            Some(lock) if lock.down > 0 => value.rounded_up(),
+            _ => value.rounded_down(),
         }
     }
 }

@@ -14,25 +14,15 @@ use std::alloc::{AllocError, Global};
 #[derive(Clone, Copy, Drop)]
 pub struct MostFractionalRule;
 
-/// How far a value is from the nearest whole number; none where that leaves the range.
-fn distance(value: Frac) -> Option<Frac> {
-    let below = value.sub(value.rounded_down()).ok()?;
-    let above = Frac::one().sub(below).ok()?;
-    if above < below {
-        Some(above)
-    } else {
-        Some(below)
-    }
-}
-
-/// The distance of a column that can be split, where it is more than so much.
-fn farther(whole: &[bool], sides: &[Sides], point: &[Frac], col: u32, than: Frac) -> Option<Frac> {
-    split_at(whole, sides, point, col)?;
-    let distance = distance(*point.get(col as usize)?)?;
-    if distance > than {
-        Some(distance)
-    } else {
-        None
+/// How far a value is from the nearest whole number; 0 where that leaves the range.
+fn distance(value: Frac) -> Frac {
+    let Ok(below) = value.sub(value.rounded_down()) else {
+        return Frac::zero();
+    };
+    match Frac::one().sub(below) {
+        Ok(above) if above < below => above,
+        Ok(_) => below,
+        Err(_) => Frac::zero(),
     }
 }
 
@@ -40,10 +30,14 @@ fn farther(whole: &[bool], sides: &[Sides], point: &[Frac], col: u32, than: Frac
 fn farthest(whole: &[bool], sides: &[Sides], point: &[Frac]) -> Option<u32> {
     let mut best = None;
     let mut most = Frac::zero();
-    for col in 0..short(point.len()) {
-        if let Some(distance) = farther(whole, sides, point, col, most) {
-            best = Some(col);
-            most = distance;
+    for (column, value) in point.iter().enumerate() {
+        let col = short(column);
+        if split_at(whole, sides, point, col).is_some() {
+            let far = distance(*value);
+            if far > most {
+                best = Some(col);
+                most = far;
+            }
         }
     }
     best

@@ -29,15 +29,6 @@ fn place_of(number: u64) -> usize {
     }
 }
 
-/// Which half of its split a node is.
-fn direction_of(node: u64) -> Direction {
-    if node.checked_rem(2) == Some(1) {
-        Direction::Down
-    } else {
-        Direction::Up
-    }
-}
-
 impl PastSplits {
     /// None. It takes no memory.
     pub(crate) fn new(alloc: Global) -> PastSplits {
@@ -57,8 +48,13 @@ impl PastSplits {
     pub(crate) fn above(&self, node: u64) -> Option<(PastSplit, Direction)> {
         let number = node.checked_sub(1)?.checked_div(2)?;
         let (kept, split) = *self.splits.get(place_of(number))?;
+        let direction = if node.checked_rem(2) == Some(1) {
+            Direction::Down
+        } else {
+            Direction::Up
+        };
         if kept == number {
-            Some((split, direction_of(node)))
+            Some((split, direction))
         } else {
             None
         }

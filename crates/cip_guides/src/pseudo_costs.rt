@@ -20,41 +20,28 @@ pub struct PseudoCostRule {
     past: PastSplits,
 }
 
-/// Whether sides lie in a half of a split.
-fn is_in_half(sides: Sides, at: i128, direction: Direction) -> bool {
+/// How far a column was moved, roughly, to a half of a split; none where its sides don't lie there.
+fn way_of(sides: Sides, split: PastSplit, direction: Direction) -> Option<i64> {
     match direction {
-        Direction::Down => sides.high.is_some_and(|high| high.floor() <= at),
-        Direction::Up => sides.low.is_some_and(|low| low.ceil() > at),
+        Direction::Down => match sides.high {
+            Some(high) if high.floor() <= split.at => Some(split.part),
+            _ => None,
+        },
+        Direction::Up => match sides.low {
+            Some(low) if low.ceil() > split.at => Some(UNIT.wrapping_sub(split.part)),
+            _ => None,
+        },
     }
-}
-
-/// How far a column was moved to a half, roughly.
-fn way_of(part: i64, direction: Direction) -> i64 {
-    match direction {
-        Direction::Down => part,
-        Direction::Up => UNIT.wrapping_sub(part),
-    }
-}
-
-/// How good a split of a column is, where it can be split.
-fn score_of(
-    learnt: &Learnt,
-    whole: &[bool],
-    sides: &[Sides],
-    point: &[Frac],
-    col: u32,
-) -> Option<i128> {
-    split_at(whole, sides, point, col)?;
-    let value = point.get(col as usize)?;
-    Some(learnt.score(col, rough_part(*value)))
 }
 
 /// The column whose split is best, the first of such columns; none where none can be split.
 fn best_column(learnt: &Learnt, whole: &[bool], sides: &[Sides], point: &[Frac]) -> Option<u32> {
     let mut best = None;
     let mut most = 0;
-    for col in 0..short(point.len()) {
-        if let Some(score) = score_of(learnt, whole, sides, point, col) {
+    for (column, value) in point.iter().enumerate() {
+        let col = short(column);
+        if split_at(whole, sides, point, col).is_some() {
+            let score = learnt.score(col, rough_part(*value));
             if score > most {
                 best = Some(col);
                 most = score;
@@ -89,9 +76,8 @@ impl PseudoCostRule {
         let Some(sides) = view.bounds.as_slice().get(split.col as usize) else {
             return;
         };
-        if is_in_half(*sides, split.at, direction) {
+        if let Some(way) = way_of(*sides, split, direction) {
             let rise = cost.saturating_sub(split.cost);
-            let way = way_of(split.part, direction);
             self.learnt.add(split.col, direction, rise, way);
         }
     }

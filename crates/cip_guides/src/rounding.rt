@@ -5,7 +5,6 @@ ghost use Rattle.cip_guides.specs.FullGuesses.{AreFull};
 use crate::guesses::only_guess;
 use crate::lengths::has_long_rest;
 use crate::locks::Locks;
-use crate::wholes::nearest;
 use cip_frac::Frac;
 use cip_plugin::{Guess, Heuristic, Plugin, View};
 use cip_tighten::{cost_of, has_fraction, most_cost, rough};
@@ -20,19 +19,6 @@ const FAR: i64 = 1 << 58;
 #[derive(Drop)]
 pub struct RoundHeuristic {
     locks: Locks,
-}
-
-/// Whether a column's value has to be rounded.
-fn is_fractional(whole: &[bool], col: usize, value: Frac) -> bool {
-    match whole.get(col) {
-        Some(is_whole) => *is_whole && !value.is_whole(),
-        None => false,
-    }
-}
-
-/// Whether a point is worth rounding: a whole column has a value that isn't whole, and no other value is long.
-fn may_be_rounded(whole: &[bool], point: &[Frac]) -> bool {
-    has_fraction(whole, point) && !has_long_rest(whole, point)
 }
 
 /// Whether a point may cost less than what is held, roughly.
@@ -52,15 +38,6 @@ impl RoundHeuristic {
         }
     }
 
-    /// The value to which a column goes.
-    fn rounded(&self, col: usize, value: Frac) -> Frac {
-        match self.locks.is_free(col) {
-            (true, _) => value.rounded_down(),
-            (false, true) => value.rounded_up(),
-            _ => nearest(value),
-        }
-    }
-
     /// The point with its whole columns rounded.
     fn values(
         &self,
@@ -69,13 +46,12 @@ impl RoundHeuristic {
         point: &[Frac],
     ) -> Result<Vec<Frac>, AllocError> {
         let mut values = Vec::new(alloc);
-        for col in 0..point.len() {
-            let value = point[col];
-            if is_fractional(whole, col, value) {
-                values.push(self.rounded(col, value))?;
-            } else {
-                values.push(value)?;
+        for (column, value) in point.iter().enumerate() {
+            let mut own = *value;
+            if !value.is_whole() && whole.get(column) == Some(&true) {
+                own = self.locks.rounded(column, own);
             }
+            values.push(own)?;
         }
         Ok(values)
     }
@@ -112,7 +88,7 @@ impl Heuristic for RoundHeuristic {
         ensures full { IfOk result (λ guesses. AreFull (length view.now.costs.now) guesses.items) }
     {
         match view.point {
-            Some(point) if may_be_rounded(view.whole, point) => {
+            Some(point) if has_fraction(view.whole, point) && !has_long_rest(view.whole, point) => {
                 let values = self.values(alloc, view.whole, point)?;
                 if !may_be_cheaper(view, values.as_slice()) {
                     return Ok(Vec::new(alloc));

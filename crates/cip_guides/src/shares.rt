@@ -21,15 +21,6 @@ pub(crate) struct Share {
     wanted: usize,
 }
 
-/// How many columns and terms a program has.
-fn size_of(own: &[Row], columns: usize) -> usize {
-    let mut size = columns;
-    for row in own {
-        size = size.saturating_add(row.terms().len());
-    }
-    size
-}
-
 impl Share {
     /// Of no program; the share is divided by so much.
     pub(crate) fn new(part: usize) -> Share {
@@ -41,9 +32,13 @@ impl Share {
         }
     }
 
-    /// Begins with a program.
+    /// Begins with a program: a pass takes as much as it has columns and terms.
     pub(crate) fn begin(&mut self, own: &[Row], columns: usize) {
-        self.pass = size_of(own, columns);
+        let mut size = columns;
+        for row in own {
+            size = size.saturating_add(row.terms().len());
+        }
+        self.pass = size;
         self.left = self.part_of(FIRST_PASSES, MOST);
         self.wanted = 0;
     }

@@ -12,9 +12,15 @@ const MOST: u128 = 1 << 100;
 
 /// Whether a number and the next one lie between two sides, and the first isn't far from 0.
 fn leaves_both(sides: Sides, at: i128) -> bool {
-    at.unsigned_abs() <= MOST
-        && sides.low.is_none_or(|low| low.ceil() <= at)
-        && sides.high.is_none_or(|high| high.floor() > at)
+    let is_above = match sides.low {
+        Some(low) => low.ceil() <= at,
+        None => true,
+    };
+    let is_below = match sides.high {
+        Some(high) => high.floor() > at,
+        None => true,
+    };
+    is_above && is_below && at.unsigned_abs() <= MOST
 }
 
 /// The split of a column at its value, where the column is whole, the value isn't, and both halves keep a whole value.
