@@ -1,6 +1,6 @@
 //! The classes of rows.
 use cip_frac::Frac;
-use cip_lin::Row;
+use cip_lin::{Row, Sides};
 use cip_plugin::View;
 use cip_tighten::short;
 use std::alloc::AllocError;
@@ -19,66 +19,50 @@ pub enum Class {
     SetPart,
 }
 
-/// Whether a column is whole.
-fn is_whole(view: &View<'_>, col: u32) -> bool {
-    match view.whole.get(col as usize) {
-        Some(is_whole) => *is_whole,
-        None => false,
-    }
-}
-
-/// Whether a column has the sides 0 and 1 at the root.
-fn is_unit(view: &View<'_>, col: u32) -> bool {
-    match view.root.as_slice().get(col as usize) {
-        Some(sides) => sides.low == Some(Frac::zero()) && sides.high == Some(Frac::one()),
-        None => false,
-    }
-}
-
-/// Whether each column of a row is whole, has the sides 0 and 1, and this coefficient.
+/// Whether each column of a row is whole and has the sides 0 and 1 at the root, and all have this coefficient, which is
+/// above 0.
 fn is_choice(view: &View<'_>, row: &Row, coef: Frac) -> bool {
+    let unit = Sides {
+        low: Some(Frac::zero()),
+        high: Some(Frac::one()),
+    };
     for term in row.terms() {
-        if term.coef != coef || !is_whole(view, term.col) || !is_unit(view, term.col) {
+        let column = term.col as usize;
+        if term.coef != coef
+            || view.whole.get(column) != Some(&true)
+            || view.root.as_slice().get(column) != Some(&unit)
+        {
             return false;
         }
     }
-    true
+    coef.is_positive()
 }
 
 /// Whether each coefficient of a row is above 0 and stands on a whole column.
 fn is_positive(view: &View<'_>, row: &Row) -> bool {
     for term in row.terms() {
-        if !term.coef.is_positive() || !is_whole(view, term.col) {
+        if !term.coef.is_positive() || view.whole.get(term.col as usize) != Some(&true) {
             return false;
         }
     }
     true
 }
 
-/// The class of a row with a high side alone.
-fn class_below(view: &View<'_>, row: &Row, most: Frac) -> Class {
-    if most.is_positive() && is_choice(view, row, most) {
+/// The class of a row.
+fn class_of(view: &View<'_>, row: &Row) -> Class {
+    let (low, high) = (row.low(), row.high());
+    let is_choice = match high {
+        Some(most) => (low.is_none() || low == high) && is_choice(view, row, most),
+        None => false,
+    };
+    if is_choice && low.is_none() {
         Class::SetPack
-    } else if is_positive(view, row) {
+    } else if is_choice {
+        Class::SetPart
+    } else if low.is_some() != high.is_some() && is_positive(view, row) {
         Class::Knapsack
     } else {
         Class::Linear
-    }
-}
-
-/// The class of a row.
-fn class_of(view: &View<'_>, row: &Row) -> Class {
-    match (row.low(), row.high()) {
-        (Some(least), Some(most)) => {
-            if least == most && most.is_positive() && is_choice(view, row, most) {
-                Class::SetPart
-            } else {
-                Class::Linear
-            }
-        }
-        (None, Some(most)) => class_below(view, row, most),
-        (Some(_), None) if is_positive(view, row) => Class::Knapsack,
-        _ => Class::Linear,
     }
 }
 

@@ -30,11 +30,6 @@ pub struct ClassHandler {
     rounding: Rounding,
 }
 
-/// How many calls go by behind one that brought sides at a node.
-fn rest_at(node: u64) -> u32 {
-    if node < FIRST_RESTING { 0 } else { REST }
-}
-
 impl ClassHandler {
     /// One that was never called. It takes no memory.
     pub fn new(alloc: Global, class: Class) -> ClassHandler {
@@ -48,19 +43,6 @@ impl ClassHandler {
             patience: Patience::new(),
             rounding: Rounding::new(alloc),
         }
-    }
-
-    /// Takes a program's rows, all of which wait. `Err` where memory was refused.
-    fn take(&mut self, view: &View<'_>) -> Result<(), AllocError> {
-        list_rows(view, self.class, &mut self.numbers)?;
-        let rows = view.own.len();
-        self.narrowing_tries.begin(rows, self.numbers.as_slice())?;
-        self.rounding_tries.begin(rows, self.numbers.as_slice())?;
-        if self.numbers.is_empty() {
-            return Ok(());
-        }
-        self.watched
-            .take(view.own, view.whole, view.bounds.as_slice())
     }
 
     /// Adds the sides that a row implies, and answers whether the call ends behind it: no point of the box keeps the
@@ -118,8 +100,10 @@ impl ClassHandler {
         self.narrow_waiting(alloc, view, reductions)?;
         if reductions.is_empty() {
             self.patience.lose();
+        } else if view.node < FIRST_RESTING {
+            self.patience.gain(0);
         } else {
-            self.patience.gain(rest_at(view.node));
+            self.patience.gain(REST);
         }
         Ok(())
     }
@@ -133,36 +117,18 @@ impl ClassHandler {
         }
     }
 
-    /// Rounds the rows that may be tried.
-    fn round(&mut self, alloc: Global, view: &View<'_>) -> Result<(), AllocError> {
-        if self.rounding_tries.is_spent() || !self.rounding.may_pay(view) {
-            return Ok(());
-        }
-        for number in &self.numbers {
-            if self.rounding_tries.may_try(*number) {
-                let has_gained = self.rounding.round(alloc, view, *number)?;
-                self.rounding_tries.note(*number, has_gained);
-            }
-        }
-        Ok(())
-    }
-
-    /// The cuts of a round.
+    /// The cuts of a round: of the rows that may be tried.
     fn cuts(&mut self, alloc: Global, view: &View<'_>) -> Result<Vec<Cut>, AllocError> {
         self.rounding.clear();
-        self.round(alloc, view)?;
+        if !self.rounding_tries.is_spent() && self.rounding.may_pay(view) {
+            for number in &self.numbers {
+                if self.rounding_tries.may_try(*number) {
+                    let has_gained = self.rounding.round(alloc, view, *number)?;
+                    self.rounding_tries.note(*number, has_gained);
+                }
+            }
+        }
         self.rounding.choose(alloc)
-    }
-
-    /// A side of a column, or else a cut, if there is one.
-    fn improvement(&mut self, alloc: Global, view: &View<'_>) -> Result<Enforced, AllocError> {
-        if let Some(reduction) = self.sides(alloc, view)?.pop() {
-            return Ok(Enforced::Reduced(reduction));
-        }
-        if let Some(cut) = self.cuts(alloc, view)?.pop() {
-            return Ok(Enforced::Separated(cut));
-        }
-        Ok(Enforced::Infeasible)
     }
 }
 
@@ -196,7 +162,15 @@ impl Plugin for ClassHandler {
     fn init_solve(&mut self, _alloc: Global, view: &View<'_>) -> Result<(), AllocError> {
         self.rounding.begin();
         self.patience = Patience::new();
-        self.take(view)
+        list_rows(view, self.class, &mut self.numbers)?;
+        let rows = view.own.len();
+        self.narrowing_tries.begin(rows, self.numbers.as_slice())?;
+        self.rounding_tries.begin(rows, self.numbers.as_slice())?;
+        if self.numbers.is_empty() {
+            return Ok(());
+        }
+        self.watched
+            .take(view.own, view.whole, view.bounds.as_slice())
     }
 
     fn exit_solve(&mut self) {
@@ -208,10 +182,16 @@ impl Plugin for ClassHandler {
 
 impl ConsHandler for ClassHandler {
     fn enforce(&mut self, alloc: Global, view: &View<'_>) -> Result<Enforced, AllocError> {
-        match view.point {
-            Some(_) => Ok(Enforced::Feasible),
-            None => self.improvement(alloc, view),
+        if view.point.is_some() {
+            return Ok(Enforced::Feasible);
         }
+        if let Some(reduction) = self.sides(alloc, view)?.pop() {
+            return Ok(Enforced::Reduced(reduction));
+        }
+        if let Some(cut) = self.cuts(alloc, view)?.pop() {
+            return Ok(Enforced::Separated(cut));
+        }
+        Ok(Enforced::Infeasible)
     }
 
     fn separate(&mut self, alloc: Global, view: &View<'_>) -> Result<Vec<Cut>, AllocError> {

@@ -1,6 +1,5 @@
 //! Rows divided by a coefficient, and rounded.
-use cip_frac::Frac;
-use cip_lin::{Row, RowId};
+use cip_lin::{RowId, Sides};
 use cip_plugin::{Cut, View};
 use cip_tighten::{
     Aim, Candidates, Gains, Shifted, Standing, Stop, Sum, activity, rounded_cut, tight_row,
@@ -20,21 +19,18 @@ pub(crate) struct Rounding {
     candidates: Candidates,
 }
 
-/// Whether a row is kept at a point.
-fn is_kept(row: &Row, point: &[Frac]) -> bool {
-    match activity(row.terms(), point) {
-        Some(sum) => {
-            row.low().is_none_or(|low| low <= sum) && row.high().is_none_or(|high| sum <= high)
-        }
-        None => false,
-    }
-}
-
 /// Whether the newest row of the pool cuts the last point off.
 fn is_cut_off(view: &View<'_>) -> bool {
-    match (view.pool.last(), view.point) {
-        (Some(kept), Some(point)) => !is_kept(&kept.row, point),
-        _ => false,
+    let (Some(kept), Some(point)) = (view.pool.last(), view.point) else {
+        return false;
+    };
+    let sides = Sides {
+        low: kept.row.low(),
+        high: kept.row.high(),
+    };
+    match activity(kept.row.terms(), point) {
+        Some(sum) => !sides.contains(sum),
+        None => true,
     }
 }
 
@@ -52,7 +48,7 @@ impl Rounding {
     /// Begins with a search.
     pub(crate) fn begin(&mut self) {
         self.gains = Gains::new();
-        self.clear();
+        self.candidates.clear();
     }
 
     /// Lets go of all cuts.
@@ -65,18 +61,8 @@ impl Rounding {
         self.gains.may_pay(view) && !is_cut_off(view)
     }
 
-    /// The greatest size of a coefficient of a whole column between its sides.
-    fn divisor(&self) -> i64 {
-        let mut most = 0;
-        for shift in &self.shifted.items {
-            if shift.is_whole && shift.is_between() {
-                most = shift.coef.wrapping_abs().max(most);
-            }
-        }
-        most
-    }
-
-    /// Keeps the cut of a side of a row.
+    /// Keeps the cut of a side of a row, divided by the greatest size of a coefficient of a whole column between its
+    /// sides.
     fn round_side(
         &mut self,
         alloc: Global,
@@ -90,7 +76,12 @@ impl Rounding {
         self.sum.begin_at_most(&row)?;
         let point = view.point.unwrap_or(&[]);
         self.shifted.take(view, point, &self.sum.terms, self.sum.right, Aim::Rounding)?;
-        let by = self.divisor();
+        let mut by = 0;
+        for shift in &self.shifted.items {
+            if shift.is_whole && shift.is_between() {
+                by = shift.coef.wrapping_abs().max(by);
+            }
+        }
         let cut = rounded_cut(alloc, &self.sum, &self.shifted, by)?;
         self.candidates.push(cut)?;
         Ok(())
