@@ -38,10 +38,7 @@ fn narrowed(sides: &mut [Sides], implied: Implied) -> bool {
         Side::Low => own.low = Some(implied.value),
         Side::High => own.high = Some(implied.value),
     }
-    match (own.low, own.high) {
-        (Some(low), Some(high)) => low <= high,
-        _ => true,
-    }
+    !own.cross()
 }
 
 impl ActivityPropagator {

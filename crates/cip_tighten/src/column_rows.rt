@@ -48,6 +48,14 @@ fn add_up(counts: &mut [u32]) -> usize {
     sum as usize
 }
 
+/// Counts the rows of each column, and leaves where its list begins; answers how long all lists are.
+fn count_rows(own: &[Row], columns: Taken<'_>, ends: &mut [u32]) -> usize {
+    for row in own {
+        count_row(row, columns, ends);
+    }
+    add_up(ends)
+}
+
 /// Writes a row down at the end of the list of each of its columns.
 fn fill_row(number: u32, row: &Row, columns: Taken<'_>, ends: &mut [u32], rows: &mut [u32]) {
     for term in row.terms() {
@@ -93,10 +101,7 @@ impl ColumnRows {
             only_continuous,
         };
         self.ends.resize(whole.len().saturating_add(1), 0)?;
-        for row in own {
-            count_row(row, columns, self.ends.as_mut_slice());
-        }
-        let count = add_up(self.ends.as_mut_slice());
+        let count = count_rows(own, columns, self.ends.as_mut_slice());
         self.rows.resize(count, 0)?;
         let (ends, rows) = (self.ends.as_mut_slice(), self.rows.as_mut_slice());
         fill(own, columns, ends, rows);

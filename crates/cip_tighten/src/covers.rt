@@ -43,21 +43,25 @@ enum Order {
     ByWay,
 }
 
+/// By what a column stands in an order.
+fn key_of(shift: Shift, order: Order) -> i64 {
+    let left = UNIT.saturating_sub(shift.way);
+    match order {
+        Order::ByWay => left,
+        Order::ByRate => {
+            let rate = (i128::from(left) << 24).checked_div(i128::from(shift.coef));
+            i64::try_from(rate.unwrap_or(i128::MAX)).unwrap_or(i64::MAX)
+        }
+    }
+}
+
 /// Lists the columns that may stand in a cover, in an order.
 fn list_picks(items: &[Shift], order: Order, picks: &mut Vec<Pick>) -> Result<(), Stop> {
     picks.clear();
     for (place, shift) in items.iter().enumerate() {
         if shift.is_unit {
-            let left = UNIT.saturating_sub(shift.way);
-            let key = match order {
-                Order::ByWay => left,
-                Order::ByRate => {
-                    let rate = (i128::from(left) << 24).checked_div(i128::from(shift.coef));
-                    i64::try_from(rate.unwrap_or(i128::MAX)).unwrap_or(i64::MAX)
-                }
-            };
             picks.push(Pick {
-                key,
+                key: key_of(*shift, order),
                 place,
                 coef: shift.coef,
                 way: shift.way,

@@ -7,7 +7,7 @@ use crate::implied::{Implied, Narrowing, Region, Source, list_implied};
 use crate::numbers::{UNIT, rough};
 use crate::patience::Patience;
 use crate::reductions::reduction_of;
-use cip_lin::{Combo, Row, RowId};
+use cip_lin::{Combo, Row, RowId, RowMultiple};
 use cip_plugin::{Plugin, Propagator, Reduction, View};
 use std::alloc::{AllocError, Global};
 
@@ -59,6 +59,28 @@ fn may_add(combo: &Combo) -> bool {
     true
 }
 
+/// Adds sides of whole columns, or all of them where they show that the box has no point.
+fn add_sides(
+    alloc: Global,
+    view: &View<'_>,
+    implied: &[Implied],
+    rows: &[RowMultiple],
+    narrowing: Narrowing,
+    reductions: &mut Vec<Reduction>,
+) -> Result<(), AllocError> {
+    for item in implied {
+        if reductions.len() >= MOST_SIDES {
+            return Ok(());
+        }
+        if narrowing == Narrowing::Contradiction
+            || view.whole.get(item.col as usize) == Some(&true)
+        {
+            reductions.push(reduction_of(alloc, *item, rows)?)?;
+        }
+    }
+    Ok(())
+}
+
 impl ReducedCostPropagator {
     /// One that was never called. It takes no memory.
     pub fn new(alloc: Global) -> ReducedCostPropagator {
@@ -69,8 +91,7 @@ impl ReducedCostPropagator {
         }
     }
 
-    /// Adds what the row of reduced costs implies: sides of whole columns, or all of them where they show that the box
-    /// has no point.
+    /// Adds what the row of reduced costs implies.
     fn narrow(
         &mut self,
         alloc: Global,
@@ -87,16 +108,14 @@ impl ReducedCostPropagator {
         let most = view.costs.len();
         let narrowing = list_implied(row, Source::AtLeast, &region, most, &mut self.implied)?;
         let rows = self.cost_row.rows.as_slice();
-        for item in &self.implied {
-            if reductions.len() >= MOST_SIDES {
-                return Ok(());
-            }
-            let is_whole = view.whole.get(item.col as usize) == Some(&true);
-            if narrowing == Narrowing::Contradiction || is_whole {
-                reductions.push(reduction_of(alloc, *item, rows)?)?;
-            }
-        }
-        Ok(())
+        add_sides(
+            alloc,
+            view,
+            self.implied.as_slice(),
+            rows,
+            narrowing,
+            reductions,
+        )
     }
 
     /// The row of reduced costs, where the last linear program has a combination.
