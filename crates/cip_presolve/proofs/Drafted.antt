@@ -1,11 +1,14 @@
 -- A draft of a program's parts.
-use Rattle.std.proofs.Common.{◌≡◌, ◌∙◌, Bool, List, subst, sym, ap₂, arith}
-use Rattle.std.specs.Prelude.{All}
+use Rattle.std.proofs.Common.{◌≡◌, ◌∙◌, ℕ, zero, suc, Bool, List, [], ◌∷◌, length, subst, sym, ap₂, arith}
+use Rattle.std.specs.Prelude.{All, slice_set}
+use Rattle.std.specs.List.{AllByRecursion}
 use Rattle.cip_rational.specs.Rational.{ℚ}
 use Rattle.cip_problem.specs.Program.{Sides, Choice, Row, Program}
 use Rattle.cip_problem.specs.Activity.{StandsBelow}
 use Rattle.cip_problem.specs.WellFormed.{IsWellFormed}
+use Rattle.cip_search.specs.NarrowedPrograms.{with_row}
 use Rattle.cip_presolve.specs.DraftParts.{unnamed, IsDraft}
+use Rattle.cip_presolve.proofs.FixedColumns.{from_rec, to_rec}
 
 pub drafted : (program : Program) → IsWellFormed program → IsDraft (unnamed program)
 drafted program formed = record {
@@ -15,6 +18,21 @@ drafted program formed = record {
   rows = subst (λ n. All (λ row. StandsBelow n row.terms) program.rows) (sym formed.bounds) formed.rows;
   choices = formed.choices;
 }
+
+-- one with another row that stands on its columns
+pub row_set : (draft : Program) (number : ℕ) (row : Row) → IsDraft draft → StandsBelow (length draft.bounds) row.terms → IsDraft (with_row draft number row)
+row_set draft number row d s = record {
+  integral = d.integral;
+  costs = d.costs;
+  few = d.few;
+  rows = from_rec _ _ (all_set (λ r. StandsBelow (length draft.bounds) r.terms) draft.rows number row (to_rec _ _ d.rows) s);
+  choices = d.choices;
+}
+  where
+    all_set : (P : Row → Type 0) (rows : List Row) (n : ℕ) (r : Row) → AllByRecursion P rows → P r → AllByRecursion P (slice_set rows n r)
+    all_set P [] n r h p = tt
+    all_set P (x ∷ xs) zero r h p = (p, h.1)
+    all_set P (x ∷ xs) (suc n) r h p = (h.0, all_set P xs n r h.1 p)
 
 -- parts that are those of a program make its draft
 pub same_draft : (program : Program) (rows : List Row) (costs : List ℚ) (constant : ℚ) (integral : List Bool)

@@ -75,12 +75,30 @@ greatest_above terms box q e x h =
     subst (λ t. t ≤ℚ negate q) (negate_negate (activity terms x))
     (negate_mono (subst (λ t. q ≤ℚ t) (negated_activity terms x) (least_below (negated terms) box q e x h)))
 
+-- a value that is the other sign's other sign
+pub negated_back : (least : Least) (value : ℚ) → least ≡ Value value → least ≡ Value (negate (negate value))
+negated_back least value e = e ∙ ap Value (sym (negate_negate value))
+
+pub ruleset other_sign = (negated_back)
+
+-- least and greatest activity, where they are in range
+pub least_low : (box : List Sides) (terms : List Term) (low : Option ℚ) (l : Least) → IfSome low (λ v. l ≡ Value v) → l ≡ least_from zeroℚ terms box → IfSome low (IsBelow box terms)
+least_low box terms None l h e = tt
+least_low box terms (Some v) l h e = least_below terms box v (sym e ∙ h)
+
+pub greatest_high : (box : List Sides) (terms : List Term) (high : Option ℚ) (g : Least) → IfSome high (λ v. g ≡ Value (negate v)) → g ≡ least_from zeroℚ (negated terms) box → IfSome high (IsAbove box terms)
+greatest_high box terms None g h e = tt
+greatest_high box terms (Some v) g h e = subst (λ q. IsAbove box terms q) (negate_negate v) (greatest_above terms box (negate v) (sym e ∙ h))
+
 -- ---- what the extent says
 
-pub always : (box : List Sides) (row : Row) (extent sides : Sides) → sides ≡ record { low = row.low; high = row.high } → Encloses box row.terms extent → sides_inside extent sides ≡ true → HoldsInAll box row
-always box row extent sides e h k x w =
-    let b : Between sides.low sides.high (activity row.terms x) = sides_inside_holds extent sides (activity row.terms x) k (h x w) in
-    subst (λ (s : Sides). Between s.low s.high (activity row.terms x)) e b
+pub always : (box : List Sides) (row : Row) (extent : Sides) (low high : Option ℚ) → low ≡ row.low → high ≡ row.high → Encloses box row.terms extent → sides_inside extent (record { low = low; high = high }) ≡ true → HoldsInAll box row
+always box row extent low high e f h k x w =
+    let b : Between low high (activity row.terms x) = sides_inside_holds extent (record { low = low; high = high }) (activity row.terms x) k (h x w) in
+    record {
+      above = subst (λ o. IfSome o (λ side. side ≤ℚ activity row.terms x)) e b.above;
+      below = subst (λ o. IfSome o (λ side. activity row.terms x ≤ℚ side)) f b.below;
+    }
 
 pub past_below : (low high : Option ℚ) (v : ℚ) → is_past low high ≡ true → IfSome low (λ side. side ≤ℚ v) → IfSome high (λ side. v ≤ℚ side) → ⊥
 past_below None high v e h k = cc

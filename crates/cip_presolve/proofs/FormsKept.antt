@@ -14,6 +14,8 @@ use Rattle.cip_problem.proofs.Box.SideTests.{sides_inside_holds}
 use Rattle.cip_frac.specs.declared.operations.Wide.{Wide}
 use Rattle.cip_frac.specs.Outcomes.{and_then, sum_outcome, product_added}
 use Rattle.cip_frac.proofs.Outcomes.{product_added-value}
+use Rattle.std.specs.Bool.{OnTrue}
+use Rattle.cip_lin.specs.declared.outcomes.Least.{Least}
 use Rattle.cip_lin.specs.declared.outcomes.Least.TheVariants.{Value}
 use Rattle.cip_lin.specs.RowSums.{least_added, least_then, least_from}
 use Rattle.cip_lin.specs.MetSides.{is_past}
@@ -30,20 +32,21 @@ least_one sum factor q v own e h =
     let k : least_from sum (term ∷ []) (own ∷ []) ≡ Value q = ap (λ r. least_then r (λ more. Value more)) e in
     subst (λ t. q ≤ℚ sum +ℚ t) (+ℚ-zero (factor *ℚ v)) (least_sum_below sum (term ∷ []) (own ∷ []) q (v ∷ []) (h, tt) k)
 
-pub least_is : (form : Form) (own : Sides) (q : ℚ) → least_added form.constant form.factor own ≡ Value q → IsLeastOf form own q
-least_is form own q e v h = least_one form.constant form.factor q v own e h
+least_is : (form : Form) (own : Sides) (low : Option ℚ) (l : Least) → IfSome low (λ v. l ≡ Value v) → l ≡ least_added form.constant form.factor own → IfSome low (IsLeastOf form own)
+least_is form own None l h e = tt
+least_is form own (Some q) l h e = λ v b. least_one form.constant form.factor q v own (sym e ∙ h) b
 
-pub ruleset least = (least_is)
+greatest_by : (form : Form) (own : Sides) (q : ℚ) → least_added (negate form.constant) (negate form.factor) own ≡ Value (negate q) → IsGreatestOf form own q
+greatest_by form own q e v b =
+    let k : negate q ≤ℚ negate form.constant +ℚ negate form.factor *ℚ v = least_one (negate form.constant) (negate form.factor) (negate q) v own e b in
+    let p : negate form.factor *ℚ v ≡ negate (form.factor *ℚ v) = negate-*ℚ form.factor v in
+    linear_le (q ∷ form.constant ∷ (form.factor *ℚ v) ∷ (negate form.factor *ℚ v) ∷ []) (λ s w. omega (arith, s.le_out, s.same_out))
 
-pub greatest_is : (form : Form) (own : Sides) (constant factor q greatest : ℚ) → least_added constant factor own ≡ Value q → constant ≡ negate form.constant → factor ≡ negate form.factor → greatest ≡ negate q → IsGreatestOf form own greatest
-greatest_is form own constant factor q greatest e c f g v h =
-    let k : q ≤ℚ constant +ℚ factor *ℚ v = least_one constant factor q v own e h in
-    let p : factor *ℚ v ≡ negate (form.factor *ℚ v) = ap (λ t. t *ℚ v) f ∙ negate-*ℚ form.factor v in
-    linear_le (q ∷ constant ∷ (factor *ℚ v) ∷ form.constant ∷ (form.factor *ℚ v) ∷ greatest ∷ []) (λ s w. omega (arith, s.le_out, s.same_out))
+greatest_is : (form : Form) (own : Sides) (high : Option ℚ) (g : Least) → IfSome high (λ v. g ≡ Value (negate v)) → g ≡ least_added (negate form.constant) (negate form.factor) own → IfSome high (IsGreatestOf form own)
+greatest_is form own None g h e = tt
+greatest_is form own (Some q) g h e = greatest_by form own q (sym e ∙ h)
 
-pub ruleset greatest = (greatest_is)
-
-pub extent_keeps : (form : Form) (own : Sides) (low high : Option ℚ) → IfSome low (IsLeastOf form own) → IfSome high (IsGreatestOf form own) → FormKeeps form own (record { low = low; high = high })
+extent_keeps : (form : Form) (own : Sides) (low high : Option ℚ) → IfSome low (IsLeastOf form own) → IfSome high (IsGreatestOf form own) → FormKeeps form own (record { low = low; high = high })
 extent_keeps form own low high h k v b = record { above = lower low h; below = upper high k }
   where
     lower : (low : Option ℚ) → IfSome low (IsLeastOf form own) → IfSome low (λ side. side ≤ℚ form.constant +ℚ form.factor *ℚ v)
@@ -54,12 +57,12 @@ extent_keeps form own low high h k v b = record { above = lower low h; below = u
     upper None k = tt
     upper (Some high) k = k v b
 
-pub ruleset extents = (extent_keeps)
-
-pub inside_keeps : (form : Form) (own extent outer : Sides) → FormKeeps form own extent → sides_inside extent outer ≡ true → FormKeeps form own outer
-inside_keeps form own extent outer k i v b = sides_inside_holds extent outer (form.constant +ℚ form.factor *ℚ v) i (k v b)
-
-pub ruleset kept = (inside_keeps)
+-- a form keeps sides where its least and its greatest value lie between them
+pub kept_by : (form : Form) (own outer : Sides) (low high : Option ℚ) (l g : Least) (r : Bool) → IfSome low (λ v. l ≡ Value v) → IfSome high (λ v. g ≡ Value (negate v)) → l ≡ least_added form.constant form.factor own → g ≡ least_added (negate form.constant) (negate form.factor) own → r ≡ sides_inside (record { low = low; high = high }) outer → OnTrue r (FormKeeps form own outer)
+kept_by form own outer low high l g false h k e f i = tt
+kept_by form own outer low high l g true h k e f i = λ v b.
+    sides_inside_holds (record { low = low; high = high }) outer (form.constant +ℚ form.factor *ℚ v) (sym i)
+    (extent_keeps form own low high (least_is form own low l h e) (greatest_is form own high g k f) v b)
 
 -- a number whose parts are small is in range
 pub fits_by : (q : ℚ) (n d : ℤ) → n ≡ numerator q → magnitude n ≤ largest → d ≡ pos (denominator q) → magnitude d ≤ largest → fits_range q ≡ true

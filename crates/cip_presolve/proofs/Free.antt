@@ -83,10 +83,6 @@ pub not_down : (c : ℚ) (r : Bool) → (IsTrue r ↔ (c <ℚ zeroℚ)) → OnTr
 not_down c true h = tt
 not_down c false h = le_of_not_lt c zeroℚ (λ l. true≢false (sym (h.1 l)))
 
-pub both_let : (low high : Option ℚ) (c : ℚ) (r : Bool) → IfSome low (λ side. c ≤ℚ zeroℚ) → OnTrue r (IfSome high (λ side. zeroℚ ≤ℚ c)) → OnTrue r (LetsFall low high c)
-both_let low high c true h k = record { low = h; high = k }
-both_let low high c false h k = tt
-
 -- ---- after so many terms
 
 pub record LockedTo (rising : Bool) (old free : List Bool) (low high : Option ℚ) (terms : List Term) (n : ℕ) : Type 0 where
@@ -96,11 +92,25 @@ pub record LockedTo (rising : Bool) (old free : List Bool) (low high : Option �
 pub none_locked : (rising : Bool) (old : List Bool) (low high : Option ℚ) (terms : List Term) → LockedTo rising old old low high terms 0
 none_locked rising old low high terms = record { fewer = fewer_self old; stay = tt }
 
-pub term_next : (rising : Bool) (old free new : List Bool) (low high : Option ℚ) (terms : List Term) (n : ℕ) (t : Term) → LockedTo rising old free low high terms n → n < length terms → t ≡ get_or terms n t → FreeFewer free new → TermFree rising new low high t → LockedTo rising old new low high terms (n + 1)
+term_next : (rising : Bool) (old free new : List Bool) (low high : Option ℚ) (terms : List Term) (n : ℕ) (t : Term) → LockedTo rising old free low high terms n → n < length terms → t ≡ get_or terms n t → FreeFewer free new → TermFree rising new low high t → LockedTo rising old new low high terms (n + 1)
 term_next rising old free new low high terms n t k below is f l = record {
   fewer = fewer_after old free new k.fewer f;
   stay = all_more_one (TermFree rising new low high) terms n t (slice_get_read terms (length terms) n t refl below is) (terms_stay rising free new low high (take n terms) f k.stay) l;
 }
+
+-- a term that lets its column fall
+pub term_lets : (rising : Bool) (old free : List Bool) (low high : Option ℚ) (terms : List Term) (n : ℕ) (t : Term) (c : ℚ) → LockedTo rising old free low high terms n → n < length terms → t ≡ get_or terms n t → c ≡ turned rising t.coefficient → IfSome low (λ side. c ≤ℚ zeroℚ) → IfSome high (λ side. zeroℚ ≤ℚ c) → LockedTo rising old free low high terms (n + 1)
+term_lets rising old free low high terms n t c k below is e l h =
+    term_next rising old free free low high terms n t k below is (fewer_self free)
+    (λ g. subst (λ q. LetsFall low high q) e (record { low = l; high = h }))
+
+-- one whose column is free no more
+pub term_locks : (rising : Bool) (old free new : List Bool) (low high : Option ℚ) (terms : List Term) (n column : ℕ) (t : Term) → LockedTo rising old free low high terms n → n < length terms → t ≡ get_or terms n t → column ≡ t.column → new ≡ slice_set free column false → LockedTo rising old new low high terms (n + 1)
+term_locks rising old free new low high terms n column t k below is c e =
+    let s : new ≡ slice_set free t.column false = e ∙ ap (λ m. slice_set free m false) c in
+    term_next rising old free new low high terms n t k below is
+    (subst (λ (f : List Bool). FreeFewer free f) (sym s) (set_fewer free t.column))
+    (λ g. absurd (set_locked free t.column (subst (λ (f : List Bool). slice_get f t.column ≡ Some true) s g)))
 
 pub term_within : (rising : Bool) (old free : List Bool) (low high : Option ℚ) (terms : List Term) (n : ℕ) (t : Term) → LockedTo rising old free low high terms n → StandsBelow (length old) terms → n < length terms → t ≡ get_or terms n t → t.column < length free
 term_within rising old free low high terms n t k s below is = let g : slice_get terms n ≡ Some t = slice_get_read terms (length terms) n t refl below is in let e = k.fewer.long in let l = all_at (λ u. u.column < length old) terms n t s g in omega (arith, e, l)
@@ -108,25 +118,7 @@ term_within rising old free low high terms n t k s below is = let g : slice_get 
 pub all_locked : (rising : Bool) (old free : List Bool) (low high : Option ℚ) (terms : List Term) (n : ℕ) → LockedTo rising old free low high terms n → length terms ≤ n → TermsFree rising free low high terms
 all_locked rising old free low high terms n k e = subst (λ (ts : List Term). TermsFree rising free low high ts) (take_whole terms n e) k.stay
 
-pub ruleset locked_terms = (none_locked, term_next, term_within, all_locked)
-
-pub term_lets : (rising : Bool) (free : List Bool) (low high : Option ℚ) (t : Term) → LetsFall low high (turned rising t.coefficient) → TermFree rising free low high t
-term_lets rising free low high t l e = l
-
-pub term_locks : (rising : Bool) (free new : List Bool) (low high : Option ℚ) (t : Term) → new ≡ slice_set free t.column false → TermFree rising new low high t
-term_locks rising free new low high t e h = absurd (set_locked free t.column (subst (λ (f : List Bool). slice_get f t.column ≡ Some true) e h))
-
-pub lock_fewer : (free new : List Bool) (n : ℕ) → new ≡ slice_set free n false → FreeFewer free new
-lock_fewer free new n e = subst (λ (f : List Bool). FreeFewer free f) (sym e) (set_fewer free n)
-
-pub ruleset locked_term = (fewer_self, term_lets, term_locks, lock_fewer)
-
--- ---- a row
-
-pub row_spent : (rising : Bool) (free : List Bool) (forms : List (Option Form)) (row : Row) → IsSpent forms row → RowFree rising free forms row
-row_spent rising free forms row s = inl s
-
-pub ruleset locked_row = (fewer_self, row_spent)
+pub ruleset locked_terms = (none_locked, term_within, all_locked)
 
 -- ---- after so many rows
 
@@ -137,18 +129,27 @@ pub record RowsLockedTo (rising : Bool) (old free : List Bool) (forms : List (Op
 pub no_rows : (rising : Bool) (old : List Bool) (forms : List (Option Form)) (rows : List Row) → RowsLockedTo rising old old forms rows 0
 no_rows rising old forms rows = record { fewer = fewer_self old; stay = tt }
 
-pub row_locked : (rising : Bool) (old free new : List Bool) (forms : List (Option Form)) (rows : List Row) (n : ℕ) (row : Row) → RowsLockedTo rising old free forms rows n → n < length rows → row ≡ get_or rows n row → FreeFewer free new → RowFree rising new forms row → RowsLockedTo rising old new forms rows (n + 1)
-row_locked rising old free new forms rows n row k below is f t = record {
+row_next : (rising : Bool) (old free new : List Bool) (forms : List (Option Form)) (rows : List Row) (n : ℕ) (row : Row) → RowsLockedTo rising old free forms rows n → n < length rows → row ≡ get_or rows n row → FreeFewer free new → RowFree rising new forms row → RowsLockedTo rising old new forms rows (n + 1)
+row_next rising old free new forms rows n row k below is f t = record {
   fewer = fewer_after old free new k.fewer f;
   stay = all_more_one (λ r. RowFree rising new forms r) rows n row (slice_get_read rows (length rows) n row refl below is) (rows_stay rising free new forms (take n rows) f k.stay) t;
 }
 
-pub row_stands : (rising : Bool) (old free : List Bool) (forms : List (Option Form)) (rows : List Row) (n : ℕ) (row : Row) → RowsLockedTo rising old free forms rows n → All (λ r. StandsBelow (length old) r.terms) rows → n < length rows → row ≡ get_or rows n row → StandsBelow (length free) row.terms
-row_stands rising old free forms rows n row k s below is =
+pub row_spent : (rising : Bool) (old free : List Bool) (forms : List (Option Form)) (rows : List Row) (n : ℕ) (row : Row) → RowsLockedTo rising old free forms rows n → n < length rows → row ≡ get_or rows n row → IsSpent forms row → RowsLockedTo rising old free forms rows (n + 1)
+row_spent rising old free forms rows n row k below is s = row_next rising old free free forms rows n row k below is (fewer_self free) (inl s)
+
+pub row_locked : (rising : Bool) (old free new : List Bool) (forms : List (Option Form)) (rows : List Row) (n : ℕ) (row : Row) (low high : Option ℚ) (terms : List Term) → RowsLockedTo rising old free forms rows n → n < length rows → row ≡ get_or rows n row → FreeFewer free new → low ≡ row.low → high ≡ row.high → terms ≡ row.terms → TermsFree rising new low high terms → RowsLockedTo rising old new forms rows (n + 1)
+row_locked rising old free new forms rows n row low high terms k below is f l h e t =
+    row_next rising old free new forms rows n row k below is f
+    (inr (subst (λ (ts : List Term). TermsFree rising new row.low row.high ts) e
+    (subst (λ o. TermsFree rising new row.low o terms) h (subst (λ o. TermsFree rising new o high terms) l t))))
+
+pub row_stands : (rising : Bool) (columns : ℕ) (old free : List Bool) (forms : List (Option Form)) (rows : List Row) (n : ℕ) (row : Row) (terms : List Term) → RowsLockedTo rising old free forms rows n → length old ≡ columns → All (λ r. StandsBelow columns r.terms) rows → n < length rows → row ≡ get_or rows n row → terms ≡ row.terms → StandsBelow (length free) terms
+row_stands rising columns old free forms rows n row terms k long s below is e =
     let g : slice_get rows n ≡ Some row = slice_get_read rows (length rows) n row refl below is in
-    subst (λ m. StandsBelow m row.terms) (sym k.fewer.long) (all_at (λ r. StandsBelow (length old) r.terms) rows n row s g)
+    subst (λ m. StandsBelow m terms) (sym (k.fewer.long ∙ long)) (subst (λ (ts : List Term). StandsBelow columns ts) (sym e) (all_at (λ r. StandsBelow columns r.terms) rows n row s g))
 
 pub all_rows : (rising : Bool) (old free : List Bool) (forms : List (Option Form)) (rows : List Row) (n : ℕ) → RowsLockedTo rising old free forms rows n → length rows ≤ n → RowsFree rising free forms rows
 all_rows rising old free forms rows n k e = subst (λ (rs : List Row). RowsFree rising free forms rs) (take_whole rows n e) k.stay
 
-pub ruleset locked_rows = (no_rows, row_locked, row_stands, all_rows)
+pub ruleset locked_rows = (no_rows, all_rows)

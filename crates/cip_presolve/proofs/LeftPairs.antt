@@ -232,9 +232,6 @@ renamed_exact program draft s = record {
 pub infeasible_named : (program draft : Program) → IsStep (unnamed program) draft → IsInfeasible draft → IsInfeasible program
 infeasible_named program draft s f y h = infeasible_before (unnamed program) draft s f y (unnamed_point program y h)
 
-pub infeasible_exactly : (program draft : Program) → IsExactStep (unnamed program) draft → IsInfeasible draft → IsInfeasible program
-infeasible_exactly program draft s f y h = f y (s.keeps y (unnamed_point program y h))
-
 -- lists of the draft are as long as the program's
 long_draft : (program draft : Program) → IsWellFormed program → IsStep (unnamed program) draft → length draft.bounds ≡ columns program
 long_draft program draft formed s = sym (all_long draft.bounds program.bounds s.narrowed.inside) ∙ formed.bounds

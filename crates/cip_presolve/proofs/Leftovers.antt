@@ -62,6 +62,10 @@ pub map_more : {X Y : Type 0} (f : X → Y) (k : ℕ) (xs : List X) (d : X) (mad
 map_more f k xs d made more all y l e p g =
     rw add-one (moved_over made more (map f (drop k xs)) (map f (drop (suc k) xs)) all (f (get_or xs k d)) (p ∙ ap (λ t. made ++ t ∷ []) e) (map_one f k xs d l) g)
 
+pub length_map : {X Y : Type 0} (f : X → Y) (xs : List X) → length (map f xs) ≡ length xs
+length_map f [] = refl
+length_map f (x ∷ xs) = ap (λ n. suc n) (length_map f xs)
+
 map_none : {X Y : Type 0} (f : X → Y) (k : ℕ) (xs : List X) → length xs ≤ k → map f (drop k xs) ≡ []
 map_none f zero [] l = refl
 map_none f (suc k) [] l = refl

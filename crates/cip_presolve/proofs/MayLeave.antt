@@ -114,4 +114,4 @@ form_added program forms new column form m g e =
 pub inside_forms : (program : Program) (forms : List (Option Form)) (column : ℕ) (form : Form) → MayAllGo program forms → GoesByForm program column form → column < length forms
 inside_forms program forms column form m g = let l = m.long in let i = g.inside in omega (arith, l, i)
 
-pub ruleset added = (form_added, inside_forms)
+pub ruleset added = (inside_forms)

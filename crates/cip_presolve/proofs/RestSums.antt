@@ -15,6 +15,7 @@ use Rattle.cip_problem.proofs.Points.AtPlaces.{in_box_at, IsInBox-long}
 use Rattle.cip_frac.specs.Outcomes.{product_added}
 use Rattle.cip_frac.specs.declared.operations.Wide.{Wide}
 use Rattle.cip_frac.proofs.Outcomes.{product_added-value}
+use Rattle.cip_presolve.specs.Least.{Least}
 use Rattle.cip_presolve.specs.Least.TheVariants.{Value}
 use Rattle.cip_presolve.specs.RowSums.{least_side, least_of, least_at, least_added}
 use Rattle.cip_presolve.specs.RowReading.{Encloses}
@@ -38,15 +39,23 @@ at_side : (c m : ℚ) (o : Option ℚ) → least_at zeroℚ c o ≡ Value m → 
 at_side c m None e = let f : ⊥ = cc in absurd f
 at_side c m (Some side) e = record { side = side; is = refl; value = least_value c side m (product_added zeroℚ c side) (product_added-value zeroℚ c side) e }
 
-pub least_product_is : (c m : ℚ) (sides : Sides) → least_added zeroℚ c sides ≡ Value m → IsLeastProduct c sides m
+least_product_is : (c m : ℚ) (sides : Sides) → least_added zeroℚ c sides ≡ Value m → IsLeastProduct c sides m
 least_product_is c m sides e =
     let p = at_side c m (least_side c sides) e in
     record { side = p.side; is = p.is; value = p.value }
 
-pub greatest_product_is : (c m : ℚ) (sides : Sides) → least_added zeroℚ (negate c) sides ≡ Value m → IsGreatestProduct c sides (negate m)
+greatest_product_is : (c m : ℚ) (sides : Sides) → least_added zeroℚ (negate c) sides ≡ Value m → IsGreatestProduct c sides (negate m)
 greatest_product_is c m sides e =
     let p = at_side (negate c) m (least_side (negate c) sides) e in
     record { side = p.side; is = p.is; value = ap negate (p.value ∙ negate-*ℚ c p.side) ∙ negate_negate (c *ℚ p.side) }
+
+least_product_of : (c : ℚ) (sides : Sides) (own : Option ℚ) (l : Least) → IfSome own (λ v. l ≡ Value v) → l ≡ least_added zeroℚ c sides → IfSome own (IsLeastProduct c sides)
+least_product_of c sides None l h e = tt
+least_product_of c sides (Some m) l h e = least_product_is c m sides (sym e ∙ h)
+
+greatest_product_of : (c : ℚ) (sides : Sides) (own : Option ℚ) (g : Least) → IfSome own (λ v. g ≡ Value (negate v)) → g ≡ least_added zeroℚ (negate c) sides → IfSome own (IsGreatestProduct c sides)
+greatest_product_of c sides None g h e = tt
+greatest_product_of c sides (Some m) g h e = subst (λ q. IsGreatestProduct c sides q) (negate_negate m) (greatest_product_is c (negate m) sides (sym e ∙ h))
 
 pub difference_is : (minuend subtrahend difference : ℚ) → difference ≡ minuend -ℚ subtrahend → IsDifference (Some minuend) (Some subtrahend) difference
 difference_is minuend subtrahend difference h = record { minuend = minuend; subtrahend = subtrahend; is_side = refl; is_rest = refl; value = h }
@@ -204,14 +213,6 @@ less_stands n terms less at e h = subst (λ (ts : List Term). StandsBelow n ts) 
 
 pub ruleset summed = (rests_by, none_known, less_stands)
 
-pub rests_are : (box : List Sides) (terms : List Term) (at : ℕ) (low high : Option ℚ) (sides : Sides) → IfSome low (IsRestBelow box terms at) → IfSome high (IsRestAbove box terms at) → sides.low ≡ low → sides.high ≡ high → AreRests box terms at sides
-rests_are box terms at low high sides l h e k = record {
-  below = subst (λ o. IfSome o (IsRestBelow box terms at)) (sym e) l;
-  above = subst (λ o. IfSome o (IsRestAbove box terms at)) (sym k) h;
-}
-
-pub ruleset resting = (rests_are)
-
 -- ---- the rest
 
 module _ (box : List Sides) (terms : List Term) (k : ℕ) (are : AreTerms terms) (stands : StandsBelow (length box) terms) (inside : k < length terms) where
@@ -243,7 +244,7 @@ module _ (box : List Sides) (terms : List Term) (k : ℕ) (are : AreTerms terms)
       let v = q.value in
       linear_le (r ∷ greatest ∷ p ∷ (coefficient_at terms k *ℚ q.side) ∷ product_at terms k x ∷ activity terms x ∷ activity terms (slice_set x (column_at terms k) q.side) ∷ []) (λ s w. omega (arith, s.le_out, s.same_out))
 
-  pub rested_below : (term : Term) (extent : Sides) (own found : Option ℚ) → slice_get terms k ≡ Some term → Encloses box terms extent → IfSome own (IsLeastProduct term.coefficient (sides_at box term.column)) → IfSome found (IsDifference extent.low own) → IfSome found (IsRestBelow box terms k)
+  rested_below : (term : Term) (extent : Sides) (own found : Option ℚ) → slice_get terms k ≡ Some term → Encloses box terms extent → IfSome own (IsLeastProduct term.coefficient (sides_at box term.column)) → IfSome found (IsDifference extent.low own) → IfSome found (IsRestBelow box terms k)
   rested_below term extent own None g h o d = tt
   rested_below term extent own (Some r) g h o d =
       let t : slice_index_or terms k no_term ≡ term = get_or_from_slice_get terms k term no_term g in
@@ -252,7 +253,7 @@ module _ (box : List Sides) (terms : List Term) (k : ℕ) (are : AreTerms terms)
       (λ x w. subst (λ z. IfSome z (λ side. side ≤ℚ activity terms x)) d.is_side (h x w).above)
       (subst (λ (u : Term). IsLeastProduct u.coefficient (sides_at box u.column) d.subtrahend) (sym t) q) d.value
 
-  pub rested_above : (term : Term) (extent : Sides) (own found : Option ℚ) → slice_get terms k ≡ Some term → Encloses box terms extent → IfSome own (IsGreatestProduct term.coefficient (sides_at box term.column)) → IfSome found (IsDifference extent.high own) → IfSome found (IsRestAbove box terms k)
+  rested_above : (term : Term) (extent : Sides) (own found : Option ℚ) → slice_get terms k ≡ Some term → Encloses box terms extent → IfSome own (IsGreatestProduct term.coefficient (sides_at box term.column)) → IfSome found (IsDifference extent.high own) → IfSome found (IsRestAbove box terms k)
   rested_above term extent own None g h o d = tt
   rested_above term extent own (Some r) g h o d =
       let t : slice_index_or terms k no_term ≡ term = get_or_from_slice_get terms k term no_term g in
@@ -260,3 +261,10 @@ module _ (box : List Sides) (terms : List Term) (k : ℕ) (are : AreTerms terms)
       above_rest d.minuend d.subtrahend r
       (λ x w. subst (λ z. IfSome z (λ side. activity terms x ≤ℚ side)) d.is_side (h x w).below)
       (subst (λ (u : Term). IsGreatestProduct u.coefficient (sides_at box u.column) d.subtrahend) (sym t) q) d.value
+
+  -- what is left of the sides of an activity, by the least and the greatest product of the term
+  pub rested : (term : Term) (extent : Sides) (own more low high : Option ℚ) (l g : Least) → slice_get terms k ≡ Some term → Encloses box terms extent → IfSome own (λ v. l ≡ Value v) → IfSome more (λ v. g ≡ Value (negate v)) → l ≡ least_added zeroℚ term.coefficient (sides_at box term.column) → g ≡ least_added zeroℚ (negate term.coefficient) (sides_at box term.column) → IfSome low (IsDifference extent.low own) → IfSome high (IsDifference extent.high more) → AreRests box terms k (record { low = low; high = high })
+  rested term extent own more low high l g s h a b e f d u = record {
+    below = rested_below term extent own low s h (least_product_of term.coefficient (sides_at box term.column) own l a e) d;
+    above = rested_above term extent more high s h (greatest_product_of term.coefficient (sides_at box term.column) more g b f) u;
+  }

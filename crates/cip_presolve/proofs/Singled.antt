@@ -6,7 +6,7 @@ use Rattle.cip_rational.proofs.Rational.Order.{≤ℚ_refl, ≤ℚ_trans, test_o
 use Rattle.cip_rational.proofs.Rational.Ring.{+ℚ-zero}
 use Rattle.cip_rational.proofs.Rational.Extremes.{maximum_ge, minimum_le}
 use Rattle.cip_rational.proofs.Rational.Rounding.{floor_le, le_ceil}
-use Rattle.cip_problem.specs.Program.{Term, Sides, Row, Program}
+use Rattle.cip_problem.specs.Program.{Term, Sides, Row, Program, no_row}
 use Rattle.cip_problem.specs.Activity.{activity, value_at, StandsBelow}
 use Rattle.cip_problem.specs.Box.{Between, sides_at, low_inside, high_inside, sides_inside}
 use Rattle.cip_problem.specs.Choices.{greater, lesser, met, choice_at, is_open}
@@ -18,13 +18,11 @@ use Rattle.cip_problem.proofs.Rounding.{sides_rounded}
 use Rattle.cip_presolve.specs.MetSides.{is_past}
 use Rattle.cip_presolve.specs.NarrowedPrograms.{IsExactStep, IsInfeasible, with_row, with_sides}
 use Rattle.cip_presolve.specs.RowSteps.{divided_sides}
-use Rattle.cip_problem.specs.Program.{no_row}
 use Rattle.cip_search.proofs.RowSteps.{single_taken, divided, multiplied}
 use Rattle.cip_search.proofs.Pairing.{exact_self}
 use Rattle.cip_presolve.specs.SingleRows.{HasOneTerm, inward_if, single_sides}
 use Rattle.cip_presolve.specs.RuleEnds.{IsSingled}
 use Rattle.cip_presolve.proofs.Enclosing.{past_below}
-use Rattle.cip_presolve.proofs.Ruled.{cleaned_by}
 use Rattle.cip_presolve.proofs.Merged.{count_same}
 
 -- ---- met sides
@@ -113,4 +111,4 @@ pub ruleset single_rows = (singled, one_stands)
 
 pub ruleset taking = (exact_self, taken_by, count_same)
 
-pub ruleset cleaning = (exact_self, cleaned_by, count_same)
+pub ruleset cleaning = (exact_self, count_same)

@@ -13,7 +13,6 @@ use Rattle.cip_presolve.specs.SpentRows.{IsSpentBy, TermsInBut, RowGoes, RowsGo}
 use Rattle.cip_presolve.specs.KeptRows.{RowKept, RowsKept}
 use Rattle.cip_presolve.proofs.FilledPoints.{before_or_at}
 use Rattle.cip_presolve.proofs.Free.{all_more_one, take_whole}
-use Rattle.cip_presolve.proofs.RowsSpent.{spent_by}
 
 -- ---- one column stays
 
@@ -125,10 +124,6 @@ source_within old forms n s l = let k = s.fewer.long in omega (arith, k, l)
 
 pub ruleset all_sources = (no_sources, next_source, sources_fewer, all_sources_stay, source_within)
 
--- ---- a row that gives a column its form
-
-pub ruleset spent = (spent_by)
-
 -- ---- terms
 
 terms_stay : (old new : List (Option Form)) (terms : List Term) → GoFewer old new → TermsIn old terms → TermsIn new terms
@@ -170,7 +165,15 @@ all_kept old forms but terms n k e = subst (λ (ts : List Term). TermsInBut form
 pub terms_fewer : (old forms : List (Option Form)) (but : Option ℕ) (terms : List Term) (n : ℕ) → KeptTo old forms but terms n → GoFewer old forms
 terms_fewer old forms but terms n k = k.fewer
 
-pub ruleset term_stays = (no_terms, term_kept, term_within, all_kept, terms_fewer)
+-- a term of the column that needn't stay
+pub term_but : (old forms : List (Option Form)) (but : Option ℕ) (terms : List Term) (n column : ℕ) (t : Term) → KeptTo old forms but terms n → n < length terms → t ≡ get_or terms n t → column ≡ t.column → but ≡ Some column → KeptTo old forms but terms (n + 1)
+term_but old forms but terms n column t k below is e b = term_kept old forms forms but terms n t k below is (fewer_self forms) (inl (b ∙ ap Some e))
+
+-- one whose column stays
+pub term_in : (old forms new : List (Option Form)) (but : Option ℕ) (terms : List Term) (n column : ℕ) (t : Term) → KeptTo old forms but terms n → n < length terms → t ≡ get_or terms n t → column ≡ t.column → GoFewer forms new → IsIn new column → KeptTo old new but terms (n + 1)
+term_in old forms new but terms n column t k below is e f i = term_kept old forms new but terms n t k below is f (inr (subst (λ m. IsIn new m) e i))
+
+pub ruleset term_stays = (no_terms, term_within, all_kept, terms_fewer)
 
 -- ---- rows
 

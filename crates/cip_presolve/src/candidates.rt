@@ -3,17 +3,15 @@ ghost use Rattle.std.specs.Prelude.{◌≡◌, ◌<◌, true, length, slice_get,
 ghost use Rattle.std.specs.Bool.{OnTrue};
 ghost use Rattle.cip_rational.specs.Rational.{IsWhole};
 ghost use Rattle.cip_rational.specs.Range.{fits_range};
-ghost use Rattle.cip_problem.specs.Box.{sides_at};
 ghost use Rattle.cip_presolve.specs.Forms.{constant_form};
 ghost use Rattle.cip_presolve.specs.ColumnForms.{IsSubstitute};
-ghost use Rattle.cip_presolve.specs.FormEnds.{FormKeeps};
 ghost use Rattle.cip_presolve.specs.ColumnsOut.{IsPlainAndFree, GoesAtValue, GoesWhole, GoesByForm, MayAllGo};
 
 use crate::drafts::Draft;
 use crate::fixed_columns::only_value;
 use crate::forms::{ColumnForm, form_at, is_substitute};
 use crate::keeping::{assigns, keeps};
-use crate::lone::RowCounts;
+use crate::lone::{is_lone, row_counts};
 use cip_frac::Frac;
 use std::alloc::{AllocError, Global};
 
@@ -67,7 +65,10 @@ fn value_out(draft: &Draft, column: u32) -> Option<ColumnForm>
 /// The forms of the columns that may be left out at one value, where no row has them; `Err` where the memory for them
 /// was refused.
 #[tactic(auto, using(crate::proofs::MayLeave::one_more))]
-fn values_out(alloc: Global, draft: &Draft) -> Result<Vec<Option<ColumnForm>>, AllocError>
+pub(crate) fn values_out(
+    alloc: Global,
+    draft: &Draft,
+) -> Result<Vec<Option<ColumnForm>>, AllocError>
     ensures { IfOk result (λ forms. MayAllGo draft.now forms.items) }
 {
     let mut forms = Vec::new(alloc);
@@ -90,19 +91,6 @@ fn lets_whole_go(draft: &Draft, column: u32, form: &ColumnForm) -> bool
     draft.is_whole(form.source) && assigns(form, draft.bounds().sides(form.source))
 }
 
-/// Whether the sides of a form's source keep its column's own, and the form lets the column go where that is whole.
-fn lets_go(draft: &Draft, column: u32, form: &ColumnForm) -> bool
-    requires { IsSubstitute draft.now column form.now }
-    ensures keeps { OnTrue result (FormKeeps form.now (sides_at draft.now.bounds form.now.source)
-        (sides_at draft.now.bounds column)) }
-    ensures whole { OnTrue result
-        (slice_get draft.now.integral column ≡ Some true → GoesWhole draft.now form.now) }
-{
-    let own = draft.bounds().sides(form.source);
-    let outer = draft.bounds().sides(column);
-    keeps(form, own, outer) && lets_whole_go(draft, column, form)
-}
-
 /// The form by which a column may be left out, where no other row has it: the one that a row gives it.
 #[tactic(auto, using(crate::proofs::MayLeave::by_form))]
 fn form_out(draft: &Draft, number: usize, column: u32) -> Option<ColumnForm>
@@ -115,27 +103,23 @@ fn form_out(draft: &Draft, number: usize, column: u32) -> Option<ColumnForm>
     if form.factor.is_zero() || !is_substitute(draft, column, &form) {
         return None;
     }
-    if !is_free(draft, column) || !lets_go(draft, column, &form) {
+    let own = draft.bounds().sides(form.source);
+    let outer = draft.bounds().sides(column);
+    if !is_free(draft, column)
+        || !keeps(&form, own, outer)
+        || !lets_whole_go(draft, column, &form)
+    {
         return None;
     }
     Some(form)
 }
 
-/// A column is left out by a form.
-#[tactic(auto, using(crate::proofs::MayLeave::added))]
-fn set_form(draft: &Draft, forms: &mut Vec<Option<ColumnForm>>, column: u32, form: ColumnForm)
-    requires may { MayAllGo draft.now forms.old.items }
-    requires goes { GoesByForm draft.now column form }
-    ensures { MayAllGo draft.now forms.new.items }
-{
-    forms[column as usize] = Some(form);
-}
-
 /// Leaves out a column by the form that a row gives it, where no other row has it and it may go: whether it did.
+#[tactic(auto, using(crate::proofs::MayLeave::added))]
 fn add_lone(
     draft: &Draft,
     forms: &mut Vec<Option<ColumnForm>>,
-    counts: &RowCounts,
+    counts: &[u32],
     number: usize,
     column: u32,
 ) -> bool
@@ -143,12 +127,12 @@ fn add_lone(
     requires may { MayAllGo draft.now forms.old.items }
     ensures { MayAllGo draft.now forms.new.items }
 {
-    if !counts.is_lone(column) {
+    if !is_lone(counts, column) {
         return false;
     }
     match form_out(draft, number, column) {
         Some(form) => {
-            set_form(draft, forms, column, form);
+            forms[column as usize] = Some(form);
             true
         }
         None => false,
@@ -157,7 +141,7 @@ fn add_lone(
 
 /// Leaves out one of the two columns of a row by the form that the row gives it, where no other row has it and it may
 /// go; else none.
-fn add_row(draft: &Draft, forms: &mut Vec<Option<ColumnForm>>, counts: &RowCounts, number: usize)
+fn add_row(draft: &Draft, forms: &mut Vec<Option<ColumnForm>>, counts: &[u32], number: usize)
     requires inside { number < length draft.now.rows }
     requires may { MayAllGo draft.now forms.old.items }
     ensures { MayAllGo draft.now forms.new.items }
@@ -169,34 +153,25 @@ fn add_row(draft: &Draft, forms: &mut Vec<Option<ColumnForm>>, counts: &RowCount
     }
 }
 
-/// Leaves out columns by the forms that rows give them. `Err` comes where the memory for the counts was refused.
-fn add_forms(
+/// Leaves out columns by the forms that rows give them, where equalities are taken. `Err` comes where the memory for
+/// the counts was refused.
+pub(crate) fn add_forms(
     alloc: Global,
     draft: &Draft,
     forms: &mut Vec<Option<ColumnForm>>,
+    equalities: bool,
 ) -> Result<(), AllocError>
     requires { MayAllGo draft.now forms.old.items }
     ensures { MayAllGo draft.now forms.new.items }
 {
-    let counts = RowCounts::new(alloc, draft.rows(), draft.bounds().len())?;
+    if !equalities {
+        return Ok(());
+    }
+    let Ok(counts) = row_counts(alloc, draft.rows(), draft.bounds().len()) else {
+        return Err(AllocError);
+    };
     for number in 0..draft.count() {
-        add_row(draft, forms, &counts, number);
+        add_row(draft, forms, counts.as_slice(), number);
     }
     Ok(())
-}
-
-/// The forms of the columns that may be left out, where no row has them but the one that gives the form: those of one
-/// value, and where equalities are taken, those with the form of a row. `Err` where the memory for them was refused.
-pub(crate) fn candidates(
-    alloc: Global,
-    draft: &Draft,
-    equalities: bool,
-) -> Result<Vec<Option<ColumnForm>>, AllocError>
-    ensures { IfOk result (λ forms. MayAllGo draft.now forms.items) }
-{
-    let mut forms = values_out(alloc, draft)?;
-    if equalities {
-        add_forms(alloc, draft, &mut forms)?;
-    }
-    Ok(forms)
 }

@@ -12,7 +12,7 @@ use cip_lin::{Row, Sides, Term};
 use std::marker::Model;
 
 /// A value as an affine form of that of one column: a constant, and a factor times the value of that column.
-#[derive(Clone, Copy, PartialEq, Eq)]
+#[derive(Clone, Copy)]
 pub struct ColumnForm {
     /// What is added.
     pub constant: Frac,

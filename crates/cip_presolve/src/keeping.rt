@@ -1,53 +1,22 @@
 //! Whether the sides of a form's source keep its value between others, and whole and in range.
-ghost use Rattle.std.specs.Prelude.{◌≡◌, true, IfSome};
+ghost use Rattle.std.specs.Prelude.{◌≡◌, true};
 ghost use Rattle.std.specs.Bool.{OnTrue};
 ghost use Rattle.cip_rational.specs.Rational.{ℚ, ◌+ℚ◌, ◌*ℚ◌, IsWhole};
 ghost use Rattle.cip_rational.specs.Range.{fits_range};
-ghost use Rattle.cip_presolve.specs.FormEnds.{FormKeeps, IsLeastOf, IsGreatestOf, FormAssigns};
+ghost use Rattle.cip_presolve.specs.FormEnds.{FormKeeps, FormAssigns};
 
+use crate::extents::{negated_value, value_of};
 use crate::forms::ColumnForm;
 use cip_frac::Frac;
-use cip_lin::{Least, Sides, add_least};
-
-/// The least value of a form where its source keeps its sides, where there is one in range.
-#[tactic(auto, using(crate::proofs::FormsKept::least))]
-fn least_of(form: &ColumnForm, own: Sides) -> Option<Frac>
-    ensures { IfSome result (IsLeastOf form.now own) }
-{
-    match add_least(form.constant, form.factor, own) {
-        Least::Value(value) => Some(value),
-        _ => None,
-    }
-}
-
-/// The greatest value of a form where its source keeps its sides, where there is one in range.
-#[tactic(auto, using(crate::proofs::FormsKept::greatest))]
-fn greatest_of(form: &ColumnForm, own: Sides) -> Option<Frac>
-    ensures { IfSome result (IsGreatestOf form.now own) }
-{
-    match add_least(form.constant.neg(), form.factor.neg(), own) {
-        Least::Value(value) => Some(value.neg()),
-        _ => None,
-    }
-}
-
-/// The least and the greatest value of a form as sides.
-#[tactic(auto, using(crate::proofs::FormsKept::extents))]
-fn extent_of(form: &ColumnForm, own: Sides) -> Sides
-    ensures { FormKeeps form.now own result }
-{
-    Sides {
-        low: least_of(form, own),
-        high: greatest_of(form, own),
-    }
-}
+use cip_lin::{Sides, add_least};
 
 /// Whether a form keeps sides wherever its source keeps its own, as far as its least and greatest value tell.
-#[tactic(auto, using(crate::proofs::FormsKept::kept))]
 pub fn keeps(form: &ColumnForm, own: Sides, outer: Sides) -> bool
     ensures { OnTrue result (FormKeeps form.now own outer) }
 {
-    extent_of(form, own).is_inside(outer)
+    let low = value_of(add_least(form.constant, form.factor, own));
+    let high = negated_value(add_least(form.constant.neg(), form.factor.neg(), own));
+    Sides { low, high }.is_inside(outer)
 }
 
 /// Whether the value of a form at a whole value of its source is in range, and so is the product that is formed before

@@ -2,7 +2,7 @@
 ghost use Rattle.std.specs.Prelude.{length, ◌<◌, ◌^◌};
 
 use cip_frac::Frac;
-use cip_lin::{Row, Term};
+use cip_lin::Row;
 use std::alloc::{AllocError, Global};
 
 /// A fingerprint with a number mixed in.
@@ -27,19 +27,15 @@ fn with_coef(print: u64, coef: Frac) -> u64 {
     mixed(mixed(mixed(print, over), under), sign)
 }
 
-/// The fingerprint of a row's terms.
-fn print_of(terms: &[Term]) -> u64 {
+/// The fingerprint of a row's terms, and behind it the row's number.
+fn key_of(row: &Row, number: u32) -> u128 {
     let mut print = 0xCBF2_9CE4_8422_2325u64;
-    for term in terms {
+    for term in row.terms() {
         print = with_coef(mixed(print, u64::from(term.col)), term.coef);
     }
-    print
-}
-
-/// A row's fingerprint, and behind it the row's number.
-fn key_of(row: &Row, number: u32) -> u128 {
-    let print = u128::from(print_of(row.terms()));
-    print.wrapping_mul(1 << 32).wrapping_add(u128::from(number))
+    u128::from(print)
+        .wrapping_mul(1 << 32)
+        .wrapping_add(u128::from(number))
 }
 
 /// The keys of the rows of two terms and more, in rising order; `Err` where the memory for them was refused.

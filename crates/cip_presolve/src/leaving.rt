@@ -3,7 +3,7 @@ ghost use Rattle.std.specs.Prelude.{IfOk};
 ghost use Rattle.cip_presolve.specs.ColumnsOut.{MayAllGo, SourcesStay};
 ghost use Rattle.cip_presolve.specs.SpentRows.{RowsGo};
 
-use crate::candidates::candidates;
+use crate::candidates::{add_forms, values_out};
 use crate::drafts::Draft;
 use crate::forms::ColumnForm;
 use crate::staying::{keep_rows, keep_sources};
@@ -23,7 +23,12 @@ pub fn forms_out(
     ensures rows { IfOk result (λ forms. RowsGo forms.items draft.now.rows) }
 {
     let _bounds = draft.bounds();
-    let mut forms = candidates(alloc, draft, equalities)?;
+    let Ok(mut forms) = values_out(alloc, draft) else {
+        return Err(AllocError);
+    };
+    let Ok(()) = add_forms(alloc, draft, &mut forms, equalities) else {
+        return Err(AllocError);
+    };
     keep_sources(&mut forms);
     keep_rows(&mut forms, draft.rows());
     Ok(forms)

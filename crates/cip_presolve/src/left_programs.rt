@@ -1,7 +1,6 @@
 //! What is left of a program at the end of presolve, and the way back from it.
 ghost use Rattle.std.specs.Prelude.{◌≡◌, ◌≤◌, None, IfOk, OnOk, length, map, replicate};
 ghost use Rattle.cip_problem.specs.Limits.{most_columns};
-ghost use Rattle.cip_problem.specs.WellFormed.{IsWellFormed};
 ghost use Rattle.cip_presolve.specs.Programs.{program_from};
 ghost use Rattle.cip_presolve.specs.NarrowedPrograms.{IsStep, IsExactStep};
 ghost use Rattle.cip_presolve.specs.DraftParts.{IsDraft, unnamed};
@@ -117,16 +116,6 @@ fn rows_left(alloc: Global, draft: Draft, gone: &[bool]) -> Result<Vec<Row>, All
     }
 }
 
-/// The program of these parts, with other rows.
-fn with_rows(parts: Parts, rows: Vec<Row>) -> Program
-    requires { IsWellFormed (record (program_from parts) { rows = rows.items }) }
-    ensures { result ≡ record (program_from parts) { rows = rows.items } }
-{
-    let mut parts = parts;
-    parts.rows = rows;
-    Program::new(parts)
-}
-
 /// What is left of a program in work, with the names of another program.
 fn left(
     alloc: Global,
@@ -137,12 +126,15 @@ fn left(
     requires { CanLeave program.now draft gone.now }
     ensures { IfOk result (λ reduced. reduced ≡ left_program program.now draft gone.now) }
 {
-    let Ok(parts) = columns_left(alloc, program, &draft, gone) else {
+    let Ok(mut parts) = columns_left(alloc, program, &draft, gone) else {
         drop(draft);
         return Err(AllocError);
     };
     match rows_left(alloc, draft, gone) {
-        Ok(rows) => Ok(with_rows(parts, rows)),
+        Ok(rows) => {
+            parts.rows = rows;
+            Ok(Program::new(parts))
+        }
         Err(error) => {
             drop(parts);
             Err(error)
@@ -321,10 +313,18 @@ impl Presolved {
         ensures exact { IfOk result (IsExactlyPresolved program.now) }
         ensures unchanged { IfOk result (IsUnchanged program.now) }
     {
-        let whole = program.whole().to_vec(alloc)?;
-        let forms = none_gone(alloc, program.columns())?;
-        let kept = numbers(alloc, program.columns())?;
-        let reduced = copied(alloc, program)?;
+        let Ok(whole) = program.whole().to_vec(alloc) else {
+            return Err(AllocError);
+        };
+        let Ok(forms) = none_gone(alloc, program.columns()) else {
+            return Err(AllocError);
+        };
+        let Ok(kept) = numbers(alloc, program.columns()) else {
+            return Err(AllocError);
+        };
+        let Ok(reduced) = copied(alloc, program) else {
+            return Err(AllocError);
+        };
         Ok(Presolved {
             reduced,
             steps: Steps::new(forms, whole),

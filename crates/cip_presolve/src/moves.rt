@@ -14,6 +14,7 @@ ghost use Rattle.cip_presolve.specs.Moves.{AreTargets, IsEntry, AreEntries, IsPl
 use crate::drafts::Draft;
 use crate::forms::ColumnForm;
 use crate::locks::free_columns;
+use crate::queues::Work;
 use cip_frac::{Frac, Wide};
 use cip_lin::Sides;
 use std::alloc::{AllocError, Global};
@@ -248,30 +249,30 @@ fn take_plan(draft: &mut Draft, plan: &[Option<Frac>])
     }
 }
 
-/// The numbers of the columns that move. `Err` comes where a growth was refused.
-fn moved_columns(alloc: Global, plan: &[Option<Frac>]) -> Result<Vec<u32>, AllocError>
+/// The rows of the columns that move wait from now on. `Err` comes where a growth was refused.
+fn tell_moved(work: &mut Work, plan: &[Option<Frac>]) -> Result<(), AllocError>
     requires { length plan.now < 2 ^ 32 }
 {
-    let mut numbers = Vec::new(alloc);
     for column in 0..plan.len() {
         if plan[column].is_some() {
-            numbers.push(column as u32)?;
+            work.column_changed(column as u32)?;
         }
     }
-    Ok(numbers)
+    Ok(())
 }
 
 /// Moves all columns that no row keeps from rising, or from falling, to their greatest or least values, where these
-/// cost no more, and those whose forms have such a column as source with it: the numbers of the columns that moved. A
-/// row that gives a column that is left out its form holds nothing. Nothing is done where a number isn't in range.
-/// `Err` comes where a growth was refused.
+/// cost no more, and those whose forms have such a column as source with it; their rows wait from then on. A row that
+/// gives a column that is left out its form holds nothing. Nothing is done where a number isn't in range. `Err` comes
+/// where a growth was refused.
 #[tactic(auto, using(crate::proofs::Planned::taking))]
 pub fn try_moves(
     alloc: Global,
     draft: &mut Draft,
     forms: &[Option<ColumnForm>],
     rising: bool,
-) -> Result<Vec<u32>, AllocError>
+    work: &mut Work,
+) -> Result<(), AllocError>
     requires may { MayAllGo draft.old forms.now }
     requires sources { SourcesStay forms.now }
     requires rows { RowsGo forms.now draft.old.rows }
@@ -280,9 +281,8 @@ pub fn try_moves(
 {
     let _bounds = draft.bounds();
     let Some(plan) = planned(alloc, draft, forms, rising)? else {
-        return Ok(Vec::new(alloc));
+        return Ok(());
     };
-    let numbers = moved_columns(alloc, plan.as_slice())?;
     take_plan(draft, plan.as_slice());
-    Ok(numbers)
+    tell_moved(work, plan.as_slice())
 }

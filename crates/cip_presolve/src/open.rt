@@ -1,10 +1,9 @@
 //! Where the extents of a row are open: hints, of which nothing is promised.
 ghost use Rattle.std.specs.Prelude.{◌<◌, length};
-ghost use Rattle.cip_problem.specs.Activity.{StandsBelow};
 
 use crate::drafts::Draft;
 use cip_frac::Frac;
-use cip_lin::{Bounds, Row, Sides};
+use cip_lin::Sides;
 
 /// The one place at which something was found, and how often it was.
 #[derive(Clone, Copy)]
@@ -14,11 +13,6 @@ struct Found {
 }
 
 impl Found {
-    /// Nothing was found yet.
-    fn none() -> Found {
-        Found { place: 0, count: 0 }
-    }
-
     /// It was found at a place too, if it was.
     fn and(self, place: usize, is_found: bool) -> Found {
         if is_found {
@@ -65,13 +59,17 @@ fn is_open_below(coef: Frac, sides: Sides) -> bool {
     }
 }
 
-fn places_of(row: &Row, bounds: &Bounds) -> OpenPlaces
-    requires { StandsBelow (length bounds.now) row.now.terms }
+/// The places of the terms of a row that alone leave its least or its greatest activity open.
+pub fn open_places(draft: &Draft, number: usize) -> OpenPlaces
+    requires { number < length draft.now.rows }
 {
-    let mut low = Found::none();
-    let mut high = Found::none();
-    for at in 0..row.terms().len() {
-        let term = row.terms()[at];
+    let bounds = draft.bounds();
+    let terms = draft.row(number).terms();
+    let none = Found { place: 0, count: 0 };
+    let mut low = none;
+    let mut high = none;
+    for at in 0..terms.len() {
+        let term = terms[at];
         let sides = bounds.sides(term.col);
         low = low.and(at, is_open_below(term.coef, sides));
         high = high.and(at, is_open_below(term.coef.neg(), sides));
@@ -80,12 +78,4 @@ fn places_of(row: &Row, bounds: &Bounds) -> OpenPlaces
         low: low.only(),
         high: high.only(),
     }
-}
-
-/// The places of the terms of a row that alone leave its least or its greatest activity open.
-pub fn open_places(draft: &Draft, number: usize) -> OpenPlaces
-    requires { number < length draft.now.rows }
-{
-    let _formed = draft.count();
-    places_of(draft.row(number), draft.bounds())
 }

@@ -1,5 +1,8 @@
 //! Presolve.
-ghost use Rattle.std.specs.Prelude.{IfOk};
+ghost use Rattle.std.specs.Prelude.{◌≡◌, IfOk, length};
+ghost use Rattle.cip_search.specs.NarrowedPrograms.{IsStep, IsExactStep};
+ghost use Rattle.cip_presolve.specs.DraftParts.{unnamed};
+ghost use Rattle.cip_presolve.specs.RoundEnds.{RoundEndsRightly};
 ghost use Rattle.cip_presolve.specs.Presolving.{PresolveIsRight, PresolveAllIsRight, PresolvedLeadsBack};
 
 use crate::drafts::Draft;
@@ -18,27 +21,48 @@ pub enum PresolveEnd {
     NoPoint { place: Place },
 }
 
+/// What presolve comes to where its steps left this program in work and came to this end. `Err` comes where a growth
+/// was refused.
+fn ended(
+    alloc: Global,
+    program: &Program,
+    draft: Draft,
+    end: RoundEnd,
+    equalities: bool,
+) -> Result<PresolveEnd, AllocError>
+    requires step { IsStep (unnamed program.now) draft }
+    requires rows { length draft.rows ≡ length program.now.rows }
+    requires end { RoundEndsRightly draft end }
+    ensures right { IfOk result (PresolveIsRight program.now) }
+    ensures exact { IfOk result (λ found. IsExactStep (unnamed program.now) draft
+        → PresolveAllIsRight program.now found) }
+{
+    match end {
+        RoundEnd::Open => match compacted(alloc, program, draft, equalities) {
+            Ok(presolved) => Ok(PresolveEnd::Reduced(presolved)),
+            Err(error) => Err(error),
+        },
+        RoundEnd::NoPoint { place } => {
+            drop(draft);
+            Ok(PresolveEnd::NoPoint { place })
+        }
+    }
+}
+
 /// Takes the steps of presolve until none applies, at most 1,000,000. `NoPoint` names a row or a column at which it was
 /// found that no point is feasible. `Err` comes where a growth was refused.
 pub fn presolve(alloc: Global, program: &Program) -> Result<PresolveEnd, AllocError>
     ensures { IfOk result (PresolveIsRight program.now) }
 {
     let _columns = program.columns();
-    let mut draft = Draft::new(alloc, program)?;
-    match reduce(alloc, &mut draft) {
-        Ok(RoundEnd::Open) => match compacted(alloc, program, draft, true) {
-            Ok(presolved) => Ok(PresolveEnd::Reduced(presolved)),
-            Err(error) => Err(error),
-        },
-        Ok(RoundEnd::NoPoint { place }) => {
-            drop(draft);
-            Ok(PresolveEnd::NoPoint { place })
-        }
-        Err(error) => {
-            drop(draft);
-            Err(error)
-        }
-    }
+    let Ok(mut draft) = Draft::new(alloc, program) else {
+        return Err(AllocError);
+    };
+    let Ok(end) = reduce(alloc, &mut draft) else {
+        drop(draft);
+        return Err(AllocError);
+    };
+    ended(alloc, program, draft, end, true)
 }
 
 /// Takes those steps of presolve by which no feasible point is lost, as `presolve` does: all but dual fixing, and no
@@ -47,21 +71,14 @@ pub fn presolve_all(alloc: Global, program: &Program) -> Result<PresolveEnd, All
     ensures { IfOk result (PresolveAllIsRight program.now) }
 {
     let _columns = program.columns();
-    let mut draft = Draft::new(alloc, program)?;
-    match reduce_exactly(alloc, &mut draft) {
-        Ok(RoundEnd::Open) => match compacted(alloc, program, draft, false) {
-            Ok(presolved) => Ok(PresolveEnd::Reduced(presolved)),
-            Err(error) => Err(error),
-        },
-        Ok(RoundEnd::NoPoint { place }) => {
-            drop(draft);
-            Ok(PresolveEnd::NoPoint { place })
-        }
-        Err(error) => {
-            drop(draft);
-            Err(error)
-        }
-    }
+    let Ok(mut draft) = Draft::new(alloc, program) else {
+        return Err(AllocError);
+    };
+    let Ok(end) = reduce_exactly(alloc, &mut draft) else {
+        drop(draft);
+        return Err(AllocError);
+    };
+    ended(alloc, program, draft, end, false)
 }
 
 /// A program that presolve reduced may be searched in place of the program: points and leaves come back by the steps.

@@ -4,34 +4,12 @@ ghost use Rattle.std.specs.List.{remove};
 ghost use Rattle.cip_rational.specs.Rational.{zeroℚ};
 ghost use Rattle.cip_problem.specs.Activity.{StandsBelow};
 ghost use Rattle.cip_presolve.specs.RowReading.{Encloses};
-ghost use Rattle.cip_presolve.specs.Rests.{IsLeastProduct, IsGreatestProduct, IsDifference, IsRestBelow, IsRestAbove, AreRests};
+ghost use Rattle.cip_presolve.specs.Rests.{IsDifference, AreRests};
 
-use crate::extents::extent;
+use crate::extents::{extent, negated_value, value_of};
 use cip_frac::Frac;
-use cip_lin::{Bounds, Least, Row, RowFault, Sides, Term, add_least};
+use cip_lin::{Bounds, Row, RowFault, Sides, Term, add_least};
 use std::alloc::{AllocError, Global};
-
-/// The least product of a coefficient and a value between two sides, where it is there and in range.
-#[tactic(auto, using(crate::proofs::RestSums::least_product_is))]
-fn least_product(coef: Frac, sides: Sides) -> Option<Frac>
-    ensures { IfSome result (IsLeastProduct coef sides) }
-{
-    match add_least(Frac::zero(), coef, sides) {
-        Least::Value(product) => Some(product),
-        _ => None,
-    }
-}
-
-/// The greatest product of a coefficient and a value between two sides, where it is there and in range.
-#[tactic(auto, using(crate::proofs::RestSums::greatest_product_is))]
-fn greatest_product(coef: Frac, sides: Sides) -> Option<Frac>
-    ensures { IfSome result (IsGreatestProduct coef sides) }
-{
-    match add_least(Frac::zero(), coef.neg(), sides) {
-        Least::Value(product) => Some(product.neg()),
-        _ => None,
-    }
-}
 
 /// A side less a number, where both are there and the difference is in range.
 #[tactic(auto, using(crate::proofs::RestSums::difference_is))]
@@ -54,32 +32,6 @@ pub(crate) fn term_at(row: &Row, at: usize) -> Term
     ensures nonzero { ¬ (result.coefficient ≡ zeroℚ) }
 {
     row.terms()[at]
-}
-
-/// The least activity of a row without the term at a place, where it is in range, by the least one of the row.
-fn rest_below(row: &Row, at: usize, bounds: &Bounds, whole: Sides) -> Option<Frac>
-    requires stands { StandsBelow (length bounds.now) row.now.terms }
-    requires inside { at < length row.now.terms }
-    requires encloses { Encloses bounds.now row.now.terms whole }
-    ensures { IfSome result (IsRestBelow bounds.now row.now.terms at) }
-{
-    let _terms = row.terms();
-    let term = term_at(row, at);
-    let own = least_product(term.coef, bounds.sides(term.col));
-    difference(whole.low, own)
-}
-
-/// The greatest activity of a row without the term at a place, where it is in range, by the greatest one of the row.
-fn rest_above(row: &Row, at: usize, bounds: &Bounds, whole: Sides) -> Option<Frac>
-    requires stands { StandsBelow (length bounds.now) row.now.terms }
-    requires inside { at < length row.now.terms }
-    requires encloses { Encloses bounds.now row.now.terms whole }
-    ensures { IfSome result (IsRestAbove bounds.now row.now.terms at) }
-{
-    let _terms = row.terms();
-    let term = term_at(row, at);
-    let own = greatest_product(term.coef, bounds.sides(term.col));
-    difference(whole.high, own)
 }
 
 /// A row without the term at a place, and without sides; `None` where that is no row, and `Err` where the memory for it
@@ -117,7 +69,6 @@ fn rests_summed(alloc: Global, row: &Row, at: usize, bounds: &Bounds) -> Result<
 
 /// Two sides between which the activity of a row without the term at a place lies, by the sides `whole` of the row's
 /// activity, or summed up `anew`. `Err` comes where a growth was refused.
-#[tactic(auto, using(crate::proofs::RestSums::resting))]
 pub(crate) fn rests(
     alloc: Global,
     row: &Row,
@@ -134,8 +85,13 @@ pub(crate) fn rests(
     if anew {
         return rests_summed(alloc, row, at, bounds);
     }
+    let _terms = row.terms();
+    let term = term_at(row, at);
+    let sides = bounds.sides(term.col);
+    let least = value_of(add_least(Frac::zero(), term.coef, sides));
+    let greatest = negated_value(add_least(Frac::zero(), term.coef.neg(), sides));
     Ok(Sides {
-        low: rest_below(row, at, bounds, whole),
-        high: rest_above(row, at, bounds, whole),
+        low: difference(whole.low, least),
+        high: difference(whole.high, greatest),
     })
 }

@@ -47,7 +47,9 @@ fn merge_rows(alloc: Global, draft: &mut Draft, work: &mut Work) -> Result<Round
     ensures end { IfOk result (RoundEndsRightly draft.new) }
     ensures rows { length draft.new.rows ≡ length draft.old.rows }
 {
-    let keys = sorted_keys(alloc, draft.rows())?;
+    let Ok(keys) = sorted_keys(alloc, draft.rows()) else {
+        return Err(AllocError);
+    };
     for at in 1..keys.len() {
         match merge_pair(alloc, draft, keys[at - 1], keys[at], work) {
             Ok(RoundEnd::Open) => {}
@@ -78,20 +80,6 @@ fn settle_columns(draft: &mut Draft) -> RoundEnd
     RoundEnd::Open
 }
 
-/// Looks at the rows that wait, and then at rows with equal terms. `Err` comes where a growth was refused.
-#[tactic(auto, using(crate::proofs::Chained::chains))]
-fn look_and_merge(alloc: Global, draft: &mut Draft, work: &mut Work) -> Result<RoundEnd, AllocError>
-    requires { length draft.old.rows ≤ most_rows }
-    ensures step { IsExactStep draft.old draft.new }
-    ensures end { IfOk result (RoundEndsRightly draft.new) }
-    ensures rows { length draft.new.rows ≡ length draft.old.rows }
-{
-    match look_at_all(alloc, draft, work) {
-        Ok(RoundEnd::Open) => merge_rows(alloc, draft, work),
-        end => end,
-    }
-}
-
 /// Takes the exact steps until none applies. `Err` comes where a growth was refused.
 #[tactic(auto, using(crate::proofs::Chained::chains))]
 fn settle(alloc: Global, draft: &mut Draft, work: &mut Work) -> Result<RoundEnd, AllocError>
@@ -101,7 +89,11 @@ fn settle(alloc: Global, draft: &mut Draft, work: &mut Work) -> Result<RoundEnd,
     ensures rows { length draft.new.rows ≡ length draft.old.rows }
 {
     for _ in 0..MOST_ROUNDS {
-        match look_and_merge(alloc, draft, work) {
+        match look_at_all(alloc, draft, work) {
+            Ok(RoundEnd::Open) => {}
+            end => return end,
+        }
+        match merge_rows(alloc, draft, work) {
             Ok(RoundEnd::Open) => {}
             end => return end,
         }
@@ -119,18 +111,12 @@ pub(crate) fn reduce_exactly(alloc: Global, draft: &mut Draft) -> Result<RoundEn
     ensures end { IfOk result (RoundEndsRightly draft.new) }
     ensures rows { length draft.new.rows ≡ length draft.old.rows }
 {
-    let mut work = Work::new(alloc, draft.rows(), draft.bounds().len())?;
+    let Ok(mut work) = Work::new(alloc, draft.rows(), draft.bounds().len()) else {
+        return Err(AllocError);
+    };
     let end = settle(alloc, draft, &mut work);
     drop(work);
     end
-}
-
-/// The rows of columns that were moved wait from now on. `Err` comes where a growth was refused.
-fn tell_moved(work: &mut Work, moved: &[u32]) -> Result<(), AllocError> {
-    for column in moved {
-        work.column_changed(*column)?;
-    }
-    Ok(())
 }
 
 /// Moves the columns that no row keeps from rising, or from falling, to where they cost least, with those that follow
@@ -145,58 +131,31 @@ fn move_columns(
     ensures step { IsStep draft.old draft.new }
     ensures rows { draft.new.rows ≡ draft.old.rows }
 {
-    let forms = forms_out(alloc, draft, true)?;
-    let moved = try_moves(alloc, draft, forms.as_slice(), rising)?;
-    tell_moved(work, moved.as_slice())
+    let Ok(forms) = forms_out(alloc, draft, true) else {
+        return Err(AllocError);
+    };
+    try_moves(alloc, draft, forms.as_slice(), rising, work)
 }
 
-/// Moves the columns that no row holds: those that may fall, and then those that may rise. `Err` comes where a growth
-/// was refused.
+/// Takes the exact steps until none applies, substitutes columns by equalities of two terms, and then moves columns
+/// that no row holds: those that may fall, and then those that may rise. `Err` comes where a growth was refused.
 #[tactic(auto, using(crate::proofs::Chained::dual_chains))]
-fn move_both(alloc: Global, draft: &mut Draft, work: &mut Work) -> Result<(), AllocError>
-    ensures step { IsStep draft.old draft.new }
-    ensures rows { draft.new.rows ≡ draft.old.rows }
-{
-    move_columns(alloc, draft, false, work)?;
-    move_columns(alloc, draft, true, work)
-}
-
-/// Takes the exact steps until none applies, and then substitutes columns by equalities of two terms. `Err` comes where
-/// a growth was refused.
-#[tactic(auto, using(crate::proofs::Chained::chains))]
-fn settle_and_substitute(
-    alloc: Global,
-    draft: &mut Draft,
-    work: &mut Work,
-) -> Result<RoundEnd, AllocError>
+fn take_round(alloc: Global, draft: &mut Draft, work: &mut Work) -> Result<RoundEnd, AllocError>
     requires { length draft.old.rows ≤ most_rows }
-    ensures step { IsExactStep draft.old draft.new }
+    ensures step { IsStep draft.old draft.new }
     ensures end { IfOk result (RoundEndsRightly draft.new) }
     ensures rows { length draft.new.rows ≡ length draft.old.rows }
 {
     match settle(alloc, draft, work) {
-        Ok(RoundEnd::Open) => substitute_all(alloc, draft, work),
-        end => end,
+        Ok(RoundEnd::Open) => {}
+        end => return end,
     }
-}
-
-/// Takes the exact steps until none applies, substitutes columns, and then moves columns that no row holds. `Err` comes
-/// where a growth was refused.
-#[tactic(auto, using(crate::proofs::Chained::dual_chains))]
-fn settle_and_move(
-    alloc: Global,
-    draft: &mut Draft,
-    work: &mut Work,
-) -> Result<RoundEnd, AllocError>
-    requires { length draft.old.rows ≤ most_rows }
-    ensures step { IsStep draft.old draft.new }
-    ensures end { IfOk result (RoundEndsRightly draft.new) }
-    ensures rows { length draft.new.rows ≡ length draft.old.rows }
-{
-    match settle_and_substitute(alloc, draft, work) {
-        Ok(RoundEnd::Open) => open_after(move_both(alloc, draft, work)),
-        end => end,
+    match substitute_all(alloc, draft, work) {
+        Ok(RoundEnd::Open) => {}
+        end => return end,
     }
+    move_columns(alloc, draft, false, work)?;
+    open_after(move_columns(alloc, draft, true, work))
 }
 
 /// Takes rounds of all steps until none applies. `Err` comes where a growth was refused.
@@ -208,7 +167,7 @@ fn take_rounds(alloc: Global, draft: &mut Draft, work: &mut Work) -> Result<Roun
     ensures rows { length draft.new.rows ≡ length draft.old.rows }
 {
     for _ in 0..MOST_ROUNDS {
-        match settle_and_move(alloc, draft, work) {
+        match take_round(alloc, draft, work) {
             Ok(RoundEnd::Open) => {}
             end => return end,
         }
@@ -226,7 +185,9 @@ pub(crate) fn reduce(alloc: Global, draft: &mut Draft) -> Result<RoundEnd, Alloc
     ensures end { IfOk result (RoundEndsRightly draft.new) }
     ensures rows { length draft.new.rows ≡ length draft.old.rows }
 {
-    let mut work = Work::new(alloc, draft.rows(), draft.bounds().len())?;
+    let Ok(mut work) = Work::new(alloc, draft.rows(), draft.bounds().len()) else {
+        return Err(AllocError);
+    };
     let end = take_rounds(alloc, draft, &mut work);
     drop(work);
     end

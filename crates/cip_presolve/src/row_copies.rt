@@ -28,20 +28,13 @@ pub fn row_of_terms(
     }
 }
 
-/// The same row by itself; `Err` where the memory for it was refused.
-fn copied_row(alloc: Global, row: &Row) -> Result<Row, AllocError>
-    ensures { IfOk result (λ copy. copy ≡ row.now) }
-{
-    row_of_terms(alloc, row.terms(), row.low(), row.high())
-}
-
 /// The same rows by themselves; `Err` where the memory for them was refused.
 pub fn copied_rows(alloc: Global, rows: &[Row]) -> Result<Vec<Row>, AllocError>
     ensures { IfOk result (λ copy. copy.items ≡ rows.now) }
 {
     let mut copy = Vec::new(alloc);
     for row in rows {
-        copy.push(copied_row(alloc, row)?)?;
+        copy.push(row_of_terms(alloc, row.terms(), row.low(), row.high())?)?;
     }
     Ok(copy)
 }

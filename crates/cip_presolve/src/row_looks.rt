@@ -1,7 +1,6 @@
 //! What looking at one row, or at two with equal terms, comes to.
 ghost use Rattle.std.specs.Prelude.{IfOk, length, ◌<◌, ◌≡◌};
 ghost use Rattle.cip_search.specs.NarrowedPrograms.{IsExactStep};
-ghost use Rattle.cip_presolve.specs.Taken.{IsEnclosed};
 ghost use Rattle.cip_presolve.specs.RoundEnds.{RoundEndsRightly};
 ghost use Rattle.cip_presolve.specs.declared.row_looks.RoundEnd.TheVariants.{Open};
 
@@ -13,7 +12,6 @@ use crate::queues::Work;
 use crate::rules::Outcome;
 use crate::taking::{row_extent, try_implied};
 use crate::try_merge;
-use cip_lin::Sides;
 use std::alloc::{AllocError, Global};
 
 /// A row or a column at which no point is feasible.
@@ -44,51 +42,15 @@ pub(crate) fn open_after(told: Result<(), AllocError>) -> Result<RoundEnd, Alloc
     }
 }
 
-/// Tells the work of a step, if one was taken; all is open then. `Err` comes where a growth was refused.
-pub(crate) fn tell(work: &mut Work, outcome: Outcome) -> Result<RoundEnd, AllocError>
-    ensures { IfOk result (λ end. end ≡ Open) }
-{
+/// Tells the work of a step, if one was taken. `Err` comes where a growth was refused.
+pub(crate) fn tell(work: &mut Work, outcome: Outcome) -> Result<(), AllocError> {
     match outcome {
-        Outcome::Tightened(column) => open_after(work.column_changed(column)),
+        Outcome::Tightened(column) => work.column_changed(column),
         Outcome::Gone => {
             work.count_step();
-            Ok(RoundEnd::Open)
+            Ok(())
         }
-        _ => Ok(RoundEnd::Open),
-    }
-}
-
-/// A term of a row, and whether it alone leaves the row's extent open.
-#[derive(Clone, Copy)]
-struct TermPlace {
-    row: u32,
-    at: usize,
-    is_open: bool,
-}
-
-/// Takes the sides that a row implies for the column of its term at a place. The activity of the row lies between the
-/// sides `extent`. `Err` comes where a growth was refused.
-#[tactic(auto, using(crate::proofs::Chained::chains))]
-fn imply_at(
-    alloc: Global,
-    draft: &mut Draft,
-    term: TermPlace,
-    extent: Sides,
-    work: &mut Work,
-) -> Result<RoundEnd, AllocError>
-    requires inside { term.row < length draft.old.rows }
-    requires encloses { IsEnclosed draft.old term.row extent }
-    ensures step { IsExactStep draft.old draft.new }
-    ensures end { IfOk result (RoundEndsRightly draft.new) }
-    ensures rows { draft.new.rows ≡ draft.old.rows }
-{
-    let TermPlace { row, at, is_open } = term;
-    match try_implied(alloc, draft, row as usize, at, extent, is_open) {
-        Ok(Outcome::NoPoint) => Ok(RoundEnd::NoPoint {
-            place: Place::Row(row),
-        }),
-        Ok(outcome) => tell(work, outcome),
-        Err(error) => Err(error),
+        _ => Ok(()),
     }
 }
 
@@ -109,14 +71,14 @@ fn imply(
     let open = open_places(draft, row as usize);
     let count = draft.row(row as usize).terms().len();
     for at in 0..count {
-        let term = TermPlace {
-            row,
-            at,
-            is_open: open.has(at),
-        };
-        match imply_at(alloc, draft, term, extent, work) {
-            Ok(RoundEnd::Open) => {}
-            end => return end,
+        match try_implied(alloc, draft, row as usize, at, extent, open.has(at)) {
+            Ok(Outcome::NoPoint) => {
+                return Ok(RoundEnd::NoPoint {
+                    place: Place::Row(row),
+                });
+            }
+            Ok(outcome) => tell(work, outcome)?,
+            Err(error) => return Err(error),
         }
     }
     Ok(RoundEnd::Open)
@@ -143,7 +105,7 @@ pub(crate) fn look_at(
             place: Place::Row(row),
         }),
         Ok(Outcome::Kept) => imply(alloc, draft, row, work),
-        Ok(outcome) => tell(work, outcome),
+        Ok(outcome) => open_after(tell(work, outcome)),
         Err(error) => Err(error),
     }
 }

@@ -1,11 +1,9 @@
 //! The rules that look at one row.
-ghost use Rattle.std.specs.Prelude.{◌≡◌, ◌<◌, length, slice_get, Some, IfOk, IfSome};
+ghost use Rattle.std.specs.Prelude.{◌≡◌, ◌<◌, length, IfOk, IfSome};
 ghost use Rattle.cip_presolve.specs.NarrowedPrograms.{IsExactStep, with_row};
 ghost use Rattle.cip_problem.specs.Program.{no_row};
-ghost use Rattle.cip_problem.specs.Program as problem;
-ghost use Rattle.cip_presolve.specs.RowReading.{SaysRightly};
 ghost use Rattle.cip_problem.specs.Activity.{StandsBelow};
-ghost use Rattle.cip_presolve.specs.RuleEnds.{EndsRightly, IsSingled, IsCleaned};
+ghost use Rattle.cip_presolve.specs.RuleEnds.{EndsRightly, IsSingled};
 
 use crate::drafts::Draft;
 use crate::extents::{RowSays, row_says};
@@ -16,7 +14,7 @@ use cip_lin::{Bounds, Row, Sides, Term};
 use std::alloc::{AllocError, Global};
 
 /// What a rule comes to.
-#[derive(Clone, Copy, PartialEq, Eq)]
+#[derive(Clone, Copy)]
 pub enum Outcome {
     /// The row stays.
     Kept,
@@ -61,15 +59,6 @@ fn has_fixed(terms: &[Term], bounds: &Bounds) -> bool
 }
 
 impl Draft {
-    /// Whether a row holds at each point of the box, or at none.
-    fn says(&self, number: usize) -> RowSays
-        requires { number < length self.now.rows }
-        ensures { (row : problem.Row)
-            → slice_get self.now.rows number ≡ Some row → SaysRightly self.now.bounds row result }
-    {
-        row_says(self.row(number), self.bounds())
-    }
-
     /// Puts the row that says nothing in the place of a row.
     fn clear_row(&mut self, alloc: Global, number: usize)
         requires { number < length self.old.rows }
@@ -86,7 +75,7 @@ impl Draft {
         ensures end { EndsRightly self.new result }
         ensures rows { length self.new.rows ≡ length self.old.rows }
     {
-        match self.says(number) {
+        match row_says(self.row(number), self.bounds()) {
             RowSays::HoldsAlways => {
                 self.clear_row(alloc, number);
                 Outcome::Gone
@@ -142,20 +131,6 @@ impl Draft {
         Outcome::Tightened(found.column)
     }
 
-    /// A row without its columns with equal sides, which may take its place; `None` where it has none of them, or a
-    /// number isn't in range. `Err` comes where a growth was refused.
-    fn cleaned(&self, alloc: Global, number: usize) -> Result<Option<Row>, AllocError>
-        requires { number < length self.now.rows }
-        ensures { IfOk result (λ found. IfSome found (IsCleaned self.now number)) }
-    {
-        let row = self.row(number);
-        if has_fixed(row.terms(), self.bounds()) {
-            without_fixed(alloc, row, self.bounds())
-        } else {
-            Ok(None)
-        }
-    }
-
     /// Takes the columns with equal sides out of a row. `Err` comes where a growth was refused.
     #[tactic(auto, using(crate::proofs::Singled::cleaning))]
     pub fn clean_row(&mut self, alloc: Global, number: usize) -> Result<(), AllocError>
@@ -163,7 +138,11 @@ impl Draft {
         ensures step { IsExactStep self.old self.new }
         ensures rows { length self.new.rows ≡ length self.old.rows }
     {
-        match self.cleaned(alloc, number) {
+        let row = self.row(number);
+        if !has_fixed(row.terms(), self.bounds()) {
+            return Ok(());
+        }
+        match without_fixed(alloc, row, self.bounds()) {
             Ok(Some(row)) => {
                 self.set_row(number, row);
                 Ok(())

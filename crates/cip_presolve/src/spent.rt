@@ -1,27 +1,26 @@
 //! Rows that go with a column that is left out.
-ghost use Rattle.std.specs.Prelude.{◌≡◌, None, slice_index_or};
+ghost use Rattle.std.specs.Prelude.{◌≡◌, None, slice_index_or, IfSome};
 ghost use Rattle.std.specs.Bool.{OnTrue};
-ghost use Rattle.cip_presolve.specs.SpentRows.{IsSpentBy, IsSpent};
+ghost use Rattle.cip_presolve.specs.SpentRows.{IsSpentBy};
 
 use crate::forms::{ColumnForm, form_in};
 use cip_lin::Row;
 
 /// The form by which a column is left out; `None` where it isn't.
-fn form_on(forms: &[Option<ColumnForm>], column: u32) -> Option<ColumnForm>
+pub(crate) fn form_on(forms: &[Option<ColumnForm>], column: usize) -> Option<ColumnForm>
     ensures { result ≡ slice_index_or forms.now column None }
 {
-    match forms.get(column as usize) {
+    match forms.get(column) {
         Some(form) => *form,
         None => None,
     }
 }
 
 /// Whether a column is left out by the form that a row gives it.
-#[tactic(auto, using(crate::proofs::RowsSpent::spent))]
 fn is_spent_by(forms: &[Option<ColumnForm>], row: &Row, column: u32) -> bool
     ensures { OnTrue result (IsSpentBy forms.now row.now column) }
 {
-    let Some(own) = form_on(forms, column) else {
+    let Some(own) = form_on(forms, column as usize) else {
         return false;
     };
     match form_in(row, column) {
@@ -30,14 +29,20 @@ fn is_spent_by(forms: &[Option<ColumnForm>], row: &Row, column: u32) -> bool
     }
 }
 
-/// Whether one of the two columns of a row is left out by the form that the row gives it.
-#[tactic(auto, using(crate::proofs::RowsSpent::some_spent))]
-pub(crate) fn is_spent(forms: &[Option<ColumnForm>], row: &Row) -> bool
-    ensures { OnTrue result (IsSpent forms.now row.now) }
+/// The column that is left out by the form that a row of two terms gives it; `None` where none is.
+pub(crate) fn spent_column(forms: &[Option<ColumnForm>], row: &Row) -> Option<u32>
+    ensures { IfSome result (IsSpentBy forms.now row.now) }
 {
     match row.terms() {
-        [first, second] => is_spent_by(forms, row, first.col)
-            || is_spent_by(forms, row, second.col),
-        _ => false,
+        [first, second] => {
+            if is_spent_by(forms, row, first.col) {
+                return Some(first.col);
+            }
+            if is_spent_by(forms, row, second.col) {
+                return Some(second.col);
+            }
+            None
+        }
+        _ => None,
     }
 }

@@ -1,12 +1,13 @@
 //! Columns stay that a form or a row needs.
-ghost use Rattle.std.specs.Prelude.{◌≡◌, ◌⊎◌, ◌<◌, length, All, Some, None, slice_index_or, IfSome};
+ghost use Rattle.std.specs.Prelude.{◌≡◌, ◌<◌, length, All, Some};
 ghost use Rattle.std.specs.Bool.{OnTrue};
 ghost use Rattle.cip_problem.specs.Activity.{StandsBelow};
 ghost use Rattle.cip_presolve.specs.ColumnsOut.{IsIn, SourceStays, SourcesStay, GoFewer};
-ghost use Rattle.cip_presolve.specs.SpentRows.{IsSpentBy, TermsInBut};
-ghost use Rattle.cip_presolve.specs.KeptRows.{RowKept, RowsKept};
+ghost use Rattle.cip_presolve.specs.SpentRows.{TermsInBut};
+ghost use Rattle.cip_presolve.specs.KeptRows.{RowsKept};
 
-use crate::forms::{ColumnForm, form_in};
+use crate::forms::ColumnForm;
+use crate::spent::{form_on, spent_column};
 use cip_lin::{Row, Term};
 
 /// A column stays.
@@ -17,16 +18,6 @@ fn keep_column(forms: &mut Vec<Option<ColumnForm>>, column: usize)
     ensures stays { IsIn forms.new.items column }
 {
     forms[column] = None;
-}
-
-/// The form by which a column is left out; `None` where it isn't.
-fn form_on(forms: &[Option<ColumnForm>], column: usize) -> Option<ColumnForm>
-    ensures { result ≡ slice_index_or forms.now column None }
-{
-    match forms.get(column) {
-        Some(form) => *form,
-        None => None,
-    }
 }
 
 /// The source of a column's form stays, where the column is left out by one; the column stays where the source is none
@@ -62,38 +53,6 @@ pub(crate) fn keep_sources(forms: &mut Vec<Option<ColumnForm>>)
     }
 }
 
-/// Whether a column is left out by the form that a row gives it.
-#[tactic(auto, using(crate::proofs::StayingColumns::spent))]
-fn is_spent_by(forms: &[Option<ColumnForm>], row: &Row, column: u32) -> bool
-    ensures { OnTrue result (IsSpentBy forms.now row.now column) }
-{
-    let Some(own) = form_on(forms, column as usize) else {
-        return false;
-    };
-    match form_in(row, column) {
-        Some(form) => form.is_same(&own),
-        None => false,
-    }
-}
-
-/// The column that is left out by the form that a row of two terms gives it; `None` where none is.
-fn spent_column(forms: &[Option<ColumnForm>], row: &Row) -> Option<u32>
-    ensures { IfSome result (IsSpentBy forms.now row.now) }
-{
-    match row.terms() {
-        [first, second] => {
-            if is_spent_by(forms, row, first.col) {
-                return Some(first.col);
-            }
-            if is_spent_by(forms, row, second.col) {
-                return Some(second.col);
-            }
-            None
-        }
-        _ => None,
-    }
-}
-
 /// Whether a column is the one that needn't stay.
 fn is_but(but: Option<u32>, column: u32) -> bool
     ensures { OnTrue result (but ≡ Some column) }
@@ -101,17 +60,6 @@ fn is_but(but: Option<u32>, column: u32) -> bool
     match but {
         Some(other) => other == column,
         None => false,
-    }
-}
-
-/// The column of a term stays, unless it is the one that needn't.
-fn keep_term(forms: &mut Vec<Option<ColumnForm>>, term: Term, but: Option<u32>)
-    requires { term.column < length forms.old.items }
-    ensures fewer { GoFewer forms.old.items forms.new.items }
-    ensures term { (but ≡ Some term.column) ⊎ IsIn forms.new.items term.column }
-{
-    if !is_but(but, term.col) {
-        keep_column(forms, term.col as usize);
     }
 }
 
@@ -123,19 +71,11 @@ fn keep_terms(forms: &mut Vec<Option<ColumnForm>>, terms: &[Term], but: Option<u
     ensures terms { TermsInBut forms.new.items but terms.now }
 {
     for term in terms {
-        keep_term(forms, *term, but);
+        if is_but(but, term.col) {
+            continue;
+        }
+        keep_column(forms, term.col as usize);
     }
-}
-
-/// The columns of a row stay, but for one that is left out by the form that the row gives it.
-#[tactic(auto, using(crate::proofs::StayingColumns::one_row))]
-fn keep_row(forms: &mut Vec<Option<ColumnForm>>, row: &Row)
-    requires { StandsBelow (length forms.old.items) row.now.terms }
-    ensures fewer { GoFewer forms.old.items forms.new.items }
-    ensures row { RowKept forms.new.items row.now }
-{
-    let but = spent_column(forms.as_slice(), row);
-    keep_terms(forms, row.terms(), but);
 }
 
 /// The columns of each row stay, but for those that are left out by the form that the row gives them.
@@ -146,6 +86,7 @@ pub(crate) fn keep_rows(forms: &mut Vec<Option<ColumnForm>>, rows: &[Row])
     ensures rows { RowsKept forms.new.items rows.now }
 {
     for row in rows {
-        keep_row(forms, row);
+        let but = spent_column(forms.as_slice(), row);
+        keep_terms(forms, row.terms(), but);
     }
 }

@@ -9,10 +9,9 @@ ghost use Rattle.cip_presolve.specs.Substitutions.{IsFound};
 use crate::drafts::Draft;
 use crate::forms::{ColumnForm, form_at, is_substitute};
 use crate::queues::Work;
-use crate::row_looks::{Place, RoundEnd, tell};
+use crate::row_looks::{Place, RoundEnd, open_after, tell};
 use crate::row_steps::{move_cost, take_sides, try_replace};
 use crate::rules::Outcome;
-use cip_lin::Term;
 use std::alloc::{AllocError, Global};
 
 /// A column, and the form that a row gives it.
@@ -46,33 +45,21 @@ fn found_for(draft: &Draft, row: u32, column: u32) -> Option<Substitution>
     Some(Substitution { row, column, form })
 }
 
-/// Two columns of a row, the one first that may stand in fewer rows.
-fn fewer_first(work: &Work, first: u32, second: u32) -> (u32, u32) {
-    if work.count_of(second) < work.count_of(first) {
-        (second, first)
-    } else {
-        (first, second)
-    }
-}
-
-/// The columns of two terms; `None` where there are more or fewer.
-fn two_columns(terms: &[Term]) -> Option<(u32, u32)> {
-    match terms {
-        [first, second] => Some((first.col, second.col)),
-        _ => None,
-    }
-}
-
 /// The substitution by a row: of the column that stands in fewer rows, or else of the other one; `None` where it gives
 /// neither.
 fn found_by(draft: &Draft, row: u32, work: &Work) -> Option<Substitution>
     requires { row < length draft.now.rows }
     ensures { IfSome result (IsFound draft.now) }
 {
-    let Some((first, second)) = two_columns(draft.row(row as usize).terms()) else {
+    let [first, second] = draft.row(row as usize).terms() else {
         return None;
     };
-    let (own, other) = fewer_first(work, first, second);
+    let mut own = first.col;
+    let mut other = second.col;
+    if work.count_of(other) < work.count_of(own) {
+        own = second.col;
+        other = first.col;
+    }
     match found_for(draft, row, own) {
         None => found_for(draft, row, other),
         found => found,
@@ -133,52 +120,9 @@ fn replace_all(
     Ok(())
 }
 
-/// Takes the sides of a column's source by which the column keeps its own; the rows that this touches wait from then
-/// on.
-/// `Err` comes where a growth was refused.
-#[tactic(auto, using(crate::proofs::Substituted::taking))]
-fn take_over_sides(
-    alloc: Global,
-    draft: &mut Draft,
-    found: &Substitution,
-    work: &mut Work,
-) -> Result<RoundEnd, AllocError>
-    requires { IsFound draft.old found.now }
-    ensures step { IsExactStep draft.old draft.new }
-    ensures end { IfOk result (RoundEndsRightly draft.new) }
-    ensures rows { length draft.new.rows ≡ length draft.old.rows }
-{
-    let place = found.row as usize;
-    match take_sides(alloc, draft, place, found.column, &found.form) {
-        Outcome::NoPoint => Ok(RoundEnd::NoPoint {
-            place: Place::Row(found.row),
-        }),
-        outcome => tell(work, outcome),
-    }
-}
-
-/// Moves the cost of a column to its source, and takes the sides of the source by which the column keeps its own. `Err`
+/// Substitutes a column in rows and cost, and takes the sides of its source by which the column keeps its own. `Err`
 /// comes where a growth was refused.
 #[tactic(auto, using(crate::proofs::Substituted::taking))]
-fn take_over(
-    alloc: Global,
-    draft: &mut Draft,
-    found: &Substitution,
-    work: &mut Work,
-) -> Result<RoundEnd, AllocError>
-    requires { IsFound draft.old found.now }
-    ensures step { IsExactStep draft.old draft.new }
-    ensures end { IfOk result (RoundEndsRightly draft.new) }
-    ensures rows { length draft.new.rows ≡ length draft.old.rows }
-{
-    if move_cost(draft, found.row as usize, found.column, &found.form) {
-        work.count_step();
-    }
-    take_over_sides(alloc, draft, found, work)
-}
-
-/// Substitutes a column in rows, cost and sides. `Err` comes where a growth was refused.
-#[tactic(auto, using(crate::proofs::Chained::chains))]
 fn substitute(
     alloc: Global,
     draft: &mut Draft,
@@ -190,9 +134,16 @@ fn substitute(
     ensures end { IfOk result (RoundEndsRightly draft.new) }
     ensures rows { length draft.new.rows ≡ length draft.old.rows }
 {
-    match replace_all(alloc, draft, found, work) {
-        Ok(()) => take_over(alloc, draft, found, work),
-        Err(error) => Err(error),
+    replace_all(alloc, draft, found, work)?;
+    let place = found.row as usize;
+    if move_cost(draft, place, found.column, &found.form) {
+        work.count_step();
+    }
+    match take_sides(alloc, draft, place, found.column, &found.form) {
+        Outcome::NoPoint => Ok(RoundEnd::NoPoint {
+            place: Place::Row(found.row),
+        }),
+        outcome => open_after(tell(work, outcome)),
     }
 }
 

@@ -1,9 +1,8 @@
 //! The step of presolve that takes the sides which a row implies for a whole column.
 ghost use Rattle.std.specs.Prelude.{◌≡◌, ◌<◌, length, IfSome, IfOk};
-ghost use Rattle.std.specs.Bool.{OnTrue};
 ghost use Rattle.cip_presolve.specs.NarrowedPrograms.{IsExactStep};
 ghost use Rattle.cip_presolve.specs.RuleEnds.{EndsRightly};
-ghost use Rattle.cip_presolve.specs.Taken.{IsEnclosed, IsPlainWhole, IsImplied};
+ghost use Rattle.cip_presolve.specs.Taken.{IsEnclosed, IsImplied};
 
 use crate::drafts::Draft;
 use crate::extents::extent;
@@ -30,17 +29,6 @@ pub fn row_extent(draft: &Draft, number: usize) -> Sides
     extent(draft.row(number), draft.bounds())
 }
 
-/// Whether a column is whole, and not semi-continuous.
-fn is_plain_whole(draft: &Draft, column: u32) -> bool
-    requires { column < length draft.now.bounds }
-    ensures { OnTrue result (IsPlainWhole draft.now column) }
-{
-    if draft.is_semi(column) {
-        return false;
-    }
-    draft.is_whole(column)
-}
-
 /// The whole column of the term of a row at a place, and its sides met with those that the row implies; `None` where it
 /// isn't whole, or a number isn't in range, and `Err` where a growth was refused.
 #[tactic(auto, using(crate::proofs::ImpliedSides::finding))]
@@ -61,7 +49,7 @@ fn implied(
         return Ok(None);
     }
     let term = term_at(row, at);
-    if !is_plain_whole(draft, term.col) {
+    if draft.is_semi(term.col) || !draft.is_whole(term.col) {
         return Ok(None);
     }
     let others = rests(alloc, row, at, draft.bounds(), extent, anew)?;

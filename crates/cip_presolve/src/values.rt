@@ -3,7 +3,7 @@ ghost use Rattle.std.specs.Prelude.{◌≡◌, ◌<◌, length, IfOk, Ok, IsOk, 
 ghost use Rattle.cip_problem.specs.Activity.{value_at};
 ghost use Rattle.cip_presolve.specs.Leaf.{at_wholes};
 ghost use Rattle.cip_presolve.specs.Forms.{filled};
-ghost use Rattle.cip_presolve.specs.StepsBack.{form_outcome, value_outcome, HasOverflow, WholesFit};
+ghost use Rattle.cip_presolve.specs.StepsBack.{value_outcome, HasOverflow, WholesFit};
 ghost use Rattle.cip_presolve.specs.FilledPoints.{IsFilled};
 
 use crate::forms::ColumnForm;
@@ -20,14 +20,6 @@ fn value_at(point: &[Frac], column: u32) -> Frac
     }
 }
 
-/// The value of a form at a point, or the operation that overflows.
-fn form_outcome(form: &ColumnForm, point: &[Frac]) -> Result<Frac, Wide>
-    ensures { result ≡ form_outcome form.now point.now }
-{
-    let value = value_at(point, form.source);
-    form.constant.plus_product(form.factor, value)
-}
-
 /// The value of a column: its own at a point where it stays, and that of its form where it is gone, or the operation
 /// that overflows.
 fn value_outcome(form: &Option<ColumnForm>, point: &[Frac], column: usize) -> Result<Frac, Wide>
@@ -35,7 +27,10 @@ fn value_outcome(form: &Option<ColumnForm>, point: &[Frac], column: usize) -> Re
     ensures { result ≡ value_outcome form.now point.now column }
 {
     match form {
-        Some(form) => form_outcome(form, point),
+        Some(form) => {
+            let value = value_at(point, form.source);
+            form.constant.plus_product(form.factor, value)
+        }
         None => Ok(point[column]),
     }
 }

@@ -1,5 +1,5 @@
 use Rattle.std.proofs.Common.{◌<◌, length, rules}
-use Rattle.cip_presolve.proofs.CopiedParts.{names_skip, names_take}
+use Rattle.cip_presolve.proofs.CopiedParts.{names_skip, names_take, all_names}
 use Rattle.cip_presolve.proofs.copies.names_left.Goals as goal
 
 pub loop-at-preserved-then-gone-at : goal.loop-at-preserved-then-gone-at
@@ -9,3 +9,6 @@ pub loop-at-preserved : goal.loop-at-preserved
 loop-at-preserved c =
     let below : c.loop-at.at < length c.args.gone.now = search rules in
     names_take c.args.gone.now c.args.names.now c.loop-at.left c.add_copy.new.names c.loop-at.at c.name.result.now c.loop-at.invariant below c.if-gone-at.false c.name.ensures c.in_ok-add_copy.ensures
+
+pub returns : goal.returns
+returns c = all_names c.args.gone.now c.args.names.now c.loop-at.left c.loop-at.at c.loop-at.invariant c.loop-at-test.false c.requires

@@ -9,11 +9,11 @@ use Rattle.cip_presolve.proofs.leaving.forms_out.Goals as goal
 pub keep_rows-requires : goal.keep_rows-requires
 keep_rows-requires c =
     subst (λ (rs : List Row). All (λ row. StandsBelow (length c.keep_sources.new.forms.items) row.terms) rs) (sym c.rows.ensures)
-    (rows_stand c.args.draft.now _ _ c.bounds-bounds.ensures.formed c.in_ok-forms.ensures c.keep_sources.ensures.fewer)
+    (rows_stand c.args.draft.now _ _ c.bounds-bounds.ensures.formed c.add_forms.ensures c.keep_sources.ensures.fewer)
 
 pub returns-clause-may : goal.returns-clause-may
 returns-clause-may c =
-    may_fewer c.args.draft.now _ _ _ c.in_ok-forms.ensures c.keep_sources.ensures.fewer c.keep_rows.ensures.fewer
+    may_fewer c.args.draft.now _ _ _ c.add_forms.ensures c.keep_sources.ensures.fewer c.keep_rows.ensures.fewer
 
 pub returns-clause-sources : goal.returns-clause-sources
 returns-clause-sources c = sources_later _ _ c.keep_rows.ensures.fewer c.keep_sources.ensures.sources

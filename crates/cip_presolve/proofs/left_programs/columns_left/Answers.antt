@@ -1,16 +1,18 @@
-use Rattle.std.proofs.Common.{◌≡◌, rules}
+use Rattle.std.proofs.Common.{◌≡◌, rules, ℕ, List, length, sym, ap, ◌∙◌}
 use Rattle.cip_problem.specs.Program.{Program}
 use Rattle.cip_presolve.specs.LeftProgram.{left_columns}
+use Rattle.cip_rational.specs.Rational.{ℚ}
+use Rattle.cip_presolve.specs.EntriesLeft.{entries_left}
 use Rattle.cip_presolve.proofs.left_programs.columns_left.Goals as goal
 
 pub returns : goal.returns
 returns c =
     let p : Program = left_columns c.args.program.now c.args.draft.now c.args.gone.now in
-    let column_names : c.in-Ok-names_left.column_names ≡ p.column_names = search rules in
-    let row_names : c.in-Ok-row_names_left.row_names ≡ p.row_names = search rules in
-    let rows : c.new.result.items ≡ p.rows = search rules in
-    let costs : c.in-Ok.costs.items ≡ p.costs = search rules in
-    let constant : c.constant.result ≡ p.constant = search rules in
+    let column_names : c.in-Ok-names_left.column_names ≡ p.column_names = c.in-Ok-names_left.ensures ∙ ap (λ (ns : List (List ℕ)). entries_left c.args.gone.now ns) c.column_names.ensures.names in
+    let row_names : c.in-Ok-row_names_left.row_names ≡ p.row_names = c.in-Ok-row_names_left.ensures in
+    let rows : c.new.result.items ≡ p.rows = c.new.ensures.items in
+    let costs : c.in-Ok.costs.items ≡ p.costs = c.in-Ok.ensures ∙ ap (λ (qs : List ℚ). entries_left c.args.gone.now qs) c.costs.ensures in
+    let constant : c.constant.result ≡ p.constant = c.constant.ensures in
     let integral : c.in-Ok-whole_left.whole.items ≡ p.integral = search rules in
     let bounds : c.in-Ok-bounds_left.bounds ≡ p.bounds = search rules in
     let choices : c.in-Ok-choices_left.choices ≡ p.choices = search rules in
@@ -25,3 +27,6 @@ returns c =
       bounds = bounds i;
       choices = choices i;
     }
+
+pub names_left-requires : goal.names_left-requires
+names_left-requires c = c.requires.column_names ∙ sym (ap (λ (ns : List (List ℕ)). length ns) c.column_names.ensures.names)

@@ -2,7 +2,7 @@ use Rattle.std.proofs.Common.{◌≡◌, sym, ap, ◌∙◌, subst}
 use Rattle.cip_presolve.specs.EntriesLeft.{gone_of}
 use Rattle.cip_presolve.specs.LeftProgram.{left_program}
 use Rattle.cip_presolve.specs.PresolvedPrograms.{IsPresolved, IsExactlyPresolved}
-use Rattle.cip_presolve.proofs.LeftPairs.{leaves, left_pair, left_exact_pair, left_numbers, left_whole}
+use Rattle.cip_presolve.proofs.LeftPairs.{leaves, left_pair, left_exact_pair, left_numbers, left_whole, can_leave}
 use Rattle.cip_presolve.proofs.LeavesFit.{leaves_fit}
 use Rattle.cip_presolve.proofs.left_programs.compacted.Goals as goal
 
@@ -37,3 +37,8 @@ returns-in-Ok-left-clause-exact c step =
       };
       leaves = leaves_fit c.args.program.now c.args.draft c.in-Ok-left.reduced c.in-Ok.out.forms.items c.in-Ok.out.gone.items c.in-Ok.out.whole.items c.in-Ok.ensures.may c.in-Ok.ensures.sources gone reduced whole c.requires.step.narrowed.integral;
     })
+
+pub left-requires : goal.left-requires
+left-requires c =
+    can_leave c.args.program.now c.args.draft c.in-Ok.out.forms.items c.as_slice.result.now c.columns-columns.ensures.formed c.bounds-bounds.ensures.formed c.requires.step c.requires.rows
+    c.in-Ok.ensures.may c.in-Ok.ensures.sources c.in-Ok.ensures.rows (c.as_slice.ensures.value ∙ c.in-Ok.ensures.gone)

@@ -1,4 +1,4 @@
-use Rattle.std.proofs.Common.{◌≡◌, rules, sym, subst}
+use Rattle.std.proofs.Common.{◌≡◌, ◌∙◌, rules, sym, subst}
 use Rattle.cip_problem.specs.Program.{Program}
 use Rattle.cip_problem.specs.WellFormed.{IsWellFormed}
 use Rattle.cip_presolve.proofs.left_programs.copied.Goals as goal
@@ -6,24 +6,47 @@ use Rattle.cip_presolve.proofs.left_programs.copied.Goals as goal
 pub new-requires : goal.new-requires
 new-requires c =
     let p : Program = c.args.program.now in
-    let column_names : p.column_names ≡ c.in-Ok-copied_names.column_names = search rules in
-    let row_names : p.row_names ≡ c.in-Ok-copied_names-2.row_names = search rules in
-    let rows : p.rows ≡ c.in-Ok-copied_rows.rows.items = search rules in
-    let costs : p.costs ≡ c.in-Ok.costs.items = search rules in
-    let constant : p.constant ≡ c.constant.result = search rules in
-    let maximized = sym c.sense.ensures in
-    let integral : p.integral ≡ c.in-Ok-to_vec.whole.items = search rules in
-    let bounds : p.bounds ≡ c.in-Ok-copied.bounds = search rules in
-    let choices : p.choices ≡ c.in-Ok-copied-2.choices = search rules in
-    subst IsWellFormed
-    (λ i. record {
+    let column_names : c.in-Ok-copied_names.column_names ≡ p.column_names = c.in-Ok-copied_names.ensures ∙ c.column_names.ensures.names in
+    let row_names : c.in-Ok-copied_names-2.row_names ≡ p.row_names = c.in-Ok-copied_names-2.ensures ∙ c.row_names.ensures.names in
+    let rows : c.in-Ok-copied_rows.rows.items ≡ p.rows = c.in-Ok-copied_rows.ensures ∙ c.rows.ensures.rows in
+    let same_costs : c.in-Ok.costs.items ≡ c.costs.result.now = search rules in
+    let same_flags : c.in-Ok-to_vec.whole.items ≡ c.whole.result.now = search rules in
+    let costs : c.in-Ok.costs.items ≡ p.costs = same_costs ∙ c.costs.ensures.costs in
+    let integral : c.in-Ok-to_vec.whole.items ≡ p.integral = same_flags ∙ c.whole.ensures.whole in
+    let bounds : c.in-Ok-copied.bounds ≡ p.bounds = c.in-Ok-copied.ensures ∙ c.bounds.ensures.bounds in
+    let choices : c.in-Ok-copied-2.choices ≡ p.choices = c.in-Ok-copied-2.ensures ∙ c.choices.ensures.choices in
+    subst IsWellFormed (sym (λ i. record {
       column_names = column_names i;
       row_names = row_names i;
       rows = rows i;
       costs = costs i;
-      constant = constant i;
-      maximized = maximized i;
+      constant = c.constant.ensures i;
+      maximized = c.sense.ensures i;
       integral = integral i;
       bounds = bounds i;
       choices = choices i;
-    }) c.column_names.ensures.formed
+    })) c.column_names.ensures.formed
+
+pub returns : goal.returns
+returns c =
+    let p : Program = c.args.program.now in
+    let column_names : c.in-Ok-copied_names.column_names ≡ p.column_names = c.in-Ok-copied_names.ensures ∙ c.column_names.ensures.names in
+    let row_names : c.in-Ok-copied_names-2.row_names ≡ p.row_names = c.in-Ok-copied_names-2.ensures ∙ c.row_names.ensures.names in
+    let rows : c.in-Ok-copied_rows.rows.items ≡ p.rows = c.in-Ok-copied_rows.ensures ∙ c.rows.ensures.rows in
+    let same_costs : c.in-Ok.costs.items ≡ c.costs.result.now = search rules in
+    let same_flags : c.in-Ok-to_vec.whole.items ≡ c.whole.result.now = search rules in
+    let costs : c.in-Ok.costs.items ≡ p.costs = same_costs ∙ c.costs.ensures.costs in
+    let integral : c.in-Ok-to_vec.whole.items ≡ p.integral = same_flags ∙ c.whole.ensures.whole in
+    let bounds : c.in-Ok-copied.bounds ≡ p.bounds = c.in-Ok-copied.ensures ∙ c.bounds.ensures.bounds in
+    let choices : c.in-Ok-copied-2.choices ≡ p.choices = c.in-Ok-copied-2.ensures ∙ c.choices.ensures.choices in
+    c.new.ensures ∙ (λ i. record {
+      column_names = column_names i;
+      row_names = row_names i;
+      rows = rows i;
+      costs = costs i;
+      constant = c.constant.ensures i;
+      maximized = c.sense.ensures i;
+      integral = integral i;
+      bounds = bounds i;
+      choices = choices i;
+    })

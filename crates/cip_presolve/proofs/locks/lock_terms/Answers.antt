@@ -1,9 +1,17 @@
-use Rattle.std.proofs.Common.{◌<◌, length, rules}
-use Rattle.cip_presolve.proofs.Free.{term_next}
+use Rattle.std.proofs.Common.{◌≡◌, ◌∙◌, refl, ap}
+use Rattle.cip_problem.specs.Program.{Term}
+use Rattle.cip_presolve.specs.FreeColumns.{turned}
+use Rattle.cip_presolve.proofs.Free.{term_lets, term_locks}
 use Rattle.cip_presolve.proofs.locks.lock_terms.Goals as goal
+
+pub loop-term-preserved-then-high_lets_fall : goal.loop-term-preserved-then-high_lets_fall
+loop-term-preserved-then-high_lets_fall c =
+    let coef : c.turned-coef.result ≡ turned c.args.rising c.term-item.result.coefficient =
+    c.turned-coef.ensures ∙ ap (λ (t : Term). turned c.args.rising t.coefficient) c.term.view_is in
+    term_lets c.args.rising c.args.free.now.items c.loop-term.free.items c.args.low.now c.args.high.now c.args.terms.now c.loop-term.term-index c.term-item.result c.turned-coef.result
+    c.loop-term.invariant c.loop-term-test.true c.term-item.is coef c.if-low_lets_fall.ensures c.if-high_lets_fall.ensures
 
 pub loop-term-preserved : goal.loop-term-preserved
 loop-term-preserved c =
-    let below : c.loop-term.term-index < length c.args.terms.now = search rules in
-    term_next c.args.rising c.args.free.now.items c.loop-term.free.items c.lock_term.new.free.items c.args.low.now c.args.high.now c.args.terms.now c.loop-term.term-index c.term-item.result
-    c.loop-term.invariant below c.term-item.is c.lock_term.ensures.fewer c.lock_term.ensures.lets
+    term_locks c.args.rising c.args.free.now.items c.loop-term.free.items _ c.args.low.now c.args.high.now c.args.terms.now c.loop-term.term-index _ c.term-item.result
+    c.loop-term.invariant c.loop-term-test.true c.term-item.is (ap (λ (t : Term). t.column) c.term.view_is) refl

@@ -1,7 +1,13 @@
-use Rattle.cip_presolve.proofs.Plans.{target_more}
+use Rattle.cip_presolve.proofs.Plans.{target_more, all_targets}
+use Rattle.std.proofs.Common.{◌≡◌, length, rules}
 use Rattle.cip_presolve.proofs.moves.targets.Goals as goal
 
 pub loop-column-preserved : goal.loop-column-preserved
 loop-column-preserved c =
     target_more c.args.rising c.args.free.now c.args.draft.now c.loop-column.targets.items c.push.new.self.items c.moved.result c.loop-column.column
     c.loop-column.invariant c.moved.ensures c.in_ok-push.ensures.items
+
+pub returns : goal.returns
+returns c =
+    let count : c.loop-column.column ≡ length c.args.draft.now.bounds = search rules in
+    all_targets c.args.rising c.args.free.now c.args.draft.now c.loop-column.targets.items c.loop-column.column c.loop-column.invariant count

@@ -1,6 +1,6 @@
-use Rattle.std.proofs.Common.{◌∙◌}
+use Rattle.std.proofs.Common.{◌∙◌, refl}
+use Rattle.cip_search.proofs.Pairing.{exact_self, exact_after}
 use Rattle.cip_presolve.proofs.rounds.merge_rows.Goals as goal
-use Rattle.cip_search.proofs.Pairing.{exact_after}
 
 pub loop-at-preserved : goal.loop-at-preserved
 loop-at-preserved c = record {
@@ -8,5 +8,11 @@ loop-at-preserved c = record {
   rows = c.merge_pair.ensures.rows ∙ c.loop-at.invariant.rows;
 }
 
+pub returns-in_default-merge_pair-clause-step : goal.returns-in_default-merge_pair-clause-step
+returns-in_default-merge_pair-clause-step c = exact_after _ _ _ c.loop-at.invariant.step c.merge_pair.ensures.step
+
 pub returns-in_default-clause-step : goal.returns-in_default-clause-step
-returns-in_default-clause-step c = exact_after _ _ _ c.loop-at.invariant.step c.merge_pair.ensures.step
+returns-in_default-clause-step c = exact_self c.args.draft.now
+
+pub loop-at-init : goal.loop-at-init
+loop-at-init c = record { step = exact_self c.args.draft.now; rows = refl }

@@ -1,5 +1,11 @@
+use Rattle.std.proofs.Common.{List, Option, sym, subst}
+use Rattle.cip_presolve.specs.Forms.{Form}
+use Rattle.cip_presolve.specs.ColumnsOut.{MayAllGo}
 use Rattle.cip_presolve.proofs.rounds.move_columns.Goals as goal
 use Rattle.cip_presolve.proofs.Planned.{stays_step}
 
-pub returns-in_err-forms-clause-step : goal.returns-in_err-forms-clause-step
-returns-in_err-forms-clause-step c = stays_step c.args.draft.now
+pub returns-in_default-clause-step : goal.returns-in_default-clause-step
+returns-in_default-clause-step c = stays_step c.args.draft.now
+
+pub try_moves-requires-clause-may : goal.try_moves-requires-clause-may
+try_moves-requires-clause-may c = subst (λ (fs : List (Option Form)). MayAllGo c.args.draft.now fs) (sym c.as_slice.ensures.value) c.in-Ok.ensures.may

@@ -13,7 +13,8 @@ pub loop-row-preserved : goal.loop-row-preserved
 loop-row-preserved c =
     c.in_ok-push.ensures.items
     ∙ ap₂ (λ (rows : List Row) (row : Row). rows ++ row ∷ []) c.loop-row.invariant
-    (c.in_ok-copied_row.ensures ∙ c.row-item.is)
+    (c.in_ok-row_of_terms.ensures
+    ∙ (λ i. record { terms = c.terms.ensures.terms i; low = c.low.ensures i; high = c.high.ensures i }) ∙ c.row-item.is)
     ∙ sym (take_more c.args.rows.now c.loop-row.row-index c.row-item.result c.loop-row-test.true)
 
 pub returns : goal.returns

@@ -5,13 +5,16 @@ use Rattle.cip_search.proofs.Pairing.{exact_after}
 
 pub loop-at-preserved : goal.loop-at-preserved
 loop-at-preserved c = record {
-  step = exact_after _ _ _ c.loop-at.invariant.step c.imply_at.ensures.step;
-  rows = c.imply_at.ensures.rows ∙ c.loop-at.invariant.rows;
-  enclosed = stays_enclosed _ _ _ _ c.imply_at.ensures.step c.imply_at.ensures.rows c.loop-at.invariant.enclosed;
+  step = exact_after _ _ _ c.loop-at.invariant.step c.try_implied.ensures.step;
+  rows = c.try_implied.ensures.rows ∙ c.loop-at.invariant.rows;
+  enclosed = stays_enclosed _ _ _ _ c.try_implied.ensures.step c.try_implied.ensures.rows c.loop-at.invariant.enclosed;
 }
 
-pub returns-in_default-clause-step : goal.returns-in_default-clause-step
-returns-in_default-clause-step c = exact_after _ _ _ c.loop-at.invariant.step c.imply_at.ensures.step
+pub returns-in-Ok-NoPoint-clause-step : goal.returns-in-Ok-NoPoint-clause-step
+returns-in-Ok-NoPoint-clause-step c = exact_after _ _ _ c.loop-at.invariant.step c.try_implied.ensures.step
 
-pub returns-in_default-2-clause-step : goal.returns-in_default-2-clause-step
-returns-in_default-2-clause-step c = exact_after _ _ _ c.loop-at.invariant.step c.imply_at.ensures.step
+pub returns-in-Err-clause-step : goal.returns-in-Err-clause-step
+returns-in-Err-clause-step c = exact_after _ _ _ c.loop-at.invariant.step c.try_implied.ensures.step
+
+pub returns-in_err-tell-in-Ok-clause-step : goal.returns-in_err-tell-in-Ok-clause-step
+returns-in_err-tell-in-Ok-clause-step c = exact_after _ _ _ c.loop-at.invariant.step c.try_implied.ensures.step

@@ -1,9 +1,11 @@
-use Rattle.std.proofs.Common.{◌≡◌, Ok, ap, ◌∙◌, subst}
+use Rattle.std.proofs.Common.{◌≡◌, Ok, ap, ◌∙◌, subst, ◌<◌, length, sym}
 use Rattle.cip_problem.specs.Activity.{value_at}
 use Rattle.cip_frac.specs.Outcomes.{product_added}
 use Rattle.cip_presolve.specs.NarrowedPrograms.{with_cost}
 use Rattle.cip_presolve.specs.Forms.{Form}
 use Rattle.cip_presolve.proofs.FormsSubstituted.{cost_moved_by}
+use Rattle.cip_search.proofs.Pairing.{exact_self}
+use Rattle.cip_problem.specs.Program.{Program}
 use Rattle.cip_presolve.proofs.row_steps.move_cost.Goals as goal
 
 pub returns-clause-step : goal.returns-clause-step
@@ -20,3 +22,11 @@ returns-clause-step c =
     c.requires.there c.bounds-bounds.ensures.formed.costs c.requires.gives c.requires.substitute c.cost-cost.ensures
     (c.cost-more.ensures ∙ ap (λ n. value_at c.args.draft.now.costs n) source) c.zero.ensures first second c.set_cost.ensures
     (c.set_cost-2.ensures ∙ ap (λ n. with_cost c.set_cost.new.self n c.add_product-else-not-add_product.new.self c.add_product.new.self) source)
+
+pub returns-then-is_zero-clause-step : goal.returns-then-is_zero-clause-step
+returns-then-is_zero-clause-step c = exact_self c.args.draft.now
+
+pub set_cost-requires-2 : goal.set_cost-requires-2
+set_cost-requires-2 c =
+    subst (λ (p : Program). c.form.inside.source < length p.bounds) (sym c.set_cost.ensures)
+    (subst (λ n. n < length c.args.draft.now.bounds) (sym (ap (λ (f : Form). f.source) c.form.view_is)) c.requires.substitute.source)

@@ -1,4 +1,4 @@
-use Rattle.std.proofs.Common.{◌≡◌, List, Some, slice_get, sym, ap, ◌∙◌, subst, true≢false}
+use Rattle.std.proofs.Common.{◌≡◌, List, Some, slice_get, sym, ap, ◌∙◌, subst, true≢false, ◌<◌, length}
 use Rattle.cip_problem.specs.Program.{Term, Sides, Row}
 use Rattle.cip_problem.specs.Box.{sides_at}
 use Rattle.cip_problem.specs.Choices.{met}
@@ -26,3 +26,12 @@ returns c =
     c.met.ensures ∙ ap (λ s. met s c.in-Some-single_sides.implied) other ∙ ap (λ s. met (sides_at c.args.draft.now.bounds c.args.form.now.source) s) c.in-Some-single_sides.ensures in
     source_implied c.args.draft.now c.args.place c.args.column c.args.form.now c.empty-row.result term c.is_whole.result c.met.result c.requires.there c.requires.gives c.requires.substitute
     (λ e. true≢false (sym (c.is_zero.ensures.1 (factor ∙ e)) ∙ c.if-is_zero.false)) low high source factor whole are
+
+pub is_whole-requires : goal.is_whole-requires
+is_whole-requires c =
+    subst (λ n. n < length c.args.draft.now.bounds) (sym (ap (λ (f : Form). f.source) c.form.view_is)) c.requires.substitute.source
+
+pub sides-requires : goal.sides-requires
+sides-requires c =
+    subst (λ (box : List Sides). c.form.inside.source < length box) (sym c.bounds-2.ensures.bounds)
+    (subst (λ n. n < length c.args.draft.now.bounds) (sym (ap (λ (f : Form). f.source) c.form.view_is)) c.requires.substitute.source)

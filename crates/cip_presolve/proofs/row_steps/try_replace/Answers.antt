@@ -1,5 +1,6 @@
 use Rattle.cip_presolve.specs.ColumnForms.{IsReplacedIn}
 use Rattle.cip_presolve.proofs.FormsSubstituted.{replaced_by}
+use Rattle.cip_search.proofs.Pairing.{exact_self}
 use Rattle.cip_presolve.proofs.row_steps.try_replace.Goals as goal
 
 pub returns-clause-step : goal.returns-clause-step
@@ -7,3 +8,9 @@ returns-clause-step c =
     let replaced : IsReplacedIn c.row.result.now c.args.column c.args.form.now c.in-Some.row = rw c.in-Some.is at c.in_ok-row.ensures in
     replaced_by c.args.draft.now c.set_row.new.self c.args.number c.args.place c.args.column c.args.form.now c.row.result.now c.in-Some.row
     c.if-number-place.false c.requires.there c.row.ensures.row c.requires.gives replaced c.set_row.ensures
+
+pub returns-in_err-row-clause-step : goal.returns-in_err-row-clause-step
+returns-in_err-row-clause-step c = exact_self c.args.draft.now
+
+pub returns-in_default-clause-step : goal.returns-in_default-clause-step
+returns-in_default-clause-step c = exact_self c.args.draft.now

@@ -1,9 +1,14 @@
-use Rattle.std.proofs.Common.{◌<◌, length, rules}
-use Rattle.cip_presolve.proofs.StayingColumns.{term_kept}
+use Rattle.std.proofs.Common.{ap}
+use Rattle.cip_problem.specs.Program.{Term}
+use Rattle.cip_presolve.proofs.StayingColumns.{term_in, term_but}
 use Rattle.cip_presolve.proofs.staying.keep_terms.Goals as goal
 
 pub loop-term-preserved : goal.loop-term-preserved
 loop-term-preserved c =
-    let below : c.loop-term.term-index < length c.args.terms.now = search rules in
-    term_kept c.args.forms.now.items c.loop-term.forms.items c.keep_term.new.forms.items c.args.but c.args.terms.now c.loop-term.term-index c.term-item.result
-    c.loop-term.invariant below c.term-item.is c.keep_term.ensures.fewer c.keep_term.ensures.term
+    term_in c.args.forms.now.items c.loop-term.forms.items c.keep_column.new.forms.items c.args.but c.args.terms.now c.loop-term.term-index c.term.inside.col c.term-item.result
+    c.loop-term.invariant c.loop-term-test.true c.term-item.is (ap (λ (t : Term). t.column) c.term.view_is) c.keep_column.ensures.fewer c.keep_column.ensures.stays
+
+pub loop-term-preserved-then-is_but : goal.loop-term-preserved-then-is_but
+loop-term-preserved-then-is_but c =
+    term_but c.args.forms.now.items c.loop-term.forms.items c.args.but c.args.terms.now c.loop-term.term-index c.term.inside.col c.term-item.result
+    c.loop-term.invariant c.loop-term-test.true c.term-item.is (ap (λ (t : Term). t.column) c.term.view_is) c.if-is_but.ensures

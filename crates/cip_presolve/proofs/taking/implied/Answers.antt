@@ -1,16 +1,21 @@
-use Rattle.std.proofs.Common.{◌≡◌, true, List, length, ap, sym, ◌∙◌, subst}
+use Rattle.std.proofs.Common.{◌≡◌, true, false, List, Some, slice_get, length, ap, sym, ◌∙◌, subst, ◌<◌}
 use Rattle.cip_problem.specs.Program.{Term, Sides}
 use Rattle.cip_problem.specs.Box.{sides_at}
-use Rattle.cip_problem.specs.Choices.{met}
+use Rattle.cip_problem.specs.Choices.{met, choice_at, is_open}
 use Rattle.cip_presolve.specs.Rests.{AreRests, Implies}
-use Rattle.cip_presolve.specs.Taken.{IsPlainWhole, IsImplied}
+use Rattle.cip_presolve.specs.Taken.{IsImplied}
 use Rattle.cip_presolve.proofs.ImpliedSides.{found_by, term_inside}
+use Rattle.cip_problem.specs.Activity.{StandsBelow}
+use Rattle.cip_presolve.specs.RowReading.{Encloses}
 use Rattle.cip_presolve.proofs.taking.implied.Goals as goal
 
 pub returns : goal.returns
 returns c =
     let column : c.term.inside.col ≡ c.term_at-term.result.column = ap (λ (t : Term). t.column) c.term.view_is in
-    let both : IsPlainWhole c.args.draft.now c.term_at-term.result.column = subst (λ n. IsPlainWhole c.args.draft.now n) column c.if-not-is_plain_whole.ensures in
+    let plain : is_open (choice_at c.args.draft.now.choices c.term_at-term.result.column) ≡ false =
+    subst (λ n. is_open (choice_at c.args.draft.now.choices n) ≡ false) column (sym c.is_semi.ensures ∙ c.if-is_semi.false) in
+    let whole : slice_get c.args.draft.now.integral c.term_at-term.result.column ≡ Some true =
+    subst (λ n. slice_get c.args.draft.now.integral n ≡ Some true) column (c.is_whole.ensures ∙ ap (λ b. Some b) c.if-not-is_whole.false) in
     let each : (box : List Sides) → AreRests box c.row-row.result.now.terms c.args.at c.in_ok-others.others → Implies box c.row-row.result.now c.args.at true c.in-Some.implied = rw c.in-Some.is at c.implied_sides.ensures in
     let read : Implies c.bounds.result.now c.row-row.result.now c.args.at true c.in-Some.implied = each c.bounds.result.now c.in_ok-others.ensures in
     let implies : Implies c.args.draft.now.bounds c.row-row.result.now c.args.at true c.in-Some.implied = subst (λ (box : List Sides). Implies box c.row-row.result.now c.args.at true c.in-Some.implied) c.bounds.ensures.bounds read in
@@ -19,4 +24,25 @@ returns c =
     subst (λ n. IsImplied c.args.draft.now n c.met.result) (sym column)
     (found_by c.args.draft.now c.args.number c.args.at c.row-row.result.now c.term_at-term.result c.in-Some.implied c.met.result c.row-row.ensures.row c.term_at-term.ensures.term
     (term_inside (length c.args.draft.now.bounds) c.row-row.result.now.terms c.args.at c.term_at-term.result c.row-row.ensures.stands c.term_at-term.ensures.term)
-    both.plain both.whole implies (c.met.ensures ∙ ap (λ s. met s c.in-Some.implied) own))
+    plain whole implies (c.met.ensures ∙ ap (λ s. met s c.in-Some.implied) own))
+
+pub is_whole-requires : goal.is_whole-requires
+is_whole-requires c =
+    let inside : c.term_at-term.result.column < length c.args.draft.now.bounds =
+    term_inside (length c.args.draft.now.bounds) c.row-row.result.now.terms c.args.at c.term_at-term.result c.row-row.ensures.stands c.term_at-term.ensures.term in
+    let own : c.term.inside.col < length c.args.draft.now.bounds = subst (λ n. n < length c.args.draft.now.bounds) (sym (ap (λ (t : Term). t.column) c.term.view_is)) inside in
+    own
+
+pub sides-requires : goal.sides-requires
+sides-requires c =
+    let inside : c.term_at-term.result.column < length c.args.draft.now.bounds =
+    term_inside (length c.args.draft.now.bounds) c.row-row.result.now.terms c.args.at c.term_at-term.result c.row-row.ensures.stands c.term_at-term.ensures.term in
+    let own : c.term.inside.col < length c.args.draft.now.bounds = subst (λ n. n < length c.args.draft.now.bounds) (sym (ap (λ (t : Term). t.column) c.term.view_is)) inside in
+    subst (λ (box : List Sides). c.term.inside.col < length box) (sym c.bounds-2.ensures.bounds) own
+
+pub rests-requires-clause-stands : goal.rests-requires-clause-stands
+rests-requires-clause-stands c = subst (λ (box : List Sides). StandsBelow (length box) c.row-row.result.now.terms) (sym c.bounds.ensures.bounds) c.row-row.ensures.stands
+
+pub rests-requires-clause-encloses : goal.rests-requires-clause-encloses
+rests-requires-clause-encloses c =
+    subst (λ (box : List Sides). Encloses box c.row-row.result.now.terms c.args.extent) (sym c.bounds.ensures.bounds) (c.requires.encloses c.row-row.result.now c.row-row.ensures.row)

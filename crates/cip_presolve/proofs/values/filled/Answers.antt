@@ -1,5 +1,5 @@
 use Rattle.std.proofs.Common.{◌<◌, length, rules, sym}
-use Rattle.cip_presolve.proofs.FilledPoints.{one_overflows, next_one}
+use Rattle.cip_presolve.proofs.FilledPoints.{one_overflows, next_one, all_filled}
 use Rattle.cip_presolve.proofs.values.filled.Goals as goal
 
 pub returns-in-Err : goal.returns-in-Err
@@ -12,3 +12,6 @@ loop-column-preserved c =
     let below : c.loop-column.column < length c.args.forms.now = search rules in
     next_one c.args.forms.now c.args.point.now c.loop-column.whole.items _ c.loop-column.column c.index-forms-column.result c.index-forms-column.result c.in-Ok.value
     c.loop-column.invariant c.requires below (sym c.index-forms-column.is) (sym c.in-Ok.ensures) c.in_ok-push-in-Ok.ensures.items
+
+pub returns : goal.returns
+returns c = all_filled c.args.forms.now c.args.point.now c.loop-column.whole.items c.loop-column.column c.loop-column.invariant c.loop-column-test.false

@@ -1,9 +1,15 @@
+use Rattle.std.proofs.Common.{List, subst}
+use Rattle.cip_problem.specs.Program.{Sides}
+use Rattle.cip_search.specs.RowSteps.{HoldsInAll, HoldsNowhere}
 use Rattle.cip_presolve.proofs.Ruled.{dropped_by, broken_by}
 use Rattle.cip_presolve.proofs.drafts.Draft.try_redundant.Goals as goal
 
 pub returns-in-HoldsAlways-clause-step : goal.returns-in-HoldsAlways-clause-step
 returns-in-HoldsAlways-clause-step c =
-    dropped_by c.args.self.now c.clear_row.new.self c.args.number c.requires c.in-HoldsAlways.ensures c.clear_row.ensures
+    dropped_by c.args.self.now c.clear_row.new.self c.args.number c.row.result.now c.row.ensures.row
+    (subst (λ (box : List Sides). HoldsInAll box c.row.result.now) c.bounds.ensures.bounds c.in-HoldsAlways.ensures) c.clear_row.ensures
 
 pub returns-in-HoldsNever-clause-end : goal.returns-in-HoldsNever-clause-end
-returns-in-HoldsNever-clause-end c = broken_by c.args.self.now c.args.number c.requires c.in-HoldsNever.ensures
+returns-in-HoldsNever-clause-end c =
+    broken_by c.args.self.now c.args.number c.row.result.now c.row.ensures.row
+    (subst (λ (box : List Sides). HoldsNowhere box c.row.result.now) c.bounds.ensures.bounds c.in-HoldsNever.ensures)

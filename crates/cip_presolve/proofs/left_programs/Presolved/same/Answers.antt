@@ -9,16 +9,16 @@ use Rattle.cip_presolve.proofs.left_programs.Presolved.same.Goals as goal
 
 pub returns-clause-exact : goal.returns-clause-exact
 returns-clause-exact c =
-    let forms : c.in_ok-forms.forms.items ≡ replicate (columns c.args.program.now) None = c.in_ok-forms.ensures ∙ ap (λ n. replicate n None) c.columns.ensures.count in
-    let whole : c.in_ok-whole.whole.items ≡ c.args.program.now.integral = search rules in
-    subst (λ (s : StepsTaken). IsExactlyPresolved c.args.program.now (record { reduced = c.in_ok-reduced.reduced; steps = s; kept = c.in_ok-kept.kept })) (sym c.new.ensures) (record {
-      pair = same_exact c.args.program.now c.in_ok-reduced.reduced c.in_ok-forms.forms.items c.columns.ensures.formed c.in_ok-reduced.ensures forms;
+    let forms : c.in-Ok-none_gone.forms.items ≡ replicate (columns c.args.program.now) None = c.in-Ok-none_gone.ensures ∙ ap (λ n. replicate n None) c.columns.ensures.count in
+    let whole : c.in-Ok.whole.items ≡ c.args.program.now.integral = search rules in
+    subst (λ (s : StepsTaken). IsExactlyPresolved c.args.program.now (record { reduced = c.in-Ok-copied.reduced; steps = s; kept = c.in-Ok-numbers.kept })) (sym c.new.ensures) (record {
+      pair = same_exact c.args.program.now c.in-Ok-copied.reduced c.in-Ok-none_gone.forms.items c.columns.ensures.formed c.in-Ok-copied.ensures forms;
       numbers = record {
-        kept = none_kept (columns c.args.program.now) c.in_ok-forms.forms.items c.in_ok-kept.kept.items forms (c.in_ok-kept.ensures ∙ ap (λ n. counted 0 n) c.columns-2.ensures.count);
+        kept = none_kept (columns c.args.program.now) c.in-Ok-none_gone.forms.items c.in-Ok-numbers.kept.items forms (c.in-Ok-numbers.ensures ∙ ap (λ n. counted 0 n) c.columns-2.ensures.count);
         whole = whole;
-        left = same_whole c.args.program.now c.in_ok-reduced.reduced c.in_ok-forms.forms.items c.in_ok-whole.whole.items c.columns.ensures.formed c.in_ok-reduced.ensures forms whole;
+        left = same_whole c.args.program.now c.in-Ok-copied.reduced c.in-Ok-none_gone.forms.items c.in-Ok.whole.items c.columns.ensures.formed c.in-Ok-copied.ensures forms whole;
       };
-      leaves = λ wholes a. none_overflows (columns c.args.program.now) c.in_ok-forms.forms.items c.in_ok-whole.whole.items _ forms;
+      leaves = λ wholes a. none_overflows (columns c.args.program.now) c.in-Ok-none_gone.forms.items c.in-Ok.whole.items _ forms;
     })
 
 pub returns-clause-pair : goal.returns-clause-pair
@@ -26,9 +26,9 @@ returns-clause-pair c = let e = returns-clause-exact c in record { pair = e.pair
 
 pub returns-clause-unchanged : goal.returns-clause-unchanged
 returns-clause-unchanged c =
-    let forms : c.in_ok-forms.forms.items ≡ replicate (columns c.args.program.now) None = c.in_ok-forms.ensures ∙ ap (λ n. replicate n None) c.columns.ensures.count in
+    let forms : c.in-Ok-none_gone.forms.items ≡ replicate (columns c.args.program.now) None = c.in-Ok-none_gone.ensures ∙ ap (λ n. replicate n None) c.columns.ensures.count in
     record {
-      reduced = c.in_ok-reduced.ensures;
-      kept = c.in_ok-kept.ensures ∙ ap (λ n. counted 0 n) c.columns-2.ensures.count;
-      point = λ point long. ap (λ (s : StepsTaken). spread s.forms point) c.new.ensures ∙ none_changes c.args.program.now c.in_ok-forms.forms.items point c.columns.ensures.formed forms long;
+      reduced = c.in-Ok-copied.ensures;
+      kept = c.in-Ok-numbers.ensures ∙ ap (λ n. counted 0 n) c.columns-2.ensures.count;
+      point = λ point long. ap (λ (s : StepsTaken). spread s.forms point) c.new.ensures ∙ none_changes c.args.program.now c.in-Ok-none_gone.forms.items point c.columns.ensures.formed forms long;
     }

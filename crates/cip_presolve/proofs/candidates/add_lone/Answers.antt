@@ -1,0 +1,6 @@
+use Rattle.std.proofs.Common.{refl}
+use Rattle.cip_presolve.proofs.MayLeave.{form_added}
+use Rattle.cip_presolve.proofs.candidates.add_lone.Goals as goal
+
+pub returns-in-Some : goal.returns-in-Some
+returns-in-Some c = form_added c.args.draft.now c.args.forms.now.items _ c.args.column c.in-Some.form c.requires.may c.in-Some.ensures refl

@@ -1,0 +1,13 @@
+use Rattle.cip_presolve.proofs.MayLeave.{one_may, all_may}
+use Rattle.std.proofs.Common.{◌≡◌, length, rules}
+use Rattle.cip_presolve.proofs.candidates.values_out.Goals as goal
+
+pub loop-column-preserved : goal.loop-column-preserved
+loop-column-preserved c =
+    one_may c.args.draft.now c.loop-column.forms.items c.push.new.self.items c.value_out.result c.loop-column.column
+    c.loop-column.invariant c.value_out.ensures c.in_ok-push.ensures.items
+
+pub returns : goal.returns
+returns c =
+    let count : c.loop-column.column ≡ length c.args.draft.now.bounds = search rules in
+    all_may c.args.draft.now c.loop-column.forms.items c.loop-column.column c.loop-column.invariant count

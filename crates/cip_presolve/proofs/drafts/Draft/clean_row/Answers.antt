@@ -1,0 +1,29 @@
+use Rattle.std.proofs.Common.{List, length, subst, sym}
+use Rattle.cip_problem.specs.Program.{Sides}
+use Rattle.cip_problem.specs.Activity.{StandsBelow}
+use Rattle.cip_presolve.specs.RowReading.{IsLeftRow}
+use Rattle.cip_presolve.proofs.Ruled.{cleaned_by}
+use Rattle.cip_search.proofs.Pairing.{exact_self}
+use Rattle.cip_presolve.proofs.drafts.Draft.clean_row.Goals as goal
+
+pub set_row-requires-clause-stands : goal.set_row-requires-clause-stands
+set_row-requires-clause-stands c =
+    let left : IsLeftRow c.bounds-2.result.now c.row-row.result.now c.in-Ok-Some.row = rw c.in-Ok-Some.field-0-is at c.in-Ok-Some.ensures in
+    subst (λ (box : List Sides). StandsBelow (length box) c.in-Ok-Some.row.terms) c.bounds-2.ensures.bounds left.stands
+
+pub returns-in-Ok-Some-clause-step : goal.returns-in-Ok-Some-clause-step
+returns-in-Ok-Some-clause-step c =
+    cleaned_by c.args.self.now c.set_row.new.self c.args.number c.row-row.result.now c.in-Ok-Some.row c.bounds-2.result.now c.row-row.ensures.row c.bounds-2.ensures.bounds
+    (rw c.in-Ok-Some.field-0-is at c.in-Ok-Some.ensures) c.set_row.ensures
+
+pub returns-in-Ok-None-clause-step : goal.returns-in-Ok-None-clause-step
+returns-in-Ok-None-clause-step c = exact_self c.args.self.now
+
+pub returns-in-Err-clause-step : goal.returns-in-Err-clause-step
+returns-in-Err-clause-step c = exact_self c.args.self.now
+
+pub returns-then-not-has_fixed-clause-step : goal.returns-then-not-has_fixed-clause-step
+returns-then-not-has_fixed-clause-step c = exact_self c.args.self.now
+
+pub without_fixed-requires : goal.without_fixed-requires
+without_fixed-requires c = subst (λ (box : List Sides). StandsBelow (length box) c.row-row.result.now.terms) (sym c.bounds-2.ensures.bounds) c.row-row.ensures.stands

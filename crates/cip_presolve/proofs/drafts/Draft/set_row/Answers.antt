@@ -1,0 +1,11 @@
+use Rattle.std.proofs.Common.{length, sym, subst}
+use Rattle.cip_problem.specs.Program.{Program}
+use Rattle.cip_problem.specs.Activity.{StandsBelow}
+use Rattle.cip_presolve.specs.DraftInside.{shown}
+use Rattle.cip_presolve.proofs.Drafted.{row_set}
+use Rattle.cip_presolve.proofs.drafts.Draft.set_row.Goals as goal
+
+pub invariant_of-self : goal.invariant_of-self
+invariant_of-self c =
+    row_set (shown c.self.inside) c.args.number c.args.row c.self.invariant
+    (subst (λ (p : Program). StandsBelow (length p.bounds) c.args.row.terms) (sym c.self.view_is) c.requires.stands)

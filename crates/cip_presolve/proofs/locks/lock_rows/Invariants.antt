@@ -1,5 +1,0 @@
-use Rattle.cip_presolve.proofs.Free.{RowsLockedTo}
-use Rattle.cip_presolve.proofs.locks.lock_rows.Given as goal
-
-abbrev pub invariant-loop-row : goal.invariant-loop-row
-invariant-loop-row l = RowsLockedTo l.rising l.initial.free.items l.free.items l.forms l.rows l.row-index

@@ -1,0 +1,8 @@
+use Rattle.std.proofs.Common.{◌<◌, length, rules}
+use Rattle.cip_presolve.proofs.Plans.{one_taken}
+use Rattle.cip_presolve.proofs.moves.take_plan.Goals as goal
+
+pub loop-column-preserved : goal.loop-column-preserved
+loop-column-preserved c =
+    let below : c.loop-column.column < length c.args.draft.now.bounds = search rules in
+    one_taken c.args.plan.now c.args.draft.now c.loop-column.draft c.take_one.new.draft c.loop-column.column c.target_at.result c.loop-column.invariant below c.target_at.ensures c.take_one.ensures

@@ -1,0 +1,30 @@
+use Rattle.std.proofs.Common.{◌≡◌, ◌∙◌, ◌<◌, false, length, sym, ap, subst}
+use Rattle.cip_problem.specs.Choices.{choice_at, is_open}
+use Rattle.cip_search.specs.NarrowedPrograms.{with_sides}
+use Rattle.cip_search.proofs.Pairing.{exact_self}
+use Rattle.cip_presolve.specs.Forms.{Form}
+use Rattle.cip_presolve.proofs.ImpliedSides.{taken_by}
+use Rattle.cip_presolve.proofs.row_steps.take_sides.Goals as goal
+
+pub returns-in_default-clause-step : goal.returns-in_default-clause-step
+returns-in_default-clause-step c = exact_self c.args.draft.now
+
+pub returns-then-cross-clause-step : goal.returns-then-cross-clause-step
+returns-then-cross-clause-step c = exact_self c.args.draft.now
+
+pub returns-then-is_far-clause-step : goal.returns-then-is_far-clause-step
+returns-then-is_far-clause-step c = exact_self c.args.draft.now
+
+pub returns-then-is_inside-clause-step : goal.returns-then-is_inside-clause-step
+returns-then-is_inside-clause-step c = exact_self c.args.draft.now
+
+pub set_sides-requires-clause-inside : goal.set_sides-requires-clause-inside
+set_sides-requires-clause-inside c = subst (λ n. n < length c.args.draft.now.bounds) (sym (ap (λ (f : Form). f.source) c.form.view_is)) c.in-Some.ensures.inside
+
+pub set_sides-requires-clause-plain : goal.set_sides-requires-clause-plain
+set_sides-requires-clause-plain c = subst (λ n. is_open (choice_at c.args.draft.now.choices n) ≡ false) (sym (ap (λ (f : Form). f.source) c.form.view_is)) c.in-Some.ensures.plain
+
+pub returns-clause-step : goal.returns-clause-step
+returns-clause-step c =
+    taken_by c.args.draft.now c.set_sides.new.self c.args.form.now.source c.in-Some.sides c.in-Some.ensures
+    (c.set_sides.ensures ∙ ap (λ (f : Form). with_sides c.args.draft.now f.source c.in-Some.sides) c.form.view_is)

@@ -1,0 +1,8 @@
+use Rattle.cip_search.proofs.Pairing.{exact_self}
+use Rattle.cip_presolve.proofs.substituting.substitute_by.Goals as goal
+
+pub returns-in-None-clause-step : goal.returns-in-None-clause-step
+returns-in-None-clause-step c = exact_self c.args.draft.now
+
+pub returns-then-is_used-clause-step : goal.returns-then-is_used-clause-step
+returns-then-is_used-clause-step c = exact_self c.args.draft.now
