@@ -3,7 +3,6 @@ ghost use Rattle.std.specs.Prelude.{◌≡◌, ◌<◌, true, length, slice_get,
 ghost use Rattle.std.specs.Bool.{OnTrue};
 ghost use Rattle.cip_rational.specs.Rational.{IsWhole};
 ghost use Rattle.cip_rational.specs.Range.{fits_range};
-ghost use Rattle.cip_presolve.specs.Forms.{constant_form};
 ghost use Rattle.cip_presolve.specs.ColumnForms.{IsSubstitute};
 ghost use Rattle.cip_presolve.specs.ColumnsOut.{IsPlainAndFree, GoesAtValue, GoesWhole, GoesByForm, MayAllGo};
 
@@ -36,17 +35,6 @@ fn is_free(draft: &Draft, column: u32) -> bool
     !draft.is_semi(column) && draft.cost(column).is_zero()
 }
 
-/// The form of a value that doesn't change.
-fn constant_form(value: Frac) -> ColumnForm
-    ensures { result ≡ constant_form value }
-{
-    ColumnForm {
-        constant: value,
-        factor: Frac::zero(),
-        source: 0,
-    }
-}
-
 /// The form by which a column may be left out, where no row has it: that of the value of its equal sides.
 #[tactic(auto, using(crate::proofs::MayLeave::at_value))]
 fn value_out(draft: &Draft, column: u32) -> Option<ColumnForm>
@@ -59,7 +47,11 @@ fn value_out(draft: &Draft, column: u32) -> Option<ColumnForm>
     if !is_free(draft, column) || !can_be(value, draft.is_whole(column)) {
         return None;
     }
-    Some(constant_form(value))
+    Some(ColumnForm {
+        constant: value,
+        factor: Frac::zero(),
+        source: 0,
+    })
 }
 
 /// The forms of the columns that may be left out at one value, where no row has them; `Err` where the memory for them

@@ -1,7 +1,6 @@
 //! The rule that looks at one column: one with equal sides costs nothing from then on.
-ghost use Rattle.std.specs.Prelude.{◌≡◌, ◌<◌, length, Ok, IfSome};
+ghost use Rattle.std.specs.Prelude.{◌≡◌, ◌<◌, length};
 ghost use Rattle.cip_problem.specs.Activity.{value_at};
-ghost use Rattle.cip_presolve.specs.Outcomes.{product_added};
 ghost use Rattle.cip_presolve.specs.NarrowedPrograms.{IsExactStep, with_cost};
 ghost use Rattle.cip_presolve.specs.RuleEnds.{EndsRightly};
 
@@ -28,20 +27,6 @@ impl Draft {
         self.constant = constant;
     }
 
-    /// The constant with what a column costs at a value; `None` where it costs nothing, or the sum isn't in range.
-    fn constant_with(&self, column: u32, value: Frac) -> Option<Frac>
-        requires { column < length self.now.bounds }
-        ensures { IfSome result (λ constant.
-            product_added self.now.constant (value_at self.now.costs column) value ≡ Ok constant) }
-    {
-        let cost = self.cost(column);
-        let mut constant = self.constant;
-        if cost.is_zero() || !constant.add_product(&cost, &value) {
-            return None;
-        }
-        Some(constant)
-    }
-
     /// Moves the cost of a column with equal sides to the constant; `NoPoint` where the column is whole and its value
     /// isn't. Nothing is done where the constant would leave the range.
     #[tactic(auto, using(crate::proofs::Recosted::fixed_columns))]
@@ -58,12 +43,12 @@ impl Draft {
         if self.is_whole(column) && !value.is_whole() {
             return Outcome::NoPoint;
         }
-        match self.constant_with(column, value) {
-            Some(constant) => {
-                self.set_cost(column, Frac::zero(), constant);
-                Outcome::Gone
-            }
-            None => Outcome::Kept,
+        let cost = self.cost(column);
+        let mut constant = self.constant();
+        if cost.is_zero() || !constant.add_product(&cost, &value) {
+            return Outcome::Kept;
         }
+        self.set_cost(column, Frac::zero(), constant);
+        Outcome::Gone
     }
 }

@@ -23,3 +23,6 @@ pub sides-own-requires : goal.sides-own-requires
 sides-own-requires c =
     subst (λ (box : List Sides). c.form.inside.source < length box) (sym c.bounds.ensures.bounds)
     (subst (λ n. n < length c.args.draft.now.bounds) (sym (ap (λ (f : Form). f.source) c.form.view_is)) c.if-not-is_substitute.ensures.source)
+
+pub sides-outer-requires : goal.sides-outer-requires
+sides-outer-requires c = subst (λ (box : List Sides). c.args.column < length box) (sym c.bounds-2.ensures.bounds) c.if-not-is_substitute.ensures.inside

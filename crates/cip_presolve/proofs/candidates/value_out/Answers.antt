@@ -9,4 +9,4 @@ pub returns : goal.returns
 returns c =
     let only : Some c.in-Some.value ≡ only_value (sides_at c.args.draft.now.bounds c.args.column) =
     sym c.in-Some.is ∙ c.only_value.ensures ∙ ap only_value c.sides.ensures ∙ ap (λ (box : List Sides). only_value (sides_at box c.args.column)) c.bounds.ensures.bounds in
-    goes_at_value c.args.draft.now c.args.column c.in-Some.value c.constant_form.result only c.constant_form.ensures c.if-not-is_free.ensures c.is_whole.result c.is_whole.ensures c.if-not-can_be.ensures.whole c.can_be.ensures.in_range
+    goes_at_value c.args.draft.now c.args.column c.in-Some.value (record { constant = c.in-Some.value; factor = c.zero.result; source = 0 }) only (λ i. record { constant = c.in-Some.value; factor = c.zero.ensures i; source = 0 }) c.if-not-is_free.ensures c.is_whole.result c.is_whole.ensures c.if-not-can_be.ensures.whole c.can_be.ensures.in_range

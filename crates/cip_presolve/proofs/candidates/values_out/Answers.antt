@@ -1,5 +1,6 @@
-use Rattle.cip_presolve.proofs.MayLeave.{one_may, all_may}
-use Rattle.std.proofs.Common.{◌≡◌, length, rules}
+use Rattle.cip_presolve.proofs.MayLeave.{one_may, all_may, FirstMayGo, none_yet}
+use Rattle.std.proofs.Common.{◌≡◌, length, rules, List, Option, sym, subst}
+use Rattle.cip_presolve.specs.Forms.{Form}
 use Rattle.cip_presolve.proofs.candidates.values_out.Goals as goal
 
 pub loop-column-preserved : goal.loop-column-preserved
@@ -11,3 +12,6 @@ pub returns : goal.returns
 returns c =
     let count : c.loop-column.column ≡ length c.args.draft.now.bounds = search rules in
     all_may c.args.draft.now c.loop-column.forms.items c.loop-column.column c.loop-column.invariant count
+
+pub loop-column-init : goal.loop-column-init
+loop-column-init c = subst (λ (fs : List (Option Form)). FirstMayGo c.args.draft.now fs 0) (sym c.new-forms.ensures.items) (none_yet c.args.draft.now)

@@ -1,7 +1,7 @@
-use Rattle.std.proofs.Common.{◌∙◌}
+use Rattle.std.proofs.Common.{◌∙◌, refl}
 use Rattle.cip_presolve.proofs.ImpliedSides.{stays_enclosed}
+use Rattle.cip_search.proofs.Pairing.{exact_self, exact_after}
 use Rattle.cip_presolve.proofs.row_looks.imply.Goals as goal
-use Rattle.cip_search.proofs.Pairing.{exact_after}
 
 pub loop-at-preserved : goal.loop-at-preserved
 loop-at-preserved c = record {
@@ -18,3 +18,6 @@ returns-in-Err-clause-step c = exact_after _ _ _ c.loop-at.invariant.step c.try_
 
 pub returns-in_err-tell-in-Ok-clause-step : goal.returns-in_err-tell-in-Ok-clause-step
 returns-in_err-tell-in-Ok-clause-step c = exact_after _ _ _ c.loop-at.invariant.step c.try_implied.ensures.step
+
+pub loop-at-init : goal.loop-at-init
+loop-at-init c = record { step = exact_self c.args.draft.now; rows = refl; enclosed = c.row_extent-extent.ensures }

@@ -1,9 +1,10 @@
-use Rattle.std.proofs.Common.{◌≡◌, ◌∙◌, ◌<◌, false, length, sym, ap, subst}
+use Rattle.std.proofs.Common.{◌≡◌, ◌∙◌, ◌<◌, false, length, sym, ap, subst, List}
 use Rattle.cip_problem.specs.Choices.{choice_at, is_open}
 use Rattle.cip_search.specs.NarrowedPrograms.{with_sides}
 use Rattle.cip_search.proofs.Pairing.{exact_self}
 use Rattle.cip_presolve.specs.Forms.{Form}
 use Rattle.cip_presolve.proofs.ImpliedSides.{taken_by}
+use Rattle.cip_problem.specs.Program.{Sides}
 use Rattle.cip_presolve.proofs.row_steps.take_sides.Goals as goal
 
 pub returns-in_default-clause-step : goal.returns-in_default-clause-step
@@ -28,3 +29,8 @@ pub returns-clause-step : goal.returns-clause-step
 returns-clause-step c =
     taken_by c.args.draft.now c.set_sides.new.self c.args.form.now.source c.in-Some.sides c.in-Some.ensures
     (c.set_sides.ensures ∙ ap (λ (f : Form). with_sides c.args.draft.now f.source c.in-Some.sides) c.form.view_is)
+
+pub sides-requires : goal.sides-requires
+sides-requires c =
+    subst (λ (box : List Sides). c.form.inside.source < length box) (sym c.bounds.ensures.bounds)
+    (subst (λ n. n < length c.args.draft.now.bounds) (sym (ap (λ (f : Form). f.source) c.form.view_is)) c.in-Some.ensures.inside)

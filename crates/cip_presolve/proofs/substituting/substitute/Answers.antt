@@ -1,4 +1,6 @@
 use Rattle.cip_search.proofs.Pairing.{exact_after}
+use Rattle.cip_presolve.specs.Substitutions.{IsFound}
+use Rattle.cip_presolve.proofs.Substituted.{found_later}
 use Rattle.cip_presolve.proofs.substituting.substitute.Goals as goal
 
 pub returns-in_default-clause-step : goal.returns-in_default-clause-step
@@ -8,3 +10,21 @@ returns-in_default-clause-step c =
 pub returns-in-NoPoint-clause-step : goal.returns-in-NoPoint-clause-step
 returns-in-NoPoint-clause-step c =
     exact_after _ _ _ (exact_after _ _ _ c.replace_all.ensures.step c.move_cost.ensures.step) c.take_sides.ensures.step
+
+pub take_sides-requires-clause-there : goal.take_sides-requires-clause-there
+take_sides-requires-clause-there c =
+    let found : IsFound c.move_cost.new.draft c.args.found.now =
+    found_later c.replace_all.new.draft c.move_cost.new.draft c.args.found.now c.replace_all.ensures.found c.move_cost.ensures.step c.move_cost.ensures.rows c.move_cost.ensures.bounds in
+    found.there
+
+pub take_sides-requires-clause-gives : goal.take_sides-requires-clause-gives
+take_sides-requires-clause-gives c =
+    let found : IsFound c.move_cost.new.draft c.args.found.now =
+    found_later c.replace_all.new.draft c.move_cost.new.draft c.args.found.now c.replace_all.ensures.found c.move_cost.ensures.step c.move_cost.ensures.rows c.move_cost.ensures.bounds in
+    found.gives
+
+pub take_sides-requires-clause-substitute : goal.take_sides-requires-clause-substitute
+take_sides-requires-clause-substitute c =
+    let found : IsFound c.move_cost.new.draft c.args.found.now =
+    found_later c.replace_all.new.draft c.move_cost.new.draft c.args.found.now c.replace_all.ensures.found c.move_cost.ensures.step c.move_cost.ensures.rows c.move_cost.ensures.bounds in
+    found.substitute

@@ -1,9 +1,10 @@
-use Rattle.std.proofs.Common.{List, length, subst, sym}
-use Rattle.cip_problem.specs.Program.{Sides}
+use Rattle.std.proofs.Common.{List, length, subst, sym, ◌∙◌, ap}
+use Rattle.cip_problem.specs.Program.{Sides, Program}
 use Rattle.cip_problem.specs.Activity.{StandsBelow}
 use Rattle.cip_presolve.specs.RowReading.{IsLeftRow}
 use Rattle.cip_presolve.proofs.Ruled.{cleaned_by}
 use Rattle.cip_search.proofs.Pairing.{exact_self}
+use Rattle.cip_presolve.proofs.Merged.{count_same}
 use Rattle.cip_presolve.proofs.drafts.Draft.clean_row.Goals as goal
 
 pub set_row-requires-clause-stands : goal.set_row-requires-clause-stands
@@ -27,3 +28,6 @@ returns-then-not-has_fixed-clause-step c = exact_self c.args.self.now
 
 pub without_fixed-requires : goal.without_fixed-requires
 without_fixed-requires c = subst (λ (box : List Sides). StandsBelow (length box) c.row-row.result.now.terms) (sym c.bounds-2.ensures.bounds) c.row-row.ensures.stands
+
+pub returns-in-Ok-Some-clause-rows : goal.returns-in-Ok-Some-clause-rows
+returns-in-Ok-Some-clause-rows c = ap (λ (p : Program). length p.rows) c.set_row.ensures ∙ count_same c.args.self.now.rows c.args.number c.in-Ok-Some.row
