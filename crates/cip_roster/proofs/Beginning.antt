@@ -7,7 +7,6 @@ use Rattle.std.proofs.lemmas.List.Sums.{count_by-le-length, sum_by-cons}
 use Rattle.std.specs.Prelude.{slice_get, is_some}
 use Rattle.std.proofs.lemmas.Bool.{cases_eq}
 use Rattle.std.proofs.lemmas.Option.{same_Some, slice_get_within}
-use Rattle.cip_plugin.specs.Calls.{Init, InitSolve}
 use Rattle.cip_events.specs.Names.{shown_name}
 use Rattle.cip_events.specs.declared.traces.TraceLine.{TraceLine}
 use Rattle.cip_plugin.specs.Who.{Who}
@@ -15,7 +14,7 @@ use Rattle.cip_plugin.specs.declared.stages.Stage.TheVariants.{Playing}
 use Rattle.cip_plugin.specs.Lives.{LivesAreTold, life, newborn, words_of}
 use Rattle.cip_plugin.specs.Seats.{Seat, Standing, State, is_live, held_count}
 use Rattle.cip_plugin.specs.Steps.{Step, IsSeated, Runs}
-use Rattle.cip_plugin.specs.Wishing.{begins, begun_with}
+use Rattle.cip_plugin.specs.Wishing.{begins}
 use Rattle.cip_plugin.proofs.Running.{Runs-append, run_lives}
 use Rattle.cip_roster.specs.Begun.{AreSeated, IsBegun, IsFresh, IsPlaying, all_begin}
 use Rattle.cip_roster.specs.KeptRankings.{Room, no_rankings}
@@ -47,12 +46,9 @@ pub record BegunSoFar (i : ℕ) (a b : State) : Type 0 where
   pub places : b.places ≡ a.places
 
 -- one more
-pub begun_more : (i : ℕ) (a b c d : State) (first second : Bool) → BegunSoFar i a b
-    → Runs b (begun_with i (Init first) first) c → Runs c (begun_with i (InitSolve second) second) d
-    → StandsAt Playing d i → BegunSoFar (suc i) a d
-begun_more i a b c d first second so_far set_up begin stands =
-    let both : Runs b (begins i first second) d =
-    Runs-append (begun_with i (Init first) first) (begun_with i (InitSolve second) second) b c d set_up begin in
+pub begun_more : (i : ℕ) (a b d : State) (first second : Bool) → BegunSoFar i a b
+    → Runs b (begins i first second) d → StandsAt Playing d i → BegunSoFar (suc i) a d
+begun_more i a b d first second so_far both stands =
     let elsewhere = run_elsewhere i (begins i first second) b d (begins_of i first second) both in
     let many = so_far.many in
     let place : 0 + length so_far.answered ≡ i = omega arith in

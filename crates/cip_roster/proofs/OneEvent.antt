@@ -1,6 +1,6 @@
 -- One event, told to the plugins of some keys, one after the other.
 use Rattle.std.proofs.Common.{◌≡◌, ℕ, ◌+◌, List, [], ◌∷◌, ◌++◌, replicate, Option, None, Some, Bool, true, false, eqb, cond, sym, ◌∙◌, ap, subst, refl, append-nil, append_assoc, add-zero, All, inl, inr, ⊎_elim}
-use Rattle.std.specs.Prelude.{slice_get, ◌&&◌, IsSome, Result, Ok, Err, OnOk, OnErr}
+use Rattle.std.specs.Prelude.{slice_get, ◌&&◌, IsSome, MatchOption, Result, Ok, Err, OnOk, OnErr}
 use Rattle.std.specs.List.Sorted.{IsPermutation, IsSorted}
 use Rattle.std.proofs.lemmas.Bool.{cases_eq, eq-eqb, ne_eqb}
 use Rattle.std.proofs.lemmas.Grind.{replicate_next}
@@ -26,7 +26,7 @@ use Rattle.cip_plugin.specs.Delivering.{ComesTo, InTurn, IsTried, hears_there, w
 use Rattle.cip_plugin.specs.Ranks.{rank_order}
 use Rattle.cip_plugin.specs.declared.proposals.Wish.{Wish}
 use Rattle.cip_roster.specs.Wished.{TookQuietly, WasTold, WasToldOne}
-use Rattle.cip_roster.proofs.Granting.{steps_ask, took_none}
+use Rattle.cip_roster.proofs.Granting.{steps_ask}
 use Rattle.cip_roster.proofs.Trying.{in_turn_append, in_turn_one}
 use Rattle.cip_roster.proofs.Keeping.{at_place, some_at}
 use Rattle.cip_roster.proofs.Throughout.{hears_later, on_between, on_lives}
@@ -191,6 +191,12 @@ abbrev pub wishes_brought : Option Given → List Wish
 wishes_brought None = []
 wishes_brought (Some given) = wishes_in (answer_of given)
 
+-- those that were taken out of what was given are these
+wishes_same : (brought : Option Given) (wishes : List Wish)
+    → MatchOption brought (wishes ≡ []) (λ given. wishes ≡ wishes_in (answer_of given)) → wishes ≡ wishes_brought brought
+wishes_same None wishes are = are
+wishes_same (Some given) wishes are = are
+
 -- they are the first of the answer
 hands_wishes : (said : Answer) (brought : Option Given) → HandsOn said brought
     → wishes_brought brought ≡ wishes_in (first_part said)
@@ -260,26 +266,20 @@ told_behind node event k brought a b c d r s same there is had took =
     told_one_asked node event k at.0 brought a c d r s at.1 (ap (hears_there event) (sym at.1) ∙ is)
     (subst (λ (t : State). HadTurn k (OnEvent event) t c brought) same had) took
 
--- it wanted memory
-pub told_nothing : (node : ℕ) (event : Event) (k : ℕ) (brought : Option Given) (a b c : State) (r : List Event)
-    → b ≡ a → IsSome (slice_get a.seats k) → hears_there event (slice_get a.seats k) ≡ true
-    → HadTurn k (OnEvent event) b c brought → brought ≡ None → WasToldOne node event k a c r r
-told_nothing node event k brought a b c r same there is had none =
-    told_behind node event k brought a b c c r r same there is had
-    (subst (λ (wishes : List Wish). TookQuietly k node wishes c c r r) (sym (ap wishes_brought none))
-    (took_none k node c r))
-
--- it had wishes, which were tried
-pub told_wishes : {A E : Type 0} (node : ℕ) (event : Event) (k : ℕ) (brought : Option Given) (given : Given)
-    (wishes : List Wish) (a b c d : State) (r s : List Event) (result : Result A E) → b ≡ a
+-- its wishes, if it had any, were tried
+pub told_wishes : {A E : Type 0} (node : ℕ) (event : Event) (k : ℕ) (brought : Option Given) (wishes : List Wish)
+    (a b c d : State) (r s : List Event) (result : Result A E) → b ≡ a
     → IsSome (slice_get a.seats k) → hears_there event (slice_get a.seats k) ≡ true
-    → HadTurn k (OnEvent event) b c brought → brought ≡ Some given → wishes ≡ wishes_in (answer_of given)
+    → HadTurn k (OnEvent event) b c brought
+    → MatchOption brought (wishes ≡ []) (λ given. wishes ≡ wishes_in (answer_of given))
     → OnOk result (TookQuietly k node wishes c d r s) → OnOk result (WasToldOne node event k a d r s)
-told_wishes node event k brought given wishes a b c d r s (Ok x) same there is had some are took =
+told_wishes node event k brought wishes a b c d r s (Ok x) same there is had are took =
     told_behind node event k brought a b c d r s same there is had
-    (subst (λ (w : List Wish). TookQuietly k node w c d r s) (are ∙ sym (ap wishes_brought some)) took)
-told_wishes node event k brought given wishes a b c d r s (Err e) same there is had some are took = tt
+    (subst (λ (w : List Wish). TookQuietly k node w c d r s) (wishes_same brought wishes are) took)
+told_wishes node event k brought wishes a b c d r s (Err e) same there is had are took = tt
 
-pub on_err_any : {A E : Type 0} (P : Type 0) (result : Result A E) → P → OnErr result P
-on_err_any P (Ok x) p = tt
-on_err_any P (Err e) p = p
+-- what holds where a call failed, as it did
+pub where_failed : {A E : Type 0} (P : Type 0) (result : Result A E) → ((x : A) → result ≡ Ok x → ⊥)
+    → OnErr result P → P
+where_failed P (Ok x) failed holds = absurd (failed x refl)
+where_failed P (Err e) failed holds = holds

@@ -1,6 +1,6 @@
 -- Who stands in a ranking may be asked.
-use Rattle.std.proofs.Common.{◌≡◌, ℕ, zero, suc, ◌+◌, List, [], ◌∷◌, ◌++◌, Option, None, Some, Bool, true, false, cond, sym, ◌∙◌, ap, subst, refl, arith, All, add-zero, zero-add, add-one, append_assoc, append-nil, drop, length, take, take_all, ◌≤◌}
-use Rattle.std.proofs.lemmas.Option.{cond_some, same_Some}
+use Rattle.std.proofs.Common.{◌≡◌, ℕ, zero, suc, ◌+◌, List, [], ◌∷◌, ◌++◌, Option, None, Some, Bool, true, false, cond, sym, ◌∙◌, ap, subst, refl, arith, All, add-zero, zero-add, add-one, append_assoc, append-nil, drop, length, take, take_all, ◌<◌, ◌≤◌, get_or}
+use Rattle.std.proofs.lemmas.Option.{cond_some, same_Some, slice_get-get_or}
 use Rattle.std.proofs.lemmas.List.{drop_all}
 use Rattle.std.specs.Prelude.{slice_get, IsSome}
 use Rattle.std.specs.List.{AllByRecursion, find}
@@ -122,6 +122,13 @@ drop_next : {A : Type 0} (xs : List A) (i : ℕ) (x : A) → slice_get xs i ≡ 
 drop_next [] i x at = cc
 drop_next {A = A} (y ∷ xs) zero x at = ap (λ (z : A). z ∷ xs) (same_Some y x at)
 drop_next (y ∷ xs) (suc i) x at = drop_next xs i x at
+
+-- what is found from a place on
+pub find_next : {A : Type 0} (p : A → Bool) (xs : List A) (i : ℕ) (d : A) → i < length xs
+    → find p (drop i xs) ≡ cond (p (get_or xs i d)) (Some (get_or xs i d)) (find p (drop (i + 1) xs))
+find_next p xs i d within =
+    ap (find p) (drop_next xs i (get_or xs i d) (slice_get-get_or xs i d within))
+    ∙ ap (λ (n : ℕ). cond (p (get_or xs i d)) (Some (get_or xs i d)) (find p (drop n xs))) (sym (add-one i))
 
 -- the keys so far, and those to come, are all
 pub record Ranked (test : Seat → Bool) (id : ℕ) (seats : List Seat) (keys : List Key) : Type 0 where

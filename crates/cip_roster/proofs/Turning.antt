@@ -2,7 +2,7 @@
 use Rattle.std.proofs.Common.{◌≡◌, ℕ, ◌+◌, ◌*◌, ◌≤◌, List, [], ◌∷◌, ◌++◌, length, map, take, drop, Option, None, Some, Bool, true, false, cond, sym, ◌∙◌, ap, subst, refl, arith, ◌<◌, All, add-one, get_or, append_assoc, append-nil, length-append}
 use Rattle.std.proofs.lemmas.List.{drop_all, drop-append-le, map-append, take_all, take-append-le}
 use Rattle.cip_events.specs.declared.words.Word.TheVariants as say
-use Rattle.cip_plugin.specs.Calls.{Ask, Answer, NoAnswer, Call, Asked, ExitSolve, Exit}
+use Rattle.cip_plugin.specs.Calls.{Ask, Answer, NoAnswer, Asked, Init, InitSolve, ExitSolve, Exit}
 use Rattle.cip_plugin.specs.Asking.{answer_of, first_part, count_past}
 use Rattle.cip_plugin.specs.declared.asking.Given.{Given}
 use Rattle.cip_plugin.specs.declared.asking.Given.TheVariants as given
@@ -12,7 +12,7 @@ use Rattle.cip_plugin.specs.declared.keys.Key.{Key}
 use Rattle.cip_plugin.specs.declared.stages.Stage.{Stage}
 use Rattle.cip_plugin.specs.Seats.{Seat, State, live_count}
 use Rattle.cip_plugin.specs.Steps.{Step, Calls, Notes, Runs, is_note, line}
-use Rattle.cip_plugin.specs.Wishing.{begun_with, ends}
+use Rattle.cip_plugin.specs.Wishing.{begins, begun_with, ends}
 use Rattle.cip_plugin.specs.Calling.{Called, all_turns, dropped, given_of, ids_of, is_answer, noted, turn_of}
 use Rattle.cip_plugin.proofs.Running.{Runs-append, run_stays}
 use Rattle.cip_roster.specs.Turns.{CalledKind, CanBeAsked, HadTurn, HandsOn, IsSound, StandsAt, entries, handed}
@@ -45,11 +45,14 @@ noted_given id (given.Split split) = refl
 noted_given id (given.Enforced said) = refl
 noted_given id (given.Wishes v) = refl
 
--- a call at a life's begin that wanted memory, and its note
-pub begun_noted : (a b c : State) (id : ℕ) (call : Call) → Runs a (Calls id call ∷ []) b
-    → Runs b (Notes id say.NoMemory ∷ []) c → Runs a (begun_with id call false) c
-begun_noted a b c id call first second =
-    Runs-append (Calls id call ∷ []) (Notes id say.NoMemory ∷ []) a b c first second
+-- the two first calls, each with its note where it wanted memory
+pub begun : (a b c d e : State) (id : ℕ) (first second : Bool) → Runs a (Calls id (Init first) ∷ []) b
+    → Runs b (cond first [] (Notes id say.NoMemory ∷ [])) c → Runs c (Calls id (InitSolve second) ∷ []) d
+    → Runs d (cond second [] (Notes id say.NoMemory ∷ [])) e → Runs a (begins id first second) e
+begun a b c d e id first second set_up lacked heard wanted =
+    Runs-append (begun_with id (Init first) first) (begun_with id (InitSolve second) second) a c e
+    (Runs-append (Calls id (Init first) ∷ []) (cond first [] (Notes id say.NoMemory ∷ [])) a b c set_up lacked)
+    (Runs-append (Calls id (InitSolve second) ∷ []) (cond second [] (Notes id say.NoMemory ∷ [])) c d e heard wanted)
 
 -- the two last calls
 pub ended : (a b c : State) (id : ℕ) → Runs a (Calls id ExitSolve ∷ []) b → Runs b (Calls id Exit ∷ []) c
@@ -177,18 +180,6 @@ so_far_more ask ids a b c had has later id brought so_far turn is = rw is (recor
       omega arith;
 })
 
--- a first call that had its memory
-pub begun_answered : (a b : State) (id : ℕ) (call : Bool → Call) (had : Bool) → had ≡ true
-    → Runs a (Calls id (call had) ∷ []) b → (answered : Bool) × Runs a (begun_with id (call answered) answered) b
-begun_answered a b id call had is run = (true, subst (λ (r : Bool). Runs a (Calls id (call r) ∷ []) b) is run)
-
--- one that wanted memory
-pub begun_wanting : (a b c : State) (id : ℕ) (call : Bool → Call) (had : Bool) → had ≡ false
-    → Runs a (Calls id (call had) ∷ []) b → Runs b (Notes id say.NoMemory ∷ []) c
-    → (answered : Bool) × Runs a (begun_with id (call answered) answered) c
-begun_wanting a b c id call had is run noted =
-    (false, begun_noted a b c id (call false) (subst (λ (r : Bool). Runs a (Calls id (call r) ∷ []) b) is run) noted)
-
 -- a plugin stands as it did, as the seats are the same
 pub stands_same : (stage : Stage) (a b : State) (id : ℕ) → b.seats ≡ a.seats → StandsAt stage a id → StandsAt stage b id
 stands_same stage a b id same stands = record {
@@ -200,6 +191,10 @@ stands_same stage a b id same stands = record {
 -- what stands there is there
 pub there : {A : Type 0} (o : Option A) (x : A) → o ≡ Some x → IsSome o
 there o x is = subst IsSome (sym is) refl
+
+-- who stands at a stage has a seat
+pub stands_some : (stage : Stage) (a : State) (id : ℕ) → StandsAt stage a id → IsSome (slice_get a.seats id)
+stands_some stage a id stands = there (slice_get a.seats id) stands.seat stands.at
 
 -- who may be asked has a seat behind any run
 pub asked_there : (a b : State) (ask : Ask) (id : ℕ) (steps : List Step) → CanBeAsked a ask id → Runs a steps b

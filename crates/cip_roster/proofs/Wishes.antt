@@ -1,15 +1,15 @@
 -- What grants a wish, and what is wrong with one.
-use Rattle.std.proofs.Common.{◌≡◌, ℕ, ◌≤◌, [], ◌∷◌, length, Option, None, Some, Bool, true, false, cond, sym, ◌∙◌, ap, subst, refl, arith}
+use Rattle.std.proofs.Common.{◌≡◌, ℕ, ◌≤◌, [], ◌∷◌, length, Option, None, Some, Bool, true, false, cond, sym, ◌∙◌, ap, refl, arith}
 use Rattle.std.specs.Prelude.{slice_get}
+use mathlib.Core.Bool.{beq}
 use Rattle.cip_plugin.specs.Who.{Who}
-use Rattle.cip_plugin.specs.Calls.{Init, InitSolve}
 use Rattle.cip_plugin.specs.declared.proposals.Wish.TheVariants.{Include, Disable, Enable, Free}
 use Rattle.cip_plugin.specs.declared.faults.WishFault.TheVariants as faults
 use Rattle.cip_plugin.specs.declared.stages.Stage.TheVariants.{Fresh, Begun, Playing, Left, Gone}
 use Rattle.cip_plugin.specs.declared.stages.Stage.{Stage}
 use Rattle.cip_plugin.specs.Seats.{Seat, State, is_live, is_playing, is_settled}
 use Rattle.cip_plugin.specs.Steps.{Turns, Takes, Runs}
-use Rattle.cip_plugin.specs.Wishing.{Granted, begins, begun_with, ends, is_enabled, place_fault, seat_fault}
+use Rattle.cip_plugin.specs.Wishing.{Granted, begins, ends, fault_of, is_enabled, place_fault, seat_fault}
 use Rattle.cip_plugin.proofs.Counting.{count_set}
 use Rattle.cip_plugin.proofs.Running.{Runs-append}
 use Rattle.cip_roster.specs.Closed.{lives_there}
@@ -76,6 +76,38 @@ enabled_none a id on = record {
   grants = sym (ap (λ (b : Bool). cond b [] (Turns id true ∷ [])) on);
 }
 
+-- a plugin was enabled or disabled
+pub switched_once : (a b : State) (id : ℕ) (on : Bool) → is_enabled (slice_get a.seats id) ≡ cond on false true
+    → Runs a (Turns id on ∷ []) b → Granted (cond on (Enable id) (Disable id)) a b
+switched_once a b id true is run = enabled_once a b id is run
+switched_once a b id false is run = disabled_once a b id is run
+
+-- it is so already
+pub switched_none : (a : State) (id : ℕ) (on : Bool) → is_enabled (slice_get a.seats id) ≡ on
+    → Granted (cond on (Enable id) (Disable id)) a a
+switched_none a id true is = enabled_none a id is
+switched_none a id false is = disabled_none a id is
+
+-- what is wrong with either wish is what is wrong with the plugin's number
+pub fault_switched : (state : State) (id : ℕ) (on : Bool)
+    → fault_of state (cond on (Enable id) (Disable id)) ≡ seat_fault (slice_get state.seats id)
+fault_switched state id true = refl
+fault_switched state id false = refl
+
+-- two that are the same
+pub same_way : (was on : Bool) → beq was on ≡ true → was ≡ on
+same_way true true same = refl
+same_way true false same = cc
+same_way false true same = cc
+same_way false false same = refl
+
+-- two that differ
+pub other_way : (was on : Bool) → beq was on ≡ false → was ≡ cond on false true
+other_way true true differ = cc
+other_way true false differ = refl
+other_way false true differ = refl
+other_way false false differ = cc
+
 -- a plugin was freed
 pub freed_once : (a b : State) (id : ℕ) → Runs a (ends id) b → Granted (Free id) a b
 freed_once a b id run = record { steps = ends id; run = run; grants = refl }
@@ -94,14 +126,6 @@ pub held_by : (o : Option (Option Who)) → place_fault o ≡ None → (who : Wh
 held_by None fine = cc
 held_by (Some None) fine = cc
 held_by (Some (Some who)) fine = (who, refl)
-
--- the two first calls of a plugin that came
-pub welcomed : (id : ℕ) (a b s c : State) (first second : Bool) → id ≡ length a.seats
-    → Runs b (begun_with id (Init first) first) s → Runs s (begun_with id (InitSolve second) second) c
-    → Runs b (begins (length a.seats) first second) c
-welcomed id a b s c first second is set_up begun =
-    subst (λ (n : ℕ). Runs b (begins n first second) c) is
-    (Runs-append (begun_with id (Init first) first) (begun_with id (InitSolve second) second) b s c set_up begun)
 
 -- a live plugin has room for its last lines
 pub live_room : (state : State) (id : ℕ) (room : Room) → IsSound state room → IsLiveAt state id → 2 ≤ room.lines

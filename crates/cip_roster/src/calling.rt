@@ -1,12 +1,13 @@
 //! Calls of plugins, one after the other.
-ghost use Rattle.std.specs.Prelude.{◌≡◌, ◌+◌, ◌*◌, ◌^◌, ◌≤◌, ◌<◌, [], true, take, IfOk, OnOk, OnErr, length, slice_get, vec_len, vec_capacity, All};
+ghost use Rattle.std.specs.Prelude.{◌≡◌, ◌+◌, ◌*◌, ◌^◌, ◌≤◌, ◌<◌, [], true, take, IfOk, OnOk, OnErr, length, vec_len, vec_capacity, All};
 ghost use Rattle.std.specs.List.Sorted.{IsPermutation, IsSorted};
 ghost use Rattle.cip_plugin.specs.Asking.{asks, ask_of};
 ghost use Rattle.cip_plugin.specs.declared.kinds.Kind.TheVariants as kinds;
 ghost use Rattle.cip_plugin.specs.Calling.{Called, ids_of, is_ready, keys_from};
 ghost use Rattle.cip_plugin.specs.Ranks.{rank_order};
+ghost use Rattle.cip_plugin.specs.Seats.{live_count};
 ghost use Rattle.cip_roster.specs.KeptRankings.{IsRanking};
-ghost use Rattle.cip_roster.specs.Turns.{IsSound, CanBeAsked, CalledBoth, CalledKind, handed, ready_key};
+ghost use Rattle.cip_roster.specs.Turns.{IsSound, CanBeAsked, CalledBoth, CalledKind, handed};
 ghost use Rattle.cip_roster.specs.Wished.{Ran};
 
 use crate::rosters::Seated;
@@ -14,16 +15,6 @@ use crate::steps::Steps;
 use crate::turns::turn_into;
 use cip_plugin::{Given, Key, Kind, Question, View};
 use std::alloc::{AllocError, Global};
-
-/// The key of a plugin that is live, enabled, and of a kind.
-fn key_of_ready<R: Steps>(roster: &R, id: u32, kind: Kind) -> Option<Key>
-    ensures { result ≡ ready_key kind id (slice_get (R.state roster.now).seats id) }
-{
-    match roster.readiness(id, kind) {
-        Some(true) => roster.key(id),
-        _ => None,
-    }
-}
 
 /// The live and enabled plugins of a kind, in the order in which they are called. `Err` comes where a growth was
 /// refused.
@@ -39,7 +30,7 @@ pub(crate) fn ranking<R: Steps>(
 {
     let mut keys = Vec::new(alloc);
     for id in 0..roster.count() {
-        match key_of_ready(roster, id as u32, kind) {
+        match roster.ready_key(id as u32, kind) {
             None => {}
             Some(key) => keys.push(key)?,
         }
@@ -78,10 +69,34 @@ pub(crate) fn order_of<R: Steps>(
     ensures state { R.state roster.new ≡ R.state roster.old }
     ensures ranking { IfOk result (λ order. IsRanking kind (R.state roster.old).seats order.items) }
 {
-    let keys = ranked(roster, alloc, kind)?;
-    let order = Vec::from_slice(alloc, keys.as_slice())?;
+    let Ok(keys) = ranked(roster, alloc, kind) else {
+        return Err(AllocError);
+    };
+    let Ok(order) = Vec::from_slice(alloc, keys.as_slice()) else {
+        return Err(AllocError);
+    };
     roster.keep_ranking(kind, keys);
     Ok(order)
+}
+
+/// Makes room for what so many plugins give, and for their lines. `Err` comes where a growth was refused. Neither
+/// changes the state or what was given.
+fn make_room<R: Steps>(
+    roster: &mut R,
+    given: &mut Vec<(u32, Given)>,
+    count: usize,
+) -> Result<(), AllocError>
+    ensures state { R.state roster.new ≡ R.state roster.old }
+    ensures given { given.new.items ≡ given.old.items }
+    ensures room { OnOk result (vec_len given.new + count ≤ vec_capacity given.new) }
+    ensures lines { OnOk result (2 * count + 2 * live_count (R.state roster.old).seats ≤ (R.room roster.new).lines) }
+    ensures grows { (R.room roster.old).lines ≤ (R.room roster.new).lines }
+    ensures rankings { (R.room roster.new).rankings ≡ (R.room roster.old).rankings }
+{
+    let Ok(()) = given.reserve(count) else {
+        return Err(AllocError);
+    };
+    roster.reserve_turns(count)
 }
 
 /// Asks these plugins, one after the other, and puts what they give behind what is there. `given` has room for all.
@@ -124,43 +139,15 @@ pub(crate) fn call_kind<R: Steps>(
         (R.state roster.new) given.old.items given.new.items) }
     ensures err { OnErr result (R.state roster.new ≡ R.state roster.old) }
 {
-    let keys = ranked(roster, alloc, kind)?;
-    given.reserve(keys.len())?;
-    roster.reserve_turns(keys.len())?;
+    let Ok(keys) = ranked(roster, alloc, kind) else {
+        return Err(AllocError);
+    };
+    let Ok(()) = make_room(roster, given, keys.len()) else {
+        return Err(AllocError);
+    };
     call(roster, alloc, keys.as_slice(), question, view, given);
     roster.keep_ranking(kind, keys);
     Ok(())
-}
-
-/// Asks all live and enabled plugins of a kind, and then the handlers. `Err` comes where a growth was refused: what was
-/// called before it stands.
-pub(crate) fn call_both<R: Steps>(
-    roster: &mut R,
-    alloc: Global,
-    kind: Kind,
-    question: Question<'_>,
-    view: &View<'_>,
-) -> Result<Vec<(u32, Given)>, AllocError>
-    requires sound { IsSound (R.state roster.old) (R.room roster.old) }
-    requires fits { asks kind (ask_of question) ≡ true }
-    requires handlers { asks kinds.ConsHandler (ask_of question) ≡ true }
-    ensures sound { IsSound (R.state roster.new) (R.room roster.new) }
-    ensures called { IfOk result (λ given. CalledBoth kind (ask_of question.entry)
-        (R.state roster.old) (R.state roster.new) given.items) }
-    ensures err { OnErr result (Ran (R.state roster.old) (R.state roster.new)) }
-{
-    let mut given = Vec::new(alloc);
-    let Ok(()) = call_kind(roster, alloc, kind, question, view, &mut given) else {
-        drop(given);
-        return Err(AllocError);
-    };
-    match call_kind(roster, alloc, Kind::ConsHandler, question, view, &mut given) {
-        Ok(()) => Ok(given),
-        Err(fault) => {
-            drop(given);
-            Err(fault)
-        }
-    }
 }
 
 /// Asks all live and enabled plugins of one kind alone. `Err` comes where a growth was refused, and then nobody was
@@ -181,6 +168,35 @@ pub(crate) fn call_one<R: Steps>(
 {
     let mut given = Vec::new(alloc);
     match call_kind(roster, alloc, kind, question, view, &mut given) {
+        Ok(()) => Ok(given),
+        Err(fault) => {
+            drop(given);
+            Err(fault)
+        }
+    }
+}
+
+/// Asks all live and enabled plugins of a kind, and then the handlers. `Err` comes where a growth was refused: what was
+/// called before it stands.
+pub(crate) fn call_both<R: Steps>(
+    roster: &mut R,
+    alloc: Global,
+    kind: Kind,
+    question: Question<'_>,
+    view: &View<'_>,
+) -> Result<Vec<(u32, Given)>, AllocError>
+    requires sound { IsSound (R.state roster.old) (R.room roster.old) }
+    requires fits { asks kind (ask_of question) ≡ true }
+    requires handlers { asks kinds.ConsHandler (ask_of question) ≡ true }
+    ensures sound { IsSound (R.state roster.new) (R.room roster.new) }
+    ensures called { IfOk result (λ given. CalledBoth kind (ask_of question.entry)
+        (R.state roster.old) (R.state roster.new) given.items) }
+    ensures err { OnErr result (Ran (R.state roster.old) (R.state roster.new)) }
+{
+    let Ok(mut given) = call_one(roster, alloc, kind, question, view) else {
+        return Err(AllocError);
+    };
+    match call_kind(roster, alloc, Kind::ConsHandler, question, view, &mut given) {
         Ok(()) => Ok(given),
         Err(fault) => {
             drop(given);

@@ -1,11 +1,11 @@
 //! Delivery of events.
-ghost use Rattle.std.specs.Prelude.{◌≡◌, [], ◌∷◌, OnOk, OnErr, IsSome, slice_get};
+ghost use Rattle.std.specs.Prelude.{◌≡◌, [], ◌∷◌, OnOk, OnErr, MatchOption, IsSome, slice_get};
 ghost use Rattle.cip_plugin.specs.Asking.{answer_of};
 ghost use Rattle.cip_plugin.specs.Delivering.{Delivered, wishes_in};
 ghost use Rattle.cip_plugin.specs.declared.kinds.Kind.TheVariants as kinds;
 ghost use Rattle.cip_roster.specs.KeptRankings.{IsRanking};
 ghost use Rattle.cip_roster.specs.Turns.{IsSound};
-ghost use Rattle.cip_roster.specs.Wished.{IsNoted, Ran, TookQuietly, WasTold, WasToldOne};
+ghost use Rattle.cip_roster.specs.Wished.{Ran, TookQuietly, WasTold, WasToldOne};
 
 use crate::calling::order_of;
 use crate::rosters::Seated;
@@ -16,28 +16,13 @@ use cip_events::{Event, EventQueue};
 use cip_plugin::{Given, Key, Kind, Question, View, Wish, WishFault};
 use std::alloc::{AllocError, Global};
 
-/// The wishes of what was given.
-fn wishes_of(given: &Given) -> &[Wish]
-    ensures { result.now ≡ wishes_in (answer_of given.now) }
+/// The wishes of what was given, if anything was.
+fn wishes_of(given: &Option<Given>) -> &[Wish]
+    ensures { MatchOption given.now (result.now ≡ []) (λ brought. result.now ≡ wishes_in (answer_of brought)) }
 {
     match given {
-        Given::Wishes(wishes) => wishes.as_slice(),
+        Some(Given::Wishes(wishes)) => wishes.as_slice(),
         _ => &[],
-    }
-}
-
-/// Writes which fault a wish of a plugin had. `Err` comes where a growth was refused, then or now, and leaves the state
-/// as it was.
-fn note_fault<R: Steps>(roster: &mut R, id: u32, fault: WishFault) -> Result<(), AllocError>
-    requires sound { IsSound (R.state roster.old) (R.room roster.old) }
-    requires seat { IsSome (slice_get (R.state roster.old).seats id) }
-    ensures sound { IsSound (R.state roster.new) (R.room roster.new) }
-    ensures noted { OnOk result (IsNoted id fault (R.state roster.old) (R.state roster.new)) }
-    ensures err { OnErr result (R.state roster.new ≡ R.state roster.old) }
-{
-    match fault {
-        WishFault::NoMemory => Err(AllocError),
-        other => refused(roster, id, other.name()),
     }
 }
 
@@ -60,7 +45,10 @@ fn grant_one<R: Steps>(
 {
     match try_wish(roster, alloc, wish, queue, view) {
         Ok(()) => Ok(()),
-        Err(fault) => note_fault(roster, id, fault),
+        Err(fault) => match fault {
+            WishFault::NoMemory => Err(AllocError),
+            other => refused(roster, id, other.name()),
+        },
     }
 }
 
@@ -82,7 +70,9 @@ fn grant<R: Steps>(
     ensures err { OnErr result (Ran (R.state roster.old) (R.state roster.new)) }
 {
     for wish in wishes {
-        grant_one(roster, alloc, id, *wish, queue, view)?;
+        let Ok(()) = grant_one(roster, alloc, id, *wish, queue, view) else {
+            return Err(AllocError);
+        };
     }
     Ok(())
 }
@@ -106,15 +96,13 @@ fn tell_one<R: Steps>(
     if !roster.is_to_hear(id, &event) {
         return Ok(());
     }
-    roster.reserve_turns(1)?;
-    match turn(roster, alloc, id, Question::OnEvent(event), view) {
-        None => Ok(()),
-        Some(given) => {
-            let granted = grant(roster, alloc, id, wishes_of(&given), queue, view);
-            drop(given);
-            granted
-        }
-    }
+    let Ok(()) = roster.reserve_turns(1) else {
+        return Err(AllocError);
+    };
+    let given = turn(roster, alloc, id, Question::OnEvent(event), view);
+    let granted = grant(roster, alloc, id, wishes_of(&given), queue, view);
+    drop(given);
+    granted
 }
 
 /// Tells an event to these handlers, if they want it and are live and enabled at their turn, and grants their wishes.
@@ -134,7 +122,9 @@ fn tell_each<R: Steps>(
     ensures err { OnErr result (Ran (R.state roster.old) (R.state roster.new)) }
 {
     for key in keys {
-        tell_one(roster, alloc, key.id, event, queue, view)?;
+        let Ok(()) = tell_one(roster, alloc, key.id, event, queue, view) else {
+            return Err(AllocError);
+        };
     }
     Ok(())
 }
@@ -153,7 +143,9 @@ fn tell<R: Steps>(
         (R.state roster.new) queue.old queue.new) }
     ensures err { OnErr result (Ran (R.state roster.old) (R.state roster.new)) }
 {
-    let order = order_of(roster, alloc, Kind::EventHandler)?;
+    let Ok(order) = order_of(roster, alloc, Kind::EventHandler) else {
+        return Err(AllocError);
+    };
     tell_each(roster, alloc, order.as_slice(), event, queue, view)
 }
 
@@ -173,7 +165,9 @@ pub(crate) fn deliver<R: Steps>(
     ensures err { OnErr result (Ran (R.state roster.old) (R.state roster.new)) }
 {
     while let Some(event) = queue.pop() {
-        tell(roster, alloc, event, queue, view)?;
+        let Ok(()) = tell(roster, alloc, event, queue, view) else {
+            return Err(AllocError);
+        };
     }
     Ok(())
 }

@@ -26,7 +26,12 @@ fn is_behind(after: Option<Key>, key: Key) -> bool
 fn first_behind(keys: &[Key], after: Option<Key>) -> Option<Key>
     ensures { result ≡ find (is_behind after) keys.now }
 {
-    keys.iter().copied().find(|key| is_behind(after, *key))
+    for key in keys {
+        if is_behind(after, *key) {
+            return Some(*key);
+        }
+    }
+    None
 }
 
 /// The key of a plugin, as its priority is now, if one is named.

@@ -88,13 +88,6 @@ impl Steps for Roster {
         }
     }
 
-    fn readiness(&self, id: u32, kind: Kind) -> Option<bool> {
-        match self.slots.get(id as usize) {
-            None => None,
-            Some(slot) => Some(slot.is_ready(kind)),
-        }
-    }
-
     fn is_to_hear(&self, id: u32, event: &Event) -> bool {
         match self.slots.get(id as usize) {
             None => false,
@@ -113,6 +106,13 @@ impl Steps for Roster {
         match self.slots.get(id as usize) {
             None => None,
             Some(slot) => Some(slot.key(id)),
+        }
+    }
+
+    fn ready_key(&self, id: u32, kind: Kind) -> Option<Key> {
+        match self.slots.get(id as usize) {
+            Some(slot) if slot.is_ready(kind) => Some(slot.key(id)),
+            _ => None,
         }
     }
 

@@ -13,7 +13,7 @@ use crate::moves::shelve;
 use crate::rankings::Rankings;
 use crate::rosters::{Roster, Seated};
 use crate::steps::{Seats, Steps};
-use crate::turns::{begin, set_up};
+use crate::turns::begin;
 use cip_events::Name;
 use cip_plugin::{AnyPlugin, Kit, Tells, View};
 use std::alloc::{AllocError, Global};
@@ -33,7 +33,6 @@ fn begin_all<R: Steps>(roster: &mut R, alloc: Global, view: &View<'_>)
     ensures rankings { (R.room roster.new).rankings ≡ (R.room roster.old).rankings }
 {
     for id in 0..roster.count() {
-        set_up(roster, alloc, id as u32);
         begin(roster, alloc, id as u32, view);
     }
 }

@@ -4,7 +4,6 @@ ghost use Rattle.std.specs.Prelude.{◌≡◌, ℕ, ◌+◌, ◌*◌, ◌++◌, 
 ghost use Rattle.cip_plugin.specs.Answers.{answer};
 ghost use Rattle.cip_plugin.specs.Asking.{ask_of, answer_of};
 ghost use Rattle.cip_plugin.specs.Calls.{Init, InitSolve, Asked, ExitSolve, Exit};
-ghost use Rattle.cip_plugin.specs.Calling.{is_ready};
 ghost use Rattle.cip_events.specs.Names.{shown_name};
 ghost use Rattle.cip_plugin.specs.Seats.{Seat, is_live, live_count};
 ghost use Rattle.cip_plugin.specs.Steps.{IsSeated, Runs, Calls, Turns, Ranks, Takes, line};
@@ -13,7 +12,7 @@ ghost use Rattle.cip_plugin.specs.Wishing.{is_enabled, place_fault};
 ghost use Rattle.cip_plugin.specs.declared.stages.Stage.TheVariants as stages;
 ghost use Rattle.cip_roster.specs.KeptRankings.{no_rankings, ranking_of, with_ranking, without_ranking};
 ghost use Rattle.cip_roster.specs.Nexts.{key_of};
-ghost use Rattle.cip_roster.specs.Turns.{CanBeAsked, StandsAt};
+ghost use Rattle.cip_roster.specs.Turns.{CanBeAsked, StandsAt, ready_key};
 
 use crate::rosters::Seated;
 use cip_events::{Event, Word};
@@ -32,10 +31,6 @@ pub(crate) trait Steps: Seated {
     fn liveness(&self, id: u32) -> Option<bool>
         ensures { result ≡ option_map is_live (slice_get (Self.state self.now).seats id) };
 
-    /// Whether a plugin is live, enabled, and of a kind.
-    fn readiness(&self, id: u32, kind: Kind) -> Option<bool>
-        ensures { result ≡ option_map (is_ready kind) (slice_get (Self.state self.now).seats id) };
-
     /// Whether a plugin is a live and enabled event handler that wants events like this one.
     fn is_to_hear(&self, id: u32, event: &Event) -> bool
         ensures { result ≡ hears_there event.now (slice_get (Self.state self.now).seats id) };
@@ -47,6 +42,10 @@ pub(crate) trait Steps: Seated {
     /// The key of a plugin, as its priority is now.
     fn key(&self, id: u32) -> Option<Key>
         ensures { result ≡ key_of id (slice_get (Self.state self.now).seats id) };
+
+    /// That of one that is live, enabled, and of a kind.
+    fn ready_key(&self, id: u32, kind: Kind) -> Option<Key>
+        ensures { result ≡ ready_key kind id (slice_get (Self.state self.now).seats id) };
 
     /// Whether a place of the shelf holds a plugin; else why not.
     fn holds(&self, place: u32) -> Result<(), WishFault>

@@ -1,12 +1,9 @@
 //! What begins a life and ends it, and a plugin's turn.
-ghost use Rattle.std.specs.Prelude.{◌≡◌, ◌++◌, [], ◌∷◌, ◌+◌, ◌≤◌, ◌<◌, Bool, Option, IsSome, slice_get, vec_len, vec_capacity};
-ghost use Rattle.cip_events.specs.declared.words.Word.TheVariants as say;
+ghost use Rattle.std.specs.Prelude.{◌≡◌, ◌++◌, [], ◌∷◌, ◌+◌, ◌≤◌, ◌<◌, if◌then◌else◌, Bool, Option, true, IsSome, slice_get, vec_len, vec_capacity};
 ghost use Rattle.cip_plugin.specs.Asking.{ask_of};
-ghost use Rattle.cip_plugin.specs.Calls.{Init, InitSolve};
 ghost use Rattle.cip_plugin.specs.declared.asking.Given.{Given as Brought};
-ghost use Rattle.cip_plugin.specs.Calling.{dropped};
-ghost use Rattle.cip_plugin.specs.Steps.{Runs, Notes};
-ghost use Rattle.cip_plugin.specs.Wishing.{begun_with, ends};
+ghost use Rattle.cip_plugin.specs.Steps.{Runs, Notes, is_note};
+ghost use Rattle.cip_plugin.specs.Wishing.{begins, ends};
 ghost use Rattle.cip_plugin.specs.declared.stages.Stage.TheVariants as stages;
 ghost use Rattle.cip_roster.specs.KeptRankings.{no_rankings};
 ghost use Rattle.cip_roster.specs.Turns.{CanBeAsked, HadTurn, StandsAt, entries};
@@ -17,62 +14,36 @@ use cip_events::Word;
 use cip_plugin::{Given, Question, View};
 use std::alloc::Global;
 
-/// That a plugin wanted memory is written.
-fn note_memory<R: Steps>(roster: &mut R, id: u32)
+/// A note about a plugin is written, unless there is nothing to be said.
+fn note_unless<R: Steps>(roster: &mut R, id: u32, nothing: bool, word: Word)
+    requires note { is_note word ≡ true }
     requires seat { IsSome (slice_get (R.state roster.old).seats id) }
     requires room { 1 ≤ (R.room roster.old).lines }
-    ensures run { Runs (R.state roster.old) (Notes id say.NoMemory ∷ []) (R.state roster.new) }
+    ensures run { Runs (R.state roster.old) (if nothing then [] else Notes id word ∷ []) (R.state roster.new) }
     ensures room { (R.room roster.old).lines ≤ (R.room roster.new).lines + 1 }
     ensures rankings { (R.room roster.new).rankings ≡ (R.room roster.old).rankings }
     ensures seats { (R.state roster.new).seats ≡ (R.state roster.old).seats }
 {
-    roster.note(id, Word::NoMemory);
-}
-
-/// How many proposals were dropped is written, if any were.
-fn note_dropped<R: Steps>(roster: &mut R, id: u32, past: usize)
-    requires seat { IsSome (slice_get (R.state roster.old).seats id) }
-    requires room { 1 ≤ (R.room roster.old).lines }
-    ensures run { Runs (R.state roster.old) (dropped id past) (R.state roster.new) }
-    ensures room { (R.room roster.old).lines ≤ (R.room roster.new).lines + 1 }
-    ensures rankings { (R.room roster.new).rankings ≡ (R.room roster.old).rankings }
-{
-    if past == 0 {
+    if nothing {
         return;
     }
-    roster.note(id, Word::Dropped(past as u64));
+    roster.note(id, word);
 }
 
-/// A plugin at a seat is set up, and want of memory is written.
-pub(crate) fn set_up<R: Steps>(roster: &mut R, alloc: Global, id: u32)
-    requires at { StandsAt stages.Fresh (R.state roster.old) id }
-    requires room { 2 ≤ (R.room roster.old).lines }
-    ensures run { (answered : Bool) × Runs (R.state roster.old) (begun_with id (Init answered) answered)
-        (R.state roster.new) }
-    ensures at { StandsAt stages.Begun (R.state roster.new) id }
-    ensures room { (R.room roster.old).lines ≤ (R.room roster.new).lines + 2 }
-    ensures rankings { (R.room roster.new).rankings ≡ (R.room roster.old).rankings }
-{
-    if roster.init(alloc, id) {
-        return;
-    }
-    note_memory(roster, id);
-}
-
-/// It hears that the search is on, and want of memory is written.
+/// A plugin at a seat is set up, and hears that the search is on; each want of memory is written.
 pub(crate) fn begin<R: Steps>(roster: &mut R, alloc: Global, id: u32, view: &View<'_>)
-    requires at { StandsAt stages.Begun (R.state roster.old) id }
-    requires room { 2 ≤ (R.room roster.old).lines }
-    ensures run { (answered : Bool) × Runs (R.state roster.old) (begun_with id (InitSolve answered) answered)
+    requires at { StandsAt stages.Fresh (R.state roster.old) id }
+    requires room { 4 ≤ (R.room roster.old).lines }
+    ensures run { (answered : Bool × Bool) × Runs (R.state roster.old) (begins id answered.0 answered.1)
         (R.state roster.new) }
     ensures at { StandsAt stages.Playing (R.state roster.new) id }
-    ensures room { (R.room roster.old).lines ≤ (R.room roster.new).lines + 2 }
+    ensures room { (R.room roster.old).lines ≤ (R.room roster.new).lines + 4 }
     ensures rankings { (R.room roster.new).rankings ≡ (R.room roster.old).rankings }
 {
-    if roster.init_solve(alloc, id, view) {
-        return;
-    }
-    note_memory(roster, id);
+    let first = roster.init(alloc, id);
+    note_unless(roster, id, first, Word::NoMemory);
+    let second = roster.init_solve(alloc, id, view);
+    note_unless(roster, id, second, Word::NoMemory);
 }
 
 /// It hears that the search ends, and is closed. No ranking is kept behind it.
@@ -106,11 +77,11 @@ pub(crate) fn turn<R: Steps>(
     match roster.ask(alloc, id, question, view) {
         Ok(mut given) => {
             let past = given.cut_short();
-            note_dropped(roster, id, past);
+            note_unless(roster, id, past == 0, Word::Dropped(past as u64));
             Some(given)
         }
         Err(_) => {
-            note_memory(roster, id);
+            note_unless(roster, id, false, Word::NoMemory);
             None
         }
     }

@@ -1,8 +1,7 @@
 //! Wishes: plugins come, are disabled and enabled, get priorities, and are freed.
-ghost use Rattle.std.specs.Prelude.{◌≡◌, ◌++◌, ◌+◌, ◌*◌, ◌≤◌, ◌⊎◌, [], ◌∷◌, OnOk, OnErr, MatchResult, None, Some, IsSome, is_ok, slice_get, if◌then◌else◌};
+ghost use Rattle.std.specs.Prelude.{◌≡◌, ◌++◌, ◌+◌, ◌*◌, ◌≤◌, [], ◌∷◌, OnOk, OnErr, MatchResult, None, Some, IsSome, is_ok, slice_get, if◌then◌else◌};
 ghost use Rattle.cip_events.specs.declared.words.Word.TheVariants as say;
 ghost use Rattle.cip_plugin.specs.declared.proposals.Wish.TheVariants.{Include, Disable, Enable, Free, Priority};
-ghost use Rattle.cip_plugin.specs.declared.faults.WishFault.TheVariants as faults;
 ghost use Rattle.cip_plugin.specs.Seats.{live_count};
 ghost use Rattle.cip_plugin.specs.Steps.{Runs, Notes};
 ghost use Rattle.cip_plugin.specs.Wishing.{Granted, place_fault, seat_fault, raised_by};
@@ -11,7 +10,7 @@ ghost use Rattle.cip_roster.specs.Wished.{WasGranted, WasRefused};
 
 use crate::rosters::Seated;
 use crate::steps::Steps;
-use crate::turns::{begin, end, set_up};
+use crate::turns::{begin, end};
 use cip_events::{Event, EventKind, EventQueue, Word};
 use cip_plugin::{View, Wish, WishFault};
 use std::alloc::{AllocError, Global};
@@ -28,22 +27,6 @@ fn live<R: Steps>(roster: &R, id: u32) -> Result<(), WishFault>
     }
 }
 
-/// Makes room for a line of a live plugin; else why not. Neither changes the state.
-fn ready<R: Steps>(roster: &mut R, id: u32) -> Result<(), WishFault>
-    ensures state { R.state roster.new ≡ R.state roster.old }
-    ensures grows { (R.room roster.old).lines ≤ (R.room roster.new).lines }
-    ensures room { OnOk result (2 + 2 * live_count (R.state roster.old).seats
-        ≤ (R.room roster.new).lines) }
-    ensures rankings { (R.room roster.new).rankings ≡ (R.room roster.old).rankings }
-    ensures came { MatchResult result (λ _. IsLiveAt (R.state roster.old) id)
-        (λ fault. (fault ≡ faults.NoMemory)
-        ⊎ (seat_fault (slice_get (R.state roster.old).seats id) ≡ Some fault)) }
-{
-    live(roster, id)?;
-    roster.reserve_turns(1)?;
-    Ok(())
-}
-
 /// The plugin of a place of the shelf is included; there is room for it.
 fn welcome<R: Steps>(roster: &mut R, alloc: Global, place: u32, view: &View<'_>)
     requires sound { IsSound (R.state roster.old) (R.room roster.old) }
@@ -57,7 +40,6 @@ fn welcome<R: Steps>(roster: &mut R, alloc: Global, place: u32, view: &View<'_>)
 {
     let id = roster.count() as u32;
     roster.come(place);
-    set_up(roster, alloc, id);
     begin(roster, alloc, id, view);
 }
 
@@ -80,43 +62,36 @@ fn include<R: Steps>(
         ≡ queue.old ++ (if is_ok result then raised_by view.now.node (Include place) else []) }
 {
     roster.holds(place)?;
-    roster.reserve_seat()?;
-    queue.push(Event::at(view.node, EventKind::PluginIncluded))?;
+    let Ok(()) = roster.reserve_seat() else {
+        return Err(WishFault::NoMemory);
+    };
+    let Ok(()) = queue.push(Event::at(view.node, EventKind::PluginIncluded)) else {
+        return Err(WishFault::NoMemory);
+    };
     welcome(roster, alloc, place, view);
     Ok(())
 }
 
-/// Disables a plugin; nothing changes where it is so already.
-fn disable<R: Steps>(roster: &mut R, id: u32) -> Result<(), WishFault>
+/// Enables or disables a plugin; nothing changes where it is so already.
+fn switch<R: Steps>(roster: &mut R, id: u32, on: bool) -> Result<(), WishFault>
     requires sound { IsSound (R.state roster.old) (R.room roster.old) }
     ensures sound { IsSound (R.state roster.new) (R.room roster.new) }
     ensures came { MatchResult result
-        (λ _. WasGranted (Disable id) (R.state roster.old) (R.state roster.new))
-        (λ fault. WasRefused (Disable id) fault (R.state roster.old)
+        (λ _. WasGranted (if on then Enable id else Disable id) (R.state roster.old) (R.state roster.new))
+        (λ fault. WasRefused (if on then Enable id else Disable id) fault (R.state roster.old)
         (R.state roster.new)) }
 {
-    ready(roster, id)?;
-    if !roster.is_enabled(id) {
+    match live(roster, id) {
+        Ok(()) => {}
+        Err(fault) => return Err(fault),
+    }
+    let Ok(()) = roster.reserve_turns(1) else {
+        return Err(WishFault::NoMemory);
+    };
+    if roster.is_enabled(id) == on {
         return Ok(());
     }
-    roster.switch(id, false);
-    Ok(())
-}
-
-/// Enables a plugin; nothing changes where it is so already.
-fn enable<R: Steps>(roster: &mut R, id: u32) -> Result<(), WishFault>
-    requires sound { IsSound (R.state roster.old) (R.room roster.old) }
-    ensures sound { IsSound (R.state roster.new) (R.room roster.new) }
-    ensures came { MatchResult result
-        (λ _. WasGranted (Enable id) (R.state roster.old) (R.state roster.new))
-        (λ fault. WasRefused (Enable id) fault (R.state roster.old)
-        (R.state roster.new)) }
-{
-    ready(roster, id)?;
-    if roster.is_enabled(id) {
-        return Ok(());
-    }
-    roster.switch(id, true);
+    roster.switch(id, on);
     Ok(())
 }
 
@@ -151,7 +126,9 @@ fn free<R: Steps>(
     ensures queue { queue.new ≡ queue.old ++ (if is_ok result then raised_by node (Free id) else []) }
 {
     live(roster, id)?;
-    queue.push(Event::at(node, EventKind::PluginFreed))?;
+    let Ok(()) = queue.push(Event::at(node, EventKind::PluginFreed)) else {
+        return Err(WishFault::NoMemory);
+    };
     end(roster, id);
     Ok(())
 }
@@ -174,8 +151,8 @@ pub(crate) fn wish<R: Steps>(
 {
     match wish {
         Wish::Include(place) => include(roster, alloc, place, queue, view),
-        Wish::Disable(id) => disable(roster, id),
-        Wish::Enable(id) => enable(roster, id),
+        Wish::Disable(id) => switch(roster, id, false),
+        Wish::Enable(id) => switch(roster, id, true),
         Wish::Free(id) => free(roster, id, queue, view.node),
         Wish::Priority(id, priority) => rank(roster, id, priority),
     }
@@ -195,7 +172,9 @@ pub(crate) fn refused<R: Steps>(
         (Notes id (say.Refused fault.entry) ∷ []) (R.state roster.new)) }
     ensures same { OnErr result (R.state roster.new ≡ R.state roster.old) }
 {
-    roster.reserve_turns(1)?;
+    let Ok(()) = roster.reserve_turns(1) else {
+        return Err(AllocError);
+    };
     roster.note(id, Word::Refused(fault));
     Ok(())
 }

@@ -10,45 +10,45 @@ use Rattle.cip_roster.proofs.calling.call_kind.Goals as goal
 
 pub call-requires-clause-ready : goal.call-requires-clause-ready
 call-requires-clause-ready g c =
-    subst (λ (keys : List Key). All (λ k. CanBeAsked (g.R.Seated.state c.reserve_turns.new.self)
+    subst (λ (keys : List Key). All (λ k. CanBeAsked (g.R.Seated.state c.make_room.new.roster)
     (ask_of c.args.question) k.id) keys)
     (sym c.as_slice.ensures.value)
-    (all_behind c.in_ok-keys.keys.items (ask_of c.args.question) (g.R.Seated.state c.args.roster.now)
-    (g.R.Seated.state c.reserve_turns.new.self) (c.reserve_turns.ensures.state ∙ c.ranked.ensures.state)
-    (ranked_can c.args.kind (ask_of c.args.question) (g.R.Seated.state c.args.roster.now) c.in_ok-keys.keys.items
-    c.requires.fits c.in_ok-keys.ensures.ranking.permutation))
+    (all_behind c.in-Ok.keys.items (ask_of c.args.question) (g.R.Seated.state c.args.roster.now)
+    (g.R.Seated.state c.make_room.new.roster) (c.make_room.ensures.state ∙ c.ranked.ensures.state)
+    (ranked_can c.args.kind (ask_of c.args.question) (g.R.Seated.state c.args.roster.now) c.in-Ok.keys.items
+    c.requires.fits c.in-Ok.ensures.ranking.permutation))
 
 pub returns-clause-sound : goal.returns-clause-sound
 returns-clause-sound g c =
-    let same = c.reserve_turns.ensures.state ∙ c.ranked.ensures.state in
-    sound_with c.args.kind c.in_ok-keys.keys (g.R.Seated.state c.call.new.roster)
+    let same = c.make_room.ensures.state ∙ c.ranked.ensures.state in
+    sound_with c.args.kind c.in-Ok.keys (g.R.Seated.state c.call.new.roster)
     (g.R.Seated.state c.keep_ranking.new.self) (g.R.Seated.room c.call.new.roster)
     (g.R.Seated.room c.keep_ranking.new.self) c.keep_ranking.ensures.state c.keep_ranking.ensures.lines
     c.keep_ranking.ensures.more
     (called_ranked c.args.kind (ids_of c.as_slice.result.now) (ask_of c.args.question)
-    (g.R.Seated.state c.args.roster.now) (g.R.Seated.state c.reserve_turns.new.self)
-    (g.R.Seated.state c.call.new.roster) (handed c.reserve.new.self.items c.call.new.given.items)
-    c.in_ok-keys.keys.items same c.call.ensures.called c.in_ok-keys.ensures.ranking)
+    (g.R.Seated.state c.args.roster.now) (g.R.Seated.state c.make_room.new.roster)
+    (g.R.Seated.state c.call.new.roster) (handed c.make_room.new.given.items c.call.new.given.items)
+    c.in-Ok.keys.items same c.call.ensures.called c.in-Ok.ensures.ranking)
     (called_sound (ids_of c.as_slice.result.now) (ask_of c.args.question) (g.R.Seated.state c.ranked.new.roster)
-    (g.R.Seated.state c.reserve_turns.new.self) (g.R.Seated.state c.call.new.roster)
-    (handed c.reserve.new.self.items c.call.new.given.items) (g.R.Seated.room c.ranked.new.roster)
-    (g.R.Seated.room c.reserve_turns.new.self) (g.R.Seated.room c.call.new.roster) (length c.as_slice.result.now)
-    c.reserve_turns.ensures.state c.ranked.ensures.sound c.call.ensures.called
+    (g.R.Seated.state c.make_room.new.roster) (g.R.Seated.state c.call.new.roster)
+    (handed c.make_room.new.given.items c.call.new.given.items) (g.R.Seated.room c.ranked.new.roster)
+    (g.R.Seated.room c.make_room.new.roster) (g.R.Seated.room c.call.new.roster) (length c.as_slice.result.now)
+    c.make_room.ensures.state c.ranked.ensures.sound c.call.ensures.called
     (omega (
       arith,
-      c.in_ok-reserve_turns.ensures.room,
-      c.len-2.ensures,
+      c.in-Ok-make_room.ensures.lines,
+      c.len.ensures,
       ap (λ (xs : List Key). length xs)
           c.as_slice.ensures.value,
       c.as_slice.ensures.len,
     ))
-    c.call.ensures.room (c.call.ensures.rankings ∙ c.reserve_turns.ensures.rankings))
+    c.call.ensures.room (c.call.ensures.rankings ∙ c.make_room.ensures.rankings))
 
 pub returns-clause-called : goal.returns-clause-called
 returns-clause-called g c =
     called_kind c.args.kind (ask_of c.args.question) (g.R.Seated.state c.args.roster.now)
-    (g.R.Seated.state c.reserve_turns.new.self) (g.R.Seated.state c.call.new.roster)
-    (g.R.Seated.state c.keep_ranking.new.self) c.in_ok-keys.keys.items c.as_slice.result.now c.args.given.now.items
-    c.reserve.new.self.items c.call.new.given.items (c.reserve_turns.ensures.state ∙ c.ranked.ensures.state)
-    c.keep_ranking.ensures.state c.reserve.ensures.items c.as_slice.ensures.value c.in_ok-keys.ensures.ranking
+    (g.R.Seated.state c.make_room.new.roster) (g.R.Seated.state c.call.new.roster)
+    (g.R.Seated.state c.keep_ranking.new.self) c.in-Ok.keys.items c.as_slice.result.now c.args.given.now.items
+    c.make_room.new.given.items c.call.new.given.items (c.make_room.ensures.state ∙ c.ranked.ensures.state)
+    c.keep_ranking.ensures.state c.make_room.ensures.given c.as_slice.ensures.value c.in-Ok.ensures.ranking
     c.call.ensures.kept c.call.ensures.called

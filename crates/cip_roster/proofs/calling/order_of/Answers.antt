@@ -7,15 +7,15 @@ use Rattle.cip_roster.proofs.calling.order_of.Goals as goal
 
 pub returns-clause-sound : goal.returns-clause-sound
 returns-clause-sound g c =
-    sound_with c.args.kind c.in_ok-keys.keys (g.R.Seated.state c.ranked.new.roster)
+    sound_with c.args.kind c.in-Ok.keys (g.R.Seated.state c.ranked.new.roster)
     (g.R.Seated.state c.keep_ranking.new.self) (g.R.Seated.room c.ranked.new.roster)
     (g.R.Seated.room c.keep_ranking.new.self) c.keep_ranking.ensures.state c.keep_ranking.ensures.lines
     c.keep_ranking.ensures.more
-    (subst (λ (s : State). IsRanking c.args.kind s.seats c.in_ok-keys.keys.items) (sym c.ranked.ensures.state)
-    c.in_ok-keys.ensures.ranking)
+    (subst (λ (s : State). IsRanking c.args.kind s.seats c.in-Ok.keys.items) (sym c.ranked.ensures.state)
+    c.in-Ok.ensures.ranking)
     c.ranked.ensures.sound
 
 pub returns-clause-ranking : goal.returns-clause-ranking
 returns-clause-ranking g c =
     subst (λ (keys : List Key). IsRanking c.args.kind (g.R.Seated.state c.args.roster.now).seats keys)
-    (sym (c.in_ok-order.ensures.items ∙ c.as_slice.ensures.value)) c.in_ok-keys.ensures.ranking
+    (sym (c.in-Ok-from_slice.ensures.items ∙ c.as_slice.ensures.value)) c.in-Ok.ensures.ranking

@@ -1,6 +1,6 @@
 use Rattle.std.proofs.Common.{[], ◌∷◌, ◌++◌, subst, arith}
 use Rattle.cip_roster.proofs.Delivery.{ran_more, told_less}
-use Rattle.cip_roster.proofs.OneEvent.{on_err_any}
+use Rattle.cip_roster.proofs.OneEvent.{where_failed}
 use Rattle.cip_roster.proofs.Throughout.{ToldSoFar, told_more}
 use Rattle.cip_roster.proofs.delivering.deliver.Goals as goal
 
@@ -10,7 +10,7 @@ loop-event-smaller g c =
       arith,
       told_less c.args.view.now.node c.in-Some.event (g.R.Seated.state c.loop-event.roster)
           (g.R.Seated.state c.tell.new.roster) c.loop-event.queue c.pop.new.self c.tell.new.queue c.in-Some.ensures
-          c.in_ok-tell.ensures.told,
+          c.in-Ok.ensures.told,
     )
 
 pub loop-event-preserved : goal.loop-event-preserved
@@ -23,14 +23,13 @@ loop-event-preserved g c = record {
         (subst (ToldSoFar c.args.view.now.node c.args.queue.now c.loop-event.invariant.told.0
         (g.R.Seated.state c.args.roster.now) (g.R.Seated.state c.loop-event.roster)) c.in-Some.ensures
         c.loop-event.invariant.told.1)
-        c.in_ok-tell.ensures.told,
+        c.in-Ok.ensures.told,
   );
   sound = c.tell.ensures.sound;
 }
 
-pub returns-in_err-tell-clause-err : goal.returns-in_err-tell-clause-err
-returns-in_err-tell-clause-err g c =
-    on_err_any _ c.from_residual.result (ran_more (g.R.Seated.state c.args.roster.now) (g.R.Seated.state
-    c.loop-event.roster)
+pub returns-in_default-tell-clause-err : goal.returns-in_default-tell-clause-err
+returns-in_default-tell-clause-err g c =
+    ran_more (g.R.Seated.state c.args.roster.now) (g.R.Seated.state c.loop-event.roster)
     (g.R.Seated.state c.tell.new.roster) c.loop-event.invariant.told.1.steps c.loop-event.invariant.told.1.run
-    c.in_err-tell.ensures.err)
+    (where_failed _ c.tell.result c.in_default-tell.not-Ok c.tell.ensures.err)

@@ -5,7 +5,7 @@ use Rattle.cip_plugin.specs.declared.proposals.Wish.TheVariants.{Include}
 use Rattle.cip_roster.specs.Wished.{TookQuietly}
 use Rattle.cip_roster.proofs.Delivery.{ran_more, ran_same}
 use Rattle.cip_roster.proofs.Granting.{took_more, took_none}
-use Rattle.cip_roster.proofs.OneEvent.{on_err_any}
+use Rattle.cip_roster.proofs.OneEvent.{where_failed}
 use Rattle.cip_roster.proofs.Turning.{seat_stays}
 use Rattle.cip_roster.proofs.Turning as turning
 use Rattle.cip_roster.proofs.delivering.grant.Goals as goal
@@ -21,13 +21,13 @@ grant_one-requires-clause-seat g c =
     seat_stays (g.R.Seated.state c.args.roster.now) (g.R.Seated.state c.loop-wish.roster) c.args.id
     c.loop-wish.invariant.took.steps c.loop-wish.invariant.took.run c.requires.seat
 
-pub returns-in_err-grant_one-clause-err : goal.returns-in_err-grant_one-clause-err
-returns-in_err-grant_one-clause-err g c =
-    on_err_any _ c.from_residual.result (ran_more (g.R.Seated.state c.args.roster.now)
+pub returns-in_default-clause-err : goal.returns-in_default-clause-err
+returns-in_default-clause-err g c =
+    (ran_more (g.R.Seated.state c.args.roster.now)
     (g.R.Seated.state c.loop-wish.roster) (g.R.Seated.state c.grant_one.new.roster)
     c.loop-wish.invariant.took.steps c.loop-wish.invariant.took.run
     (ran_same (g.R.Seated.state c.loop-wish.roster) (g.R.Seated.state c.grant_one.new.roster)
-    c.in_err-grant_one.ensures.err))
+    (where_failed _ c.grant_one.result c.in_default.not-Ok c.grant_one.ensures.err)))
 
 pub loop-wish-preserved : goal.loop-wish-preserved
 loop-wish-preserved g c =
@@ -40,7 +40,7 @@ loop-wish-preserved g c =
           (took_more c.args.id c.args.view.now.node (take c.loop-wish.wish-index c.args.wishes.now)
           (get_or c.args.wishes.now c.loop-wish.wish-index d ∷ []) (g.R.Seated.state c.args.roster.now)
           (g.R.Seated.state c.loop-wish.roster) (g.R.Seated.state c.grant_one.new.roster) c.args.queue.now
-          c.loop-wish.queue c.grant_one.new.queue c.loop-wish.invariant.took c.in_ok-grant_one.ensures.took);
+          c.loop-wish.queue c.grant_one.new.queue c.loop-wish.invariant.took c.in-Ok.ensures.took);
       sound = c.grant_one.ensures.sound;
     }
 

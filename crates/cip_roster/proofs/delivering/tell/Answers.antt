@@ -6,19 +6,17 @@ use Rattle.cip_plugin.specs.Seats.{State}
 use Rattle.cip_roster.specs.KeptRankings.{IsRanking}
 use Rattle.cip_roster.specs.Wished.{Ran, WasTold}
 use Rattle.cip_roster.proofs.Delivery.{ran_same}
-use Rattle.cip_roster.proofs.OneEvent.{on_err_any}
 use Rattle.cip_roster.proofs.delivering.tell.Goals as goal
 
 pub tell_each-requires-clause-ranking : goal.tell_each-requires-clause-ranking
 tell_each-requires-clause-ranking g c =
     subst (λ (keys : List Key). IsRanking kinds.EventHandler (g.R.Seated.state c.order_of.new.roster).seats keys)
     (sym c.as_slice.ensures.value)
-    (subst (λ (s : State). IsRanking kinds.EventHandler s.seats c.in_ok-order.order.items)
-    (sym c.order_of.ensures.state) c.in_ok-order.ensures.ranking)
+    (subst (λ (s : State). IsRanking kinds.EventHandler s.seats c.in-Ok.order.items)
+    (sym c.order_of.ensures.state) c.in-Ok.ensures.ranking)
 
-pub returns-in_err-order-clause-err : goal.returns-in_err-order-clause-err
-returns-in_err-order-clause-err g c =
-    on_err_any _ c.from_residual.result
+pub returns-in_default-clause-err : goal.returns-in_default-clause-err
+returns-in_default-clause-err g c =
     (ran_same (g.R.Seated.state c.args.roster.now) (g.R.Seated.state c.order_of.new.roster) c.order_of.ensures.state)
 
 pub returns-clause-told : goal.returns-clause-told

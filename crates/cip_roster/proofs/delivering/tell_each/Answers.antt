@@ -4,7 +4,7 @@ use Rattle.cip_plugin.specs.declared.kinds.Kind.TheVariants as kinds
 use Rattle.cip_plugin.specs.declared.keys.Key.{Key}
 use Rattle.cip_plugin.specs.Calling.{ids_of}
 use Rattle.cip_roster.proofs.Delivery.{ran_more}
-use Rattle.cip_roster.proofs.OneEvent.{ToldTo, on_err_any, told_to_all, told_to_more, told_to_none}
+use Rattle.cip_roster.proofs.OneEvent.{ToldTo, told_to_all, told_to_more, told_to_none, where_failed}
 use Rattle.cip_roster.proofs.Ranking.{ranked_seated}
 use Rattle.cip_roster.proofs.Turning.{ids_next, seat_stays}
 use Rattle.cip_roster.proofs.delivering.tell_each.Goals as goal
@@ -25,11 +25,11 @@ tell_one-requires-clause-seat g c =
     c.loop-key.invariant.told.run
     (c.loop-key.invariant.seated c.loop-key.key-index d c.loop-key-test.true)
 
-pub returns-in_err-tell_one-clause-err : goal.returns-in_err-tell_one-clause-err
-returns-in_err-tell_one-clause-err g c =
-    on_err_any _ c.from_residual.result (ran_more (g.R.Seated.state c.args.roster.now)
+pub returns-in_default-clause-err : goal.returns-in_default-clause-err
+returns-in_default-clause-err g c =
+    (ran_more (g.R.Seated.state c.args.roster.now)
     (g.R.Seated.state c.loop-key.roster) (g.R.Seated.state c.tell_one.new.roster) c.loop-key.invariant.told.steps
-    c.loop-key.invariant.told.run c.in_err-tell_one.ensures.err)
+    c.loop-key.invariant.told.run (where_failed _ c.tell_one.result c.in_default.not-Ok c.tell_one.ensures.err))
 
 pub loop-key-preserved : goal.loop-key-preserved
 loop-key-preserved g c =
@@ -43,7 +43,7 @@ loop-key-preserved g c =
           (get_or c.args.keys.now c.loop-key.key-index d).id (g.R.Seated.state c.args.roster.now)
           (g.R.Seated.state c.loop-key.roster) (g.R.Seated.state c.tell_one.new.roster) c.args.queue.now
           c.loop-key.queue c.tell_one.new.queue c.loop-key.invariant.sound.settled c.loop-key.invariant.told
-          c.in_ok-tell_one.ensures.told);
+          c.in-Ok.ensures.told);
       seated = c.loop-key.invariant.seated;
       sound = c.tell_one.ensures.sound;
     }

@@ -7,11 +7,10 @@ loop-id-preserved g c = record {
   so_far = subst (λ (n : ℕ). BegunSoFar n (g.R.Seated.state c.args.roster.now) (g.R.Seated.state c.begin.new.roster))
       (sym (add-one c.loop-id.id))
       (begun_more c.loop-id.id (g.R.Seated.state c.args.roster.now) (g.R.Seated.state c.loop-id.roster)
-      (g.R.Seated.state c.set_up.new.roster) (g.R.Seated.state c.begin.new.roster) c.set_up.ensures.run.0
-      c.begin.ensures.run.0 c.loop-id.invariant.so_far c.set_up.ensures.run.1 c.begin.ensures.run.1
-      c.begin.ensures.at);
-  room = omega (arith, c.loop-id.invariant.room, c.set_up.ensures.room, c.begin.ensures.room);
-  rankings = c.begin.ensures.rankings ∙ c.set_up.ensures.rankings ∙ c.loop-id.invariant.rankings;
+      (g.R.Seated.state c.begin.new.roster) c.begin.ensures.run.0.0 c.begin.ensures.run.0.1
+      c.loop-id.invariant.so_far c.begin.ensures.run.1 c.begin.ensures.at);
+  room = omega (arith, c.loop-id.invariant.room, c.begin.ensures.room);
+  rankings = c.begin.ensures.rankings ∙ c.loop-id.invariant.rankings;
 }
 
 pub returns-clause-playing : goal.returns-clause-playing

@@ -9,14 +9,14 @@ use Rattle.cip_roster.proofs.wishing.include.Goals as goal
 pub returns-in_err-holds-clause-sound : goal.returns-in_err-holds-clause-sound
 returns-in_err-holds-clause-sound g c = c.requires.sound
 
-pub returns-in_err-reserve_seat-clause-sound : goal.returns-in_err-reserve_seat-clause-sound
-returns-in_err-reserve_seat-clause-sound g c =
+pub returns-in_default-clause-sound : goal.returns-in_default-clause-sound
+returns-in_default-clause-sound g c =
     sound_more (g.R.Seated.state c.args.roster.now) (g.R.Seated.state c.reserve_seat.new.self)
     (g.R.Seated.room c.args.roster.now) (g.R.Seated.room c.reserve_seat.new.self) c.reserve_seat.ensures.state
     c.reserve_seat.ensures.grows c.reserve_seat.ensures.rankings c.requires.sound
 
-pub returns-in_err-push-clause-sound : goal.returns-in_err-push-clause-sound
-returns-in_err-push-clause-sound g c =
+pub returns-in_default-push-clause-sound : goal.returns-in_default-push-clause-sound
+returns-in_default-push-clause-sound g c =
     sound_more (g.R.Seated.state c.args.roster.now) (g.R.Seated.state c.reserve_seat.new.self)
     (g.R.Seated.room c.args.roster.now) (g.R.Seated.room c.reserve_seat.new.self) c.reserve_seat.ensures.state
     c.reserve_seat.ensures.grows c.reserve_seat.ensures.rankings c.requires.sound
@@ -33,12 +33,12 @@ welcome-requires-clause-held g c =
     ∙ c.in_ok-holds.ensures
 
 pub welcome-requires-clause-seat : goal.welcome-requires-clause-seat
-welcome-requires-clause-seat g c = c.in_ok-reserve_seat.ensures.seat
+welcome-requires-clause-seat g c = c.in-Ok.ensures.seat
 
 pub welcome-requires-clause-room : goal.welcome-requires-clause-room
 welcome-requires-clause-room g c =
     subst (λ (s : State). 6 + 2 * live_count s.seats ≤ (g.R.Seated.room c.reserve_seat.new.self).lines)
-    (sym c.reserve_seat.ensures.state) c.in_ok-reserve_seat.ensures.room
+    (sym c.reserve_seat.ensures.state) c.in-Ok.ensures.room
 
 pub returns-clause-sound : goal.returns-clause-sound
 returns-clause-sound g c = c.welcome.ensures.sound

@@ -1,0 +1,22 @@
+use Rattle.std.proofs.Common.{Bool, None, Some, ap, cond, ◌∙◌}
+use Rattle.cip_roster.specs.Turns.{ready_key}
+use Rattle.cip_roster.proofs.Sitting.{said_there}
+use Rattle.cip_roster.proofs.single.RosterSteps.ready_key.Goals as goal
+
+pub returns-in-Some : goal.returns-in-Some
+returns-in-Some g c =
+    c.key.ensures ∙ ap (λ (b : Bool). cond b (Some (record {
+      rank = record { 0 = c.in-Some.slot.now.priority };
+      id = c.args.id;
+    })) None) c.if-is_ready.ensures
+    ∙ said_there _ (ready_key c.args.kind c.args.id) c.args.self.now.slots.items _ c.args.id c.in-Some.slot.now
+    c.deref.ensures.value c.in-Some.ensures.lookup.3.0 c.in-Some.ensures.lookup.1
+
+pub returns-in_default : goal.returns-in_default
+returns-in_default g c =
+    ap (λ (b : Bool). cond b (Some (record {
+      rank = record { 0 = c.in-Some.slot.now.priority };
+      id = c.args.id;
+    })) None) c.if-is_ready.ensures
+    ∙ said_there _ (ready_key c.args.kind c.args.id) c.args.self.now.slots.items _ c.args.id c.in-Some.slot.now
+    c.deref.ensures.value c.in-Some.ensures.lookup.3.0 c.in-Some.ensures.lookup.1
