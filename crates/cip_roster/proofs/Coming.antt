@@ -1,6 +1,6 @@
 -- A plugin comes from the shelf to the next seat, and room for lines.
-use Rattle.std.proofs.Common.{◌≡◌, ℕ, ◌+◌, ◌-◌, ◌*◌, ◌≤◌, List, [], ◌∷◌, ◌++◌, length, map, Option, None, Some, set, sym, ◌∙◌, ap, refl, arith, get_or, ◌<◌}
-use Rattle.std.specs.Prelude.{slice_get, option_map, Result, OnOk}
+use Rattle.std.proofs.Common.{◌≡◌, ℕ, ◌+◌, ◌-◌, ◌*◌, ◌≤◌, List, [], ◌∷◌, ◌++◌, length, map, Option, None, Some, true, false, set, sym, ◌∙◌, ap, refl, arith, get_or, ◌<◌}
+use Rattle.std.specs.Prelude.{slice_get, is_some, option_map, Result, OnOk}
 use Rattle.std.proofs.lemmas.List.{length-map, map-set}
 use Rattle.std.proofs.lemmas.Option.{slice_get-map, slice_get_read, slice_get_within}
 use Rattle.std.proofs.lemmas.List.Sums.{count_by-le-length}
@@ -11,6 +11,7 @@ use Rattle.cip_plugin.specs.Seats.{Seat, Standing, State, is_live, live_count}
 use Rattle.cip_plugin.specs.Steps.{IsSeated, Runs, Takes}
 use Rattle.cip_plugin.proofs.Lists.{get_last}
 use Rattle.cip_plugin.specs.Wishing.{place_fault}
+use Rattle.cip_plugin.specs.declared.faults.WishFault.TheVariants.{TakenPlace}
 use Rattle.cip_plugin.proofs.Joining.{unwritten_lines}
 use Rattle.cip_roster.specs.Shelves.{shown}
 use Rattle.cip_roster.specs.Turns.{StandsAt}
@@ -60,6 +61,18 @@ came_shown {A = A} who xs place x r dest p a b shows fine read same is none late
     ∙ ap (λ (o : Option A). set (map (shown who) xs) place (shown who o)) none
     ∙ ap (λ (places : List (Option Who)). set places place None) (sym shows))
     seated.1 seated.2 names kept lines
+
+-- nothing is wrong with a place that holds a plugin
+pub place_full : {A : Type 0} (who : A → Who) (o : Option A) → true ≡ is_some o
+    → place_fault (Some (shown who o)) ≡ None
+place_full who None full = cc
+place_full who (Some x) full = refl
+
+-- one that holds none is taken
+pub place_empty : {A : Type 0} (who : A → Who) (o : Option A) → false ≡ is_some o
+    → place_fault (Some (shown who o)) ≡ Some TakenPlace
+place_empty who None empty = refl
+place_empty who (Some x) empty = cc
 
 -- a place with which nothing is wrong is within the shelf that is shown
 pub place_within : {A : Type 0} (who : A → Who) (xs : List (Option A)) (place n : ℕ) → n ≡ length xs

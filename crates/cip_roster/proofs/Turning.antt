@@ -21,7 +21,6 @@ use Rattle.cip_roster.proofs.Calm.{asked_still, run_calm, turn_calm, turns_calm}
 use Rattle.cip_roster.proofs.Keeping.{noted_some, some_at}
 use Rattle.cip_roster.proofs.StillRanked.{ranking_alike, sound_alike}
 use Rattle.cip_events.specs.declared.words.Word.{Word}
-use Rattle.std.proofs.lemmas.Bool.{ne_eqb}
 use Rattle.std.proofs.lemmas.Option.{slice_get-get_or}
 use Rattle.cip_roster.proofs.Ending.{take_next}
 
@@ -262,12 +261,6 @@ turned_sound id ask a r b given room most later same sound had enough left kept 
     let count : 2 * live_count r.seats ≤ later.lines = rw same (omega arith) in
     sound_alike r b room later (run_calm (turn_of id ask had.answer) r b (turn_calm id ask had.answer) had.run) own
     count kept
-
--- what was dropped is noted, as there was some
-pub dropped_some : (a b : State) (id past : ℕ) → (past ≡ 0 → ⊥) → Runs a (Notes id (say.Dropped past) ∷ []) b
-    → Runs a (dropped id past) b
-dropped_some a b id past some run =
-    subst (λ (t : Bool). Runs a (cond t [] (Notes id (say.Dropped past) ∷ [])) b) (sym (ne_eqb past 0 some)) run
 
 -- a note behind a change of room alone
 pub noted_behind : (a r b : State) (id : ℕ) (word : Word) → is_note word ≡ true → IsSome (slice_get a.seats id)

@@ -56,7 +56,9 @@ fn next<R: Steps>(
     ensures state { R.state roster.new ≡ R.state roster.old }
     ensures next { IfOk result (λ found. IsNext kind (R.state roster.old).seats after found) }
 {
-    let keys = ranked(roster, alloc, kind)?;
+    let Ok(keys) = ranked(roster, alloc, kind) else {
+        return Err(AllocError);
+    };
     let found = first_behind(keys.as_slice(), key_at(roster, after));
     roster.keep_ranking(kind, keys);
     Ok(found)
@@ -78,11 +80,14 @@ pub(crate) fn call_next<R: Steps>(
         (R.state roster.old) (R.state roster.new) gave) }
     ensures err { OnErr result (R.state roster.new ≡ R.state roster.old) }
 {
-    match next(roster, alloc, kind, after)? {
-        None => Ok(None),
-        Some(key) => {
-            roster.reserve_turns(1)?;
-            Ok(Some((key.id, turn(roster, alloc, key.id, question, view))))
-        }
-    }
+    let Ok(found) = next(roster, alloc, kind, after) else {
+        return Err(AllocError);
+    };
+    let Some(key) = found else {
+        return Ok(None);
+    };
+    let Ok(()) = roster.reserve_turns(1) else {
+        return Err(AllocError);
+    };
+    Ok(Some((key.id, turn(roster, alloc, key.id, question, view))))
 }

@@ -1,17 +1,16 @@
 //! The single steps of a roster of boxed plugins.
-ghost use Rattle.std.specs.Prelude.{◌≡◌, ◌+◌, ◌-◌, ◌++◌, ◌<◌, [], ◌∷◌, min, OnOk, vec_len, vec_capacity};
-ghost use Rattle.cip_events.specs.Names.{shown_name};
+ghost use Rattle.std.specs.Prelude.{◌≡◌, ◌-◌, ◌<◌, min, OnOk, vec_len, vec_capacity};
 ghost use Rattle.cip_plugin.specs.Asking.{ask_of};
 ghost use Rattle.cip_plugin.specs.Lives.{word_of_ask};
-ghost use Rattle.cip_plugin.specs.Seats.{Seat};
-ghost use Rattle.cip_plugin.specs.Steps.{IsSeated, switch_word};
+ghost use Rattle.cip_plugin.specs.Steps.{switch_word};
 
 use crate::rosters::{Roster, Seated};
 use crate::slots::{Sits, Slot};
 use crate::steps::{Seats, Steps};
 use cip_events::{Event, Name, Word};
-use cip_plugin::{AnyPlugin, Given, Key, Kind, Question, Tells, View, WishFault};
+use cip_plugin::{AnyPlugin, Given, Key, Kind, Question, Stage, Tells, View, WishFault};
 use std::alloc::{AllocError, Global};
+use std::marker::PhantomData;
 use std::mem;
 
 /// The most turns for whose lines room can be asked for at once.
@@ -46,32 +45,10 @@ fn reserve_one(slots: &mut Vec<Slot>, names: &mut Vec<Name>) -> Result<(), Alloc
     ensures seat { OnOk result (vec_len slots.new < vec_capacity slots.new) }
     ensures name { OnOk result (vec_len names.new < vec_capacity names.new) }
 {
-    slots.reserve(1)?;
+    let Ok(()) = slots.reserve(1) else {
+        return Err(AllocError);
+    };
     names.reserve(1)
-}
-
-impl Roster {
-    /// A plugin gets the next seat, uncalled; there is room for it.
-    pub(crate) fn take_seat(&mut self, plugin: AnyPlugin)
-        requires slots { vec_len self.old.slots < vec_capacity self.old.slots }
-        requires names { vec_len self.old.names < vec_capacity self.old.names }
-        ensures seats { (fresh : Seat) × IsSeated (⟦<AnyPlugin as Tells>⟧.who plugin) fresh
-            × ((⟦<Roster as Seated>⟧.state self.new).seats
-            ≡ (⟦<Roster as Seated>⟧.state self.old).seats ++ fresh ∷ []) }
-        ensures named { (⟦<Roster as Seated>⟧.state self.new).names ≡ (⟦<Roster as Seated>⟧.state self.old).names
-            ++ shown_name (⟦<AnyPlugin as Tells>⟧.who plugin).label ∷ [] }
-        ensures places { (⟦<Roster as Seated>⟧.state self.new).places ≡ (⟦<Roster as Seated>⟧.state self.old).places }
-        ensures lines { (⟦<Roster as Seated>⟧.state self.new).lines ≡ (⟦<Roster as Seated>⟧.state self.old).lines }
-        ensures kept { (⟦<Roster as Seated>⟧.state self.new).kept ≡ (⟦<Roster as Seated>⟧.state self.old).kept }
-        ensures room { ⟦<Roster as Seated>⟧.room self.new ≡ ⟦<Roster as Seated>⟧.room self.old }
-        ensures slots { (vec_len self.new.slots ≡ vec_len self.old.slots + 1)
-            × (vec_capacity self.new.slots ≡ vec_capacity self.old.slots) }
-        ensures names { (vec_len self.new.names ≡ vec_len self.old.names + 1)
-            × (vec_capacity self.new.names ≡ vec_capacity self.old.names) }
-    {
-        self.names.push_reserved(Name::of(plugin.name()));
-        self.slots.push_reserved(Slot::new(plugin));
-    }
 }
 
 impl Steps for Roster {
@@ -119,8 +96,13 @@ impl Steps for Roster {
     fn holds(&self, place: u32) -> Result<(), WishFault> {
         match self.shelf.get(place as usize) {
             None => Err(WishFault::NoSuchPlace),
-            Some(None) => Err(WishFault::TakenPlace),
-            Some(Some(_)) => Ok(()),
+            Some(held) => {
+                if held.is_some() {
+                    Ok(())
+                } else {
+                    Err(WishFault::TakenPlace)
+                }
+            }
         }
     }
 
@@ -133,7 +115,9 @@ impl Steps for Roster {
     }
 
     fn reserve_seat(&mut self) -> Result<(), AllocError> {
-        self.reserve_turns(3)?;
+        let Ok(()) = self.reserve_turns(3) else {
+            return Err(AllocError);
+        };
         reserve_one(&mut self.slots, &mut self.names)
     }
 
@@ -142,25 +126,33 @@ impl Steps for Roster {
     }
 
     fn init(&mut self, alloc: Global, id: u32) -> bool {
-        let answered = self.slots[id as usize].init(alloc).is_ok();
+        let slot = &mut self.slots[id as usize];
+        slot.stage = Stage::Begun;
+        let answered = slot.plugin.init(alloc).is_ok();
         self.note(id, Word::Init);
         answered
     }
 
     fn init_solve(&mut self, alloc: Global, id: u32, view: &View<'_>) -> bool {
-        let answered = self.slots[id as usize].init_solve(alloc, view).is_ok();
+        let slot = &mut self.slots[id as usize];
+        slot.stage = Stage::Playing;
+        let answered = slot.plugin.init_solve(alloc, view).is_ok();
         self.note(id, Word::InitSolve);
         answered
     }
 
     fn exit_solve(&mut self, id: u32) {
         self.rankings.clear();
-        self.slots[id as usize].exit_solve();
+        let slot = &mut self.slots[id as usize];
+        slot.stage = Stage::Left;
+        slot.plugin.exit_solve();
         self.note(id, Word::ExitSolve);
     }
 
     fn exit(&mut self, id: u32) {
-        self.slots[id as usize].exit();
+        let slot = &mut self.slots[id as usize];
+        slot.stage = Stage::Gone;
+        slot.plugin.exit();
         self.note(id, Word::Exit);
     }
 
@@ -172,7 +164,7 @@ impl Steps for Roster {
         view: &View<'_>,
     ) -> Result<Given, AllocError> {
         let word = word_for(&question);
-        let given = self.slots[id as usize].ask(alloc, question, view);
+        let given = self.slots[id as usize].plugin.ask(alloc, question, view);
         self.note(id, word);
         given
     }
@@ -192,7 +184,7 @@ impl Steps for Roster {
         self.rankings.clear();
         match mem::replace(&mut self.shelf[place as usize], None) {
             None => unreachable!(),
-            Some(plugin) => self.take_seat(plugin),
+            Some(plugin) => self.seat(plugin),
         }
     }
 
@@ -209,6 +201,17 @@ impl Seats<AnyPlugin> for Roster {
     ghost spare = { λ r. min (vec_capacity r.slots - vec_len r.slots) (vec_capacity r.names - vec_len r.names) };
 
     fn seat(&mut self, plugin: AnyPlugin) {
-        self.take_seat(plugin);
+        self.names.push_reserved(Name::of(plugin.name()));
+        let priority = plugin.priority();
+        let interest = plugin.interest();
+        self.slots.push_reserved(Slot {
+            plugin,
+            priority,
+            interest,
+            stage: Stage::Fresh,
+            enabled: true,
+            offs: 0,
+            boxes: PhantomData,
+        });
     }
 }

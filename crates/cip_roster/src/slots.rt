@@ -1,20 +1,16 @@
 //! A plugin that was included, with what the roster knows of it.
-ghost use Rattle.std.specs.Prelude.{◌≡◌, Some, true, false, is_ok, if◌then◌else◌};
-ghost use Rattle.cip_plugin.specs.Calls.{Init, InitSolve, Asked, ExitSolve, Exit};
-ghost use Rattle.cip_plugin.specs.Answers.{answer};
-ghost use Rattle.cip_plugin.specs.Asking.{asks, ask_of, answer_of};
-ghost use Rattle.cip_plugin.specs.Seats.{Seat, is_on, is_live};
+ghost use Rattle.std.specs.Prelude.{◌≡◌, Some, true, false, if◌then◌else◌};
+ghost use Rattle.cip_plugin.specs.Seats.{Seat, is_live};
 ghost use Rattle.cip_plugin.specs.Calling.{is_ready};
 ghost use Rattle.cip_plugin.specs.Wishing.{is_to_hear};
-ghost use Rattle.cip_plugin.specs.Steps.{IsCalled, IsTurned, IsSeated};
+ghost use Rattle.cip_plugin.specs.Steps.{IsTurned};
 ghost use Rattle.cip_roster.specs.Nexts.{key_of};
 
 use cip_events::{Event, EventMask};
 use cip_plugin::{
-    AnyPlugin, BranchRule, ConsHandler, EventHandler, Given, Heuristic, Key, Kind, Pricer,
-    Propagator, Question, Separator, Stage, Tells, View,
+    AnyPlugin, BranchRule, ConsHandler, EventHandler, Heuristic, Key, Kind, Pricer, Propagator,
+    Separator, Stage, Tells,
 };
-use std::alloc::{AllocError, Global};
 use std::cmp::Reverse;
 use std::marker::PhantomData;
 
@@ -122,23 +118,6 @@ impl Sits for Slot {
 }
 
 impl Slot {
-    /// A plugin as it comes to a seat.
-    pub(crate) fn new(plugin: AnyPlugin) -> Slot
-        ensures { IsSeated (⟦<AnyPlugin as Tells>⟧.who plugin) (⟦<Slot as Sits>⟧.seat result) }
-    {
-        let priority = plugin.priority();
-        let interest = plugin.interest();
-        Slot {
-            plugin,
-            priority,
-            interest,
-            stage: Stage::Fresh,
-            enabled: true,
-            offs: 0,
-            boxes: PhantomData,
-        }
-    }
-
     /// Its key, by the number that it is given, as its priority is now.
     pub(crate) fn key(&self, id: u32) -> Key
         ensures { Some result ≡ key_of id (Some (⟦<Slot as Sits>⟧.seat self.now)) }
@@ -147,63 +126,6 @@ impl Slot {
             rank: Reverse(self.priority),
             id,
         }
-    }
-
-    /// It is set up. `Err`: it wanted memory that was refused.
-    pub(crate) fn init(&mut self, alloc: Global) -> Result<(), AllocError>
-        requires { self.old.stage ≡ Stage.Fresh }
-        ensures called { IsCalled (Init (is_ok result)) (⟦<Slot as Sits>⟧.seat self.old)
-            (⟦<Slot as Sits>⟧.seat self.new) }
-        ensures stage { self.new.stage ≡ Stage.Begun }
-    {
-        self.stage = Stage::Begun;
-        self.plugin.init(alloc)
-    }
-
-    /// It hears that the search is on. `Err`: it wanted memory that was refused.
-    pub(crate) fn init_solve(&mut self, alloc: Global, view: &View<'_>) -> Result<(), AllocError>
-        requires { self.old.stage ≡ Stage.Begun }
-        ensures called { IsCalled (InitSolve (is_ok result)) (⟦<Slot as Sits>⟧.seat self.old)
-            (⟦<Slot as Sits>⟧.seat self.new) }
-        ensures stage { self.new.stage ≡ Stage.Playing }
-    {
-        self.stage = Stage::Playing;
-        self.plugin.init_solve(alloc, view)
-    }
-
-    /// It hears that the search ends.
-    pub(crate) fn exit_solve(&mut self)
-        requires { self.old.stage ≡ Stage.Playing }
-        ensures called { IsCalled ExitSolve (⟦<Slot as Sits>⟧.seat self.old) (⟦<Slot as Sits>⟧.seat self.new) }
-        ensures stage { self.new.stage ≡ Stage.Left }
-    {
-        self.stage = Stage::Left;
-        self.plugin.exit_solve();
-    }
-
-    /// It is closed.
-    pub(crate) fn exit(&mut self)
-        requires { self.old.stage ≡ Stage.Left }
-        ensures called { IsCalled Exit (⟦<Slot as Sits>⟧.seat self.old) (⟦<Slot as Sits>⟧.seat self.new) }
-        ensures stage { self.new.stage ≡ Stage.Gone }
-    {
-        self.stage = Stage::Gone;
-        self.plugin.exit();
-    }
-
-    /// What it gives. `Err`: it wanted memory that was refused.
-    pub(crate) fn ask(
-        &mut self,
-        alloc: Global,
-        question: Question<'_>,
-        view: &View<'_>,
-    ) -> Result<Given, AllocError>
-        requires on { is_on (⟦<Slot as Sits>⟧.seat self.old) ≡ true }
-        requires fits { asks (⟦<Slot as Sits>⟧.seat self.old).who.kind (ask_of question) ≡ true }
-        ensures { IsCalled (Asked (ask_of question.entry) (answer result answer_of))
-            (⟦<Slot as Sits>⟧.seat self.old) (⟦<Slot as Sits>⟧.seat self.new) }
-    {
-        self.plugin.ask(alloc, question, view)
     }
 
     /// It is disabled while it is enabled, or enabled while it isn't.

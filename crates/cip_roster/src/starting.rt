@@ -99,9 +99,15 @@ fn make_room<S: Drop, P: Drop>(
         × (names.new.items ≡ names.old.items) × (journal.new.lines.items ≡ journal.old.lines.items)
         × (journal.new.kept ≡ journal.old.kept) }
 {
-    slots.reserve(start)?;
-    shelf.reserve(shelved)?;
-    names.reserve(start)?;
+    let Ok(()) = slots.reserve(start) else {
+        return Err(AllocError);
+    };
+    let Ok(()) = shelf.reserve(shelved) else {
+        return Err(AllocError);
+    };
+    let Ok(()) = names.reserve(start) else {
+        return Err(AllocError);
+    };
     journal.reserve(6 * start)
 }
 

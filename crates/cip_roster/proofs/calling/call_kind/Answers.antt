@@ -5,7 +5,7 @@ use Rattle.cip_plugin.specs.Calling.{ids_of}
 use Rattle.cip_roster.specs.Turns.{CanBeAsked, handed}
 use Rattle.cip_roster.proofs.Ranking.{ranked_can}
 use Rattle.cip_roster.proofs.StillRanked.{sound_with}
-use Rattle.cip_roster.proofs.Turning.{all_behind, called_kind, called_ranked, called_sound}
+use Rattle.cip_roster.proofs.Turning.{all_behind, called_kind, called_ranked, called_sound, sound_more}
 use Rattle.cip_roster.proofs.calling.call_kind.Goals as goal
 
 pub call-requires-clause-ready : goal.call-requires-clause-ready
@@ -52,3 +52,47 @@ returns-clause-called g c =
     c.make_room.new.given.items c.call.new.given.items (c.make_room.ensures.state ∙ c.ranked.ensures.state)
     c.keep_ranking.ensures.state c.make_room.ensures.given c.as_slice.ensures.value c.in-Ok.ensures.ranking
     c.call.ensures.kept c.call.ensures.called
+
+pub call-requires-clause-lines : goal.call-requires-clause-lines
+call-requires-clause-lines g c =
+    omega (
+      arith,
+      c.in-Ok-make_room.ensures.lines,
+      c.len.ensures,
+      ap (λ (xs : List Key). length xs) c.as_slice.ensures.value,
+      c.as_slice.ensures.len,
+    )
+
+pub call-requires-clause-room : goal.call-requires-clause-room
+call-requires-clause-room g c =
+    omega (
+      arith,
+      c.in-Ok-make_room.ensures.room,
+      c.len.ensures,
+      ap (λ (xs : List Key). length xs) c.as_slice.ensures.value,
+      c.as_slice.ensures.len,
+    )
+
+pub returns-in_default-clause-sound : goal.returns-in_default-clause-sound
+returns-in_default-clause-sound g c = c.ranked.ensures.sound
+
+pub returns-in_default-clause-called : goal.returns-in_default-clause-called
+returns-in_default-clause-called g c = tt
+
+pub returns-in_default-clause-err : goal.returns-in_default-clause-err
+returns-in_default-clause-err g c = c.ranked.ensures.state
+
+pub returns-in_default-make_room-clause-sound : goal.returns-in_default-make_room-clause-sound
+returns-in_default-make_room-clause-sound g c =
+    sound_more (g.R.Seated.state c.ranked.new.roster) (g.R.Seated.state c.make_room.new.roster)
+    (g.R.Seated.room c.ranked.new.roster) (g.R.Seated.room c.make_room.new.roster) c.make_room.ensures.state
+    c.make_room.ensures.grows c.make_room.ensures.rankings c.ranked.ensures.sound
+
+pub returns-in_default-make_room-clause-called : goal.returns-in_default-make_room-clause-called
+returns-in_default-make_room-clause-called g c = tt
+
+pub returns-in_default-make_room-clause-err : goal.returns-in_default-make_room-clause-err
+returns-in_default-make_room-clause-err g c = c.make_room.ensures.state ∙ c.ranked.ensures.state
+
+pub returns-clause-err : goal.returns-clause-err
+returns-clause-err g c = tt

@@ -19,3 +19,24 @@ pub returns-clause-ranking : goal.returns-clause-ranking
 returns-clause-ranking g c =
     subst (λ (keys : List Key). IsRanking c.args.kind (g.R.Seated.state c.args.roster.now).seats keys)
     (sym (c.in-Ok-from_slice.ensures.items ∙ c.as_slice.ensures.value)) c.in-Ok.ensures.ranking
+
+pub returns-in_default-clause-ranking : goal.returns-in_default-clause-ranking
+returns-in_default-clause-ranking g c = tt
+
+pub returns-in_default-clause-sound : goal.returns-in_default-clause-sound
+returns-in_default-clause-sound g c = c.ranked.ensures.sound
+
+pub returns-in_default-clause-state : goal.returns-in_default-clause-state
+returns-in_default-clause-state g c = c.ranked.ensures.state
+
+pub returns-in_default-from_slice-clause-ranking : goal.returns-in_default-from_slice-clause-ranking
+returns-in_default-from_slice-clause-ranking g c = tt
+
+pub returns-in_default-from_slice-clause-sound : goal.returns-in_default-from_slice-clause-sound
+returns-in_default-from_slice-clause-sound g c = c.ranked.ensures.sound
+
+pub returns-in_default-from_slice-clause-state : goal.returns-in_default-from_slice-clause-state
+returns-in_default-from_slice-clause-state g c = c.ranked.ensures.state
+
+pub returns-clause-state : goal.returns-clause-state
+returns-clause-state g c = c.keep_ranking.ensures.state ∙ c.ranked.ensures.state

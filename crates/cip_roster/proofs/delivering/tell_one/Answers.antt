@@ -1,8 +1,8 @@
-use Rattle.std.proofs.Common.{sym, ◌∙◌}
+use Rattle.std.proofs.Common.{sym, ◌∙◌, arith}
 use Rattle.cip_plugin.specs.Calls.{OnEvent}
-use Rattle.cip_roster.proofs.Delivery.{ran_turn}
+use Rattle.cip_roster.proofs.Delivery.{ran_turn, ran_same}
 use Rattle.cip_roster.proofs.OneEvent.{told_passed, told_wishes}
-use Rattle.cip_roster.proofs.Turning.{turned_sound, turned_there}
+use Rattle.cip_roster.proofs.Turning.{turned_sound, turned_there, sound_more}
 use Rattle.cip_roster.proofs.delivering.tell_one.Goals as goal
 
 pub returns-then-not-is_to_hear-clause-told : goal.returns-then-not-is_to_hear-clause-told
@@ -38,3 +38,28 @@ returns-clause-err g c =
     (g.R.Seated.state c.reserve_turns.new.self) (g.R.Seated.state c.turn-given.new.roster)
     (g.R.Seated.state c.grant-granted.new.roster) c.turn-given.result c.grant-granted.result
     c.reserve_turns.ensures.state c.turn-given.ensures.turn c.grant-granted.ensures.err
+
+pub returns-clause-sound : goal.returns-clause-sound
+returns-clause-sound g c = c.grant-granted.ensures.sound
+
+pub returns-in_default-clause-told : goal.returns-in_default-clause-told
+returns-in_default-clause-told g c = tt
+
+pub returns-in_default-clause-err : goal.returns-in_default-clause-err
+returns-in_default-clause-err g c =
+    ran_same (g.R.Seated.state c.args.roster.now) (g.R.Seated.state c.reserve_turns.new.self) c.reserve_turns.ensures.state
+
+pub returns-in_default-clause-sound : goal.returns-in_default-clause-sound
+returns-in_default-clause-sound g c =
+    sound_more (g.R.Seated.state c.args.roster.now) (g.R.Seated.state c.reserve_turns.new.self)
+    (g.R.Seated.room c.args.roster.now) (g.R.Seated.room c.reserve_turns.new.self) c.reserve_turns.ensures.state
+    c.reserve_turns.ensures.grows c.reserve_turns.ensures.rankings c.requires.sound
+
+pub turn-given-requires-clause-room : goal.turn-given-requires-clause-room
+turn-given-requires-clause-room g c = omega (arith, c.in-Ok.ensures.room)
+
+pub returns-then-not-is_to_hear-clause-sound : goal.returns-then-not-is_to_hear-clause-sound
+returns-then-not-is_to_hear-clause-sound g c = c.requires.sound
+
+pub returns-then-not-is_to_hear-clause-err : goal.returns-then-not-is_to_hear-clause-err
+returns-then-not-is_to_hear-clause-err g c = tt

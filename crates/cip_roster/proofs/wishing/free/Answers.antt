@@ -1,5 +1,6 @@
 use Rattle.cip_roster.proofs.Sounding.{sound_ended}
 use Rattle.cip_roster.proofs.Wishes.{fine_live, freed_once, live_plays, live_room}
+use Rattle.std.proofs.Common.{inl, refl}
 use Rattle.cip_roster.proofs.wishing.free.Goals as goal
 
 pub end-requires-clause-room : goal.end-requires-clause-room
@@ -24,3 +25,12 @@ returns-clause-came g c = record {
       c.end.ensures.run;
   fine = fine_live (g.R.Seated.state c.args.roster.now) c.args.id c.in_ok-live.ensures;
 }
+
+pub returns-in_default-clause-came : goal.returns-in_default-clause-came
+returns-in_default-clause-came g c = record { cause = inl refl; same = refl }
+
+pub returns-in_default-clause-sound : goal.returns-in_default-clause-sound
+returns-in_default-clause-sound g c = c.requires.sound
+
+pub returns-in_err-live-clause-sound : goal.returns-in_err-live-clause-sound
+returns-in_err-live-clause-sound g c = c.requires.sound

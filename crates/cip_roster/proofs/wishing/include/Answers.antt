@@ -1,4 +1,4 @@
-use Rattle.std.proofs.Common.{◌+◌, ◌*◌, ◌≤◌, ◌∙◌, ap, subst, sym}
+use Rattle.std.proofs.Common.{◌+◌, ◌*◌, ◌≤◌, ◌∙◌, ap, subst, sym, append-nil, inl, refl}
 use Rattle.std.specs.Prelude.{slice_get}
 use Rattle.cip_plugin.specs.declared.proposals.Wish.TheVariants.{Include}
 use Rattle.cip_plugin.specs.Seats.{State, live_count}
@@ -49,3 +49,12 @@ returns-clause-came g c = record {
       c.reserve_seat.ensures.state c.welcome.ensures.granted;
   fine = c.in_ok-holds.ensures;
 }
+
+pub returns-in_default-clause-came : goal.returns-in_default-clause-came
+returns-in_default-clause-came g c = record { cause = inl refl; same = c.reserve_seat.ensures.state }
+
+pub returns-in_default-clause-queue : goal.returns-in_default-clause-queue
+returns-in_default-clause-queue g c = sym (append-nil c.args.queue.now)
+
+pub returns-in_default-push-clause-came : goal.returns-in_default-push-clause-came
+returns-in_default-push-clause-came g c = record { cause = inl refl; same = c.reserve_seat.ensures.state }

@@ -3,6 +3,7 @@ use Rattle.std.specs.Prelude.{ℤ}
 use Rattle.std.proofs.Math.Facts.{to_z-of_z}
 use Rattle.cip_plugin.specs.Steps.{Ranks, Runs}
 use Rattle.cip_roster.proofs.Sounding.{sound_still}
+use Rattle.cip_roster.proofs.Wishes.{live_plays}
 use Rattle.cip_roster.proofs.wishing.rank.Goals as goal
 
 pub returns-clause-sound : goal.returns-clause-sound
@@ -15,3 +16,12 @@ returns-clause-sound g c =
     c.requires.sound
     c.set_priority.ensures.at (omega (arith, c.requires.sound.lasts, c.set_priority.ensures.room))
     c.set_priority.ensures.rankings
+
+pub returns-in_err-live-clause-sound : goal.returns-in_err-live-clause-sound
+returns-in_err-live-clause-sound g c = c.requires.sound
+
+pub set_priority-requires : goal.set_priority-requires
+set_priority-requires g c = record {
+  at = live_plays (g.R.Seated.state c.args.roster.now) c.args.id (g.R.Seated.room c.args.roster.now) c.requires.sound
+      c.in_ok-live.ensures;
+}

@@ -1,4 +1,4 @@
-use Rattle.std.proofs.Common.{◌∙◌, [], ◌∷◌, ◌++◌, cond, ap}
+use Rattle.std.proofs.Common.{◌∙◌, [], ◌∷◌, ◌++◌, cond, ap, refl}
 use Rattle.cip_events.specs.declared.words.Word.{Word}
 use Rattle.cip_plugin.specs.Calls.{Asked}
 use Rattle.cip_plugin.specs.Answers.{answer}
@@ -6,15 +6,25 @@ use Rattle.cip_plugin.specs.Asking.{answer_of, ask_of, asks}
 use Rattle.cip_plugin.specs.Seats.{Seat, is_on}
 use Rattle.cip_plugin.specs.Steps.{IsCalled, line}
 use Rattle.cip_plugin.proofs.Joining.{called_once}
-use Rattle.cip_roster.proofs.Sitting.{sat_there, seat_there, seat_within}
+use Rattle.cip_roster.proofs.Sitting.{asked_turn, sat_there, seat_there, seat_within}
 use Rattle.cip_roster.proofs.single.RosterSteps.ask.Goals as goal
 
 pub returns-clause-run : goal.returns-clause-run
 returns-clause-run g c =
+    let same = seat_there _ c.args.self.now.slots.items c.args.id c.index_mut.result.now c.requires.ready.seat
+    c.requires.ready.at c.index_mut.ensures.value in
     called_once _ _ c.args.id (Asked (ask_of c.args.question) (answer c.ask-given.result answer_of))
     (sat_there _ (IsCalled (Asked (ask_of c.args.question) (answer c.ask-given.result answer_of))) _ c.args.id
-    c.index_mut.result.now c.ask-given.new.self c.requires.ready.seat _ c.requires.ready.at
-    c.index_mut.ensures.value c.note.ensures.seats c.ask-given.ensures)
+    c.index_mut.result.now _ c.requires.ready.seat _ c.requires.ready.at
+    c.index_mut.ensures.value c.note.ensures.seats
+    (record {
+      turn = asked_turn _ _ (ask_of c.args.question)
+          (ap (λ (s : Seat). asks s.who.kind (ask_of c.args.question)) same ∙ c.requires.ready.fits)
+          (ap is_on same ∙ c.requires.ready.on);
+      heard = c.ask-given.ensures.heard;
+      kind = c.ask-given.ensures.kind;
+      same = refl;
+    }))
     c.note.ensures.places c.note.ensures.names c.note.ensures.kept (c.note.ensures.lines ∙ ap (λ (w : Word).
     cond c.args.self.now.journal.kept (c.args.self.now.journal.lines.items ++ line c.args.id w ∷ [])
     c.args.self.now.journal.lines.items) c.word_for-word.ensures)
@@ -24,12 +34,7 @@ index_mut-requires g c =
     seat_within _ c.args.self.now.slots.items c.args.id _ c.requires.ready.seat c.args.self.now.slots.ok.0
     c.requires.ready.at
 
-pub ask-given-requires-clause-on : goal.ask-given-requires-clause-on
-ask-given-requires-clause-on g c =
-    ap is_on (seat_there _ c.args.self.now.slots.items c.args.id c.index_mut.result.now c.requires.ready.seat
-    c.requires.ready.at c.index_mut.ensures.value) ∙ c.requires.ready.on
-
-pub ask-given-requires-clause-fits : goal.ask-given-requires-clause-fits
-ask-given-requires-clause-fits g c =
+pub ask-given-requires : goal.ask-given-requires
+ask-given-requires g c =
     ap (λ (s : Seat). asks s.who.kind (ask_of c.args.question)) (seat_there _ c.args.self.now.slots.items c.args.id
     c.index_mut.result.now c.requires.ready.seat c.requires.ready.at c.index_mut.ensures.value) ∙ c.requires.ready.fits

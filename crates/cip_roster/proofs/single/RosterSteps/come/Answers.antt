@@ -1,4 +1,4 @@
-use Rattle.std.proofs.Common.{◌∙◌, ap, refl}
+use Rattle.std.proofs.Common.{◌∙◌, ap, arith, refl}
 use Rattle.cip_roster.specs.KeptRankings.{Room}
 use Rattle.cip_roster.proofs.Coming.{came_fresh, came_shown, place_holds, place_within}
 use Rattle.cip_roster.proofs.single.RosterSteps.come.Goals as goal
@@ -12,26 +12,23 @@ unreachable-requires g c =
     place_holds _ c.args.self.now.shelf.items c.args.place c.index_mut.result.now c.replace.result c.requires.held
     c.index_mut.ensures.value c.replace.ensures.value c.in-None.is
 
-pub take_seat-requires-clause-slots : goal.take_seat-requires-clause-slots
-take_seat-requires-clause-slots g c = c.requires.seat.0
-
-pub take_seat-requires-clause-names : goal.take_seat-requires-clause-names
-take_seat-requires-clause-names g c = c.requires.seat.1
+pub seat-requires : goal.seat-requires
+seat-requires g c = omega (arith, c.requires.seat.0, c.requires.seat.1)
 
 pub returns-clause-run : goal.returns-clause-run
 returns-clause-run g c =
     came_shown _ c.args.self.now.shelf.items c.args.place c.index_mut.result.now c.replace.result c.replace.new.dest
     c.in-Some.plugin _ _ refl c.requires.held c.index_mut.ensures.value c.replace.ensures.value c.in-Some.is
-    c.replace.ensures.after c.take_seat.ensures.places c.take_seat.ensures.seats c.take_seat.ensures.named
-    c.take_seat.ensures.kept
-    c.take_seat.ensures.lines
+    c.replace.ensures.after c.seat.ensures.places c.seat.ensures.seats c.seat.ensures.names
+    c.seat.ensures.kept
+    c.seat.ensures.lines
 
 pub returns-clause-at : goal.returns-clause-at
 returns-clause-at g c =
-    came_fresh _ _ _ c.take_seat.ensures.seats.0 c.take_seat.ensures.seats.1 c.take_seat.ensures.seats.2
+    came_fresh _ _ _ c.seat.ensures.seats.0 c.seat.ensures.seats.1 c.seat.ensures.seats.2
 
 pub returns-clause-room : goal.returns-clause-room
-returns-clause-room g c = ap (λ (room : Room). room.lines) c.take_seat.ensures.room
+returns-clause-room g c = ap (λ (room : Room). room.lines) c.seat.ensures.room
 
 pub returns-clause-rankings : goal.returns-clause-rankings
-returns-clause-rankings g c = ap (λ (room : Room). room.rankings) c.take_seat.ensures.room ∙ c.clear.ensures
+returns-clause-rankings g c = ap (λ (room : Room). room.rankings) c.seat.ensures.room ∙ c.clear.ensures
