@@ -1,9 +1,7 @@
 //! Section words, and tokens by their section.
 ghost use Rattle.std.specs.Prelude.{◌≡◌, IfOk};
-ghost use Rattle.cip_text_rules.specs.LpPlaces.{Opens, fails};
-ghost use Rattle.cip_text_rules.specs.LpFacts.{facts_with};
 ghost use Rattle.cip_text_rules.specs.LpGrammar as grammar;
-ghost use Rattle.cip_text_rules.specs.LpGrammar.{section_read, outside_read, read_in, read, may_end, opened};
+ghost use Rattle.cip_text_rules.specs.LpGrammar.{section_read, read, may_end};
 ghost use Rattle.cip_lp.specs.LpKinds.{part_shown};
 ghost use Rattle.cip_lp.specs.LpLines.{token_shown};
 ghost use Rattle.cip_lp.specs.LpStages.{place_at, where_of};
@@ -11,7 +9,7 @@ ghost use Rattle.cip_lp.specs.LpTaken.{AreTaken};
 
 use crate::places::Stage;
 use crate::statements::Statements;
-use crate::{LpDraft, LpPart, Token};
+use crate::{LpPart, Token};
 use std::alloc::AllocError;
 
 /// Whether the objective is behind.
@@ -44,18 +42,6 @@ fn is_costs(part: LpPart) -> bool
     }
 }
 
-/// Begins a section.
-fn open_draft(draft: &mut LpDraft, part: LpPart)
-    ensures { draft.new ≡ facts_with draft.old (Opens (part_shown part)) }
-{
-    match part {
-        LpPart::Minimize => draft.open_costs(false),
-        LpPart::Maximize => draft.open_costs(true),
-        LpPart::Constraints => draft.open_rows(),
-        _ => {}
-    }
-}
-
 impl Statements {
     /// Whether a statement may end here.
     fn may_end(&self) -> bool
@@ -83,21 +69,6 @@ impl Statements {
         }
     }
 
-    /// Goes to the first token of a section.
-    fn enter(&mut self, part: LpPart)
-        ensures stands { where_of self.new ≡ opened (where_of self.old) (part_shown part) }
-        ensures draft { self.new.draft ≡ self.old.draft }
-    {
-        match part {
-            LpPart::Bounds => self.bounds = true,
-            LpPart::Generals => self.generals = true,
-            LpPart::Binaries => self.binaries = true,
-            _ => {}
-        }
-        self.part = part;
-        self.place.stage = Stage::Start;
-    }
-
     /// Takes a section word.
     fn open(&mut self, part: LpPart) -> Option<u32>
         ensures { AreTaken self.old self.new (section_read (where_of self.old) (part_shown part)) result }
@@ -108,35 +79,18 @@ impl Statements {
         if !self.may_end() {
             return Some(3);
         }
-        open_draft(&mut self.draft, part);
-        self.enter(part);
+        match part {
+            LpPart::Minimize => self.draft.open_costs(false),
+            LpPart::Maximize => self.draft.open_costs(true),
+            LpPart::Constraints => self.draft.open_rows(),
+            LpPart::Bounds => self.bounds = true,
+            LpPart::Generals => self.generals = true,
+            LpPart::Binaries => self.binaries = true,
+            _ => {}
+        }
+        self.part = part;
+        self.place.stage = Stage::Start;
         None
-    }
-
-    /// The kind of the fault of the word of a section that this profile hasn't got.
-    fn outside(&self) -> u32
-        ensures { outside_read (where_of self.now) ≡ fails (where_of self.now) result }
-    {
-        if !is_past(self.part) {
-            return 2;
-        }
-        if self.may_end() { 11 } else { 3 }
-    }
-
-    /// Takes a token that is no section word.
-    fn read_here(&mut self, token: Token<'_>) -> Result<Option<u32>, AllocError>
-        ensures { IfOk result (AreTaken self.old self.new
-            (read_in (part_shown self.old.part) (where_of self.old) (token_shown token.entry))) }
-    {
-        match self.part {
-            LpPart::NoPart => Ok(Some(2)),
-            LpPart::Minimize | LpPart::Maximize => self.read_cost(token),
-            LpPart::Constraints => self.read_row(token),
-            LpPart::Bounds => self.read_bound(token),
-            LpPart::Generals => self.read_general(token),
-            LpPart::Binaries => self.read_binary(token),
-            LpPart::End => Ok(Some(2)),
-        }
     }
 
     /// Takes what a token says.
@@ -146,8 +100,24 @@ impl Statements {
         match token {
             Token::Bad => Ok(Some(1)),
             Token::Opening(part) => Ok(self.open(part)),
-            Token::OutsideSection => Ok(Some(self.outside())),
-            _ => self.read_here(token),
+            Token::OutsideSection => {
+                if !is_past(self.part) {
+                    return Ok(Some(2));
+                }
+                if self.may_end() {
+                    return Ok(Some(11));
+                }
+                Ok(Some(3))
+            }
+            _ => match self.part {
+                LpPart::NoPart => Ok(Some(2)),
+                LpPart::Minimize | LpPart::Maximize => self.read_cost(token),
+                LpPart::Constraints => self.read_row(token),
+                LpPart::Bounds => self.read_bound(token),
+                LpPart::Generals => self.read_whole(token, false),
+                LpPart::Binaries => self.read_whole(token, true),
+                LpPart::End => Ok(Some(2)),
+            },
         }
     }
 }

@@ -3,8 +3,7 @@ ghost use Rattle.std.specs.Prelude.{◌≡◌, IfOk};
 ghost use Rattle.cip_text_rules.specs.LpOutcome as text;
 ghost use Rattle.cip_text_rules.specs.LpFacts as facts;
 ghost use Rattle.cip_lp.specs.LpLines.{token_shown};
-ghost use Rattle.cip_text_rules.specs.LpPlaces as places;
-ghost use Rattle.cip_lp.specs.LpStages.{place_at, context_of};
+ghost use Rattle.cip_lp.specs.LpStages.{context_of};
 ghost use Rattle.cip_lp.specs.LpTaken.{IsTokenTaken};
 
 use crate::places::{Place, Stage};
@@ -31,37 +30,28 @@ pub struct Statements {
     pub(crate) place: Place,
 }
 
-/// Before the first statement.
-fn first_place(alloc: Global) -> Place
-    ensures { place_at result.stage result ≡ places.Start }
-{
-    let zero = Amount {
-        value: Frac::zero(),
-    };
-    let none = Amount {
-        value: Frac::zero(),
-    };
-    Place {
-        stage: Stage::Start,
-        name: Vec::new(alloc),
-        minus: false,
-        amount: zero,
-        given: false,
-        first: none,
-        first_relation: Relation::EqualTo,
-        relation: Relation::EqualTo,
-        limit: Limit {
-            value: None,
-            minus: false,
-        },
-    }
-}
-
 impl Statements {
     /// Before the first token.
     pub fn new(alloc: Global) -> Statements
         ensures { context_of result ≡ text.no_context }
     {
+        let zero = Amount {
+            value: Frac::zero(),
+        };
+        let place = Place {
+            stage: Stage::Start,
+            name: Vec::new(alloc),
+            minus: false,
+            amount: zero,
+            given: false,
+            first: zero,
+            first_relation: Relation::EqualTo,
+            relation: Relation::EqualTo,
+            limit: Limit {
+                value: None,
+                minus: false,
+            },
+        };
         Statements {
             draft: LpDraft::new(alloc),
             part: LpPart::NoPart,
@@ -69,7 +59,7 @@ impl Statements {
             generals: false,
             binaries: false,
             constant: false,
-            place: first_place(alloc),
+            place,
         }
     }
 

@@ -1,10 +1,11 @@
 //! Terms and numbers of forms, and values of rows.
 ghost use Rattle.std.specs.Prelude.{◌≡◌, None, Some, IfOk, OnOk, if◌then◌else◌, false};
 ghost use Rattle.cip_text_rules.specs.LpPlaces as places;
-ghost use Rattle.cip_text_rules.specs.LpPlaces.{AddsCost, Adds, Begins, says, moves};
+ghost use Rattle.cip_text_rules.specs.LpPlaces.{AddsCost, Adds, says, moves};
+ghost use Rattle.cip_text_rules.specs.LpFacts.{facts_with};
 ghost use Rattle.cip_text_rules.specs.LpGrammar.{amount_in, with_number, row_ends};
 ghost use Rattle.cip_lp.specs.LpKinds.{relation_shown};
-ghost use Rattle.cip_lp.specs.LpStages.{first_of, given_of, row_low, row_high, where_of};
+ghost use Rattle.cip_lp.specs.LpStages.{first_of, given_of, place_at, where_of};
 ghost use Rattle.cip_lp.specs.LpTaken.{AreTaken};
 
 use crate::places::Stage;
@@ -61,113 +62,60 @@ impl Statements {
         Ok(kind)
     }
 
-    /// Takes a number of the objective.
-    pub(crate) fn cost_number(&mut self, minus: bool, text: &[u8]) -> Option<u32>
-        ensures { AreTaken self.old self.new
-            (with_number (where_of self.old) text.now
-            (moves (where_of self.old) (places.TermNumber None (amount_in minus text.now)))) result }
+    /// Goes on behind a sign.
+    pub(crate) fn sign(&mut self, minus: bool, given: bool, stage: Stage) -> Option<u32>
+        ensures { AreTaken self.old self.new (moves (where_of self.old)
+            (place_at stage (record self.old.place { minus = minus; given = given; stage = stage }))) result }
+    {
+        self.place.minus = minus;
+        self.place.given = given;
+        self.place.stage = stage;
+        None
+    }
+
+    /// Goes on behind a number.
+    pub(crate) fn number(
+        &mut self,
+        minus: bool,
+        text: &[u8],
+        given: bool,
+        stage: Stage,
+    ) -> Option<u32>
+        ensures { AreTaken self.old self.new (with_number (where_of self.old) text.now
+            (moves (where_of self.old) (place_at stage
+            (record self.old.place { amount = amount_in minus text.now; given = given; stage = stage })))) result }
     {
         match amount_of(minus, text) {
             Err(kind) => Some(kind),
             Ok(amount) => {
                 self.place.amount = amount;
-                self.place.given = false;
-                self.place.stage = Stage::TermNumber;
+                self.place.given = given;
+                self.place.stage = stage;
                 None
             }
         }
     }
 
-    /// Takes a number in front of a name in a row.
-    pub(crate) fn term_number(&mut self, minus: bool, text: &[u8]) -> Option<u32>
-        ensures { AreTaken self.old self.new
-            (with_number (where_of self.old) text.now
-            (moves (where_of self.old) (places.TermNumber (given_of self.old.place)
-            (amount_in minus text.now)))) result }
+    /// Ends the row whose form has this relation to a value, and stands behind another value or not.
+    pub(crate) fn end_row(
+        &mut self,
+        given: bool,
+        relation: Relation,
+        value: Frac,
+    ) -> Result<(), AllocError>
+        ensures draft { OnOk result (self.new.draft ≡ facts_with self.old.draft
+            (row_ends (if given then Some (first_of self.old.place) else None) (relation_shown relation) value)) }
+        ensures same { OnOk result (self.new ≡ record self.old { draft = self.new.draft }) }
     {
-        match amount_of(minus, text) {
-            Err(kind) => Some(kind),
-            Ok(amount) => {
-                self.place.amount = amount;
-                self.place.stage = Stage::TermNumber;
-                None
-            }
-        }
-    }
-
-    /// Takes a number that begins a row whose name was read.
-    pub(crate) fn first_number(&mut self, minus: bool, text: &[u8]) -> Option<u32>
-        ensures { AreTaken self.old self.new
-            (with_number (where_of self.old) text.now
-            (moves (where_of self.old) (places.FirstNumber (amount_in minus text.now)))) result }
-    {
-        match amount_of(minus, text) {
-            Err(kind) => Some(kind),
-            Ok(amount) => {
-                self.place.amount = amount;
-                self.place.stage = Stage::FirstNumber;
-                None
-            }
-        }
-    }
-
-    /// Takes a number that begins a row without a name of its own.
-    pub(crate) fn unnamed_number(&mut self, text: &[u8]) -> Result<Option<u32>, AllocError>
-        ensures { IfOk result (AreTaken self.old self.new
-            (with_number (where_of self.old) text.now
-            (says (Begins None) (where_of self.old) (places.FirstNumber (amount_in false text.now))))) }
-    {
-        match amount_of(false, text) {
-            Err(kind) => Ok(Some(kind)),
-            Ok(amount) => {
-                let kind = self.draft.begin_unnamed()?;
-                self.place.amount = amount;
-                self.place.stage = Stage::FirstNumber;
-                Ok(kind)
-            }
-        }
-    }
-
-    /// Takes a number behind a value and a relation.
-    pub(crate) fn second_number(&mut self, minus: bool, text: &[u8]) -> Option<u32>
-        ensures { AreTaken self.old self.new
-            (with_number (where_of self.old) text.now
-            (moves (where_of self.old) (places.SecondNumber (first_of self.old.place)
-            (amount_in minus text.now)))) result }
-    {
-        match amount_of(minus, text) {
-            Err(kind) => Some(kind),
-            Ok(amount) => {
-                self.place.amount = amount;
-                self.place.stage = Stage::SecondNumber;
-                None
-            }
-        }
-    }
-
-    /// The low side of a row whose form has this relation to a value, and stands behind another value or not.
-    fn row_low(&self, relation: Relation, value: Frac) -> Option<Frac>
-        ensures { result ≡ row_low (given_of self.now.place) (relation_shown relation) value }
-    {
-        if !self.place.given {
-            return low_side(relation, value);
+        let first = self.place.first.value;
+        if !given {
+            return self
+                .draft
+                .end_row(low_side(relation, value), high_side(relation, value));
         }
         match relation {
-            Relation::AtMost => Some(self.place.first.value),
-            _ => Some(value),
-        }
-    }
-
-    /// Its high side.
-    fn row_high(&self, relation: Relation, value: Frac) -> Option<Frac>
-        ensures { result ≡ row_high (given_of self.now.place) (relation_shown relation) value }
-    {
-        if !self.place.given {
-            return high_side(relation, value);
-        }
-        match relation {
-            Relation::AtMost => Some(value),
-            _ => Some(self.place.first.value),
+            Relation::AtMost => self.draft.end_row(Some(first), Some(value)),
+            _ => self.draft.end_row(Some(value), Some(first)),
         }
     }
 
@@ -185,10 +133,7 @@ impl Statements {
         match amount_of(minus, text) {
             Err(kind) => Ok(Some(kind)),
             Ok(amount) => {
-                let relation = self.place.relation;
-                let low = self.row_low(relation, amount.value);
-                let high = self.row_high(relation, amount.value);
-                self.draft.end_row(low, high)?;
+                self.end_row(self.place.given, self.place.relation, amount.value)?;
                 self.place.stage = Stage::Start;
                 Ok(None)
             }
