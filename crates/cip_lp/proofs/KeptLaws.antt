@@ -1,9 +1,8 @@
 -- What was said without fault keeps what the code keeps of the facts.
-use Rattle.std.proofs.Common.{◌≡◌, ℕ, ◌<◌, ◌≤◌, Bool, true, false, not, ◌&&◌, ◌||◌, cond, List, [], ◌∷◌, ◌++◌, length, Option, None, Some, refl, sym, ap, subst, ◌∙◌, arith}
-use Rattle.std.specs.Prelude.{All, IfSome, is_some, is_none, nat_le, slice_set, Result, Ok, Err, OnOk, OnErr}
+use Rattle.std.proofs.Common.{◌≡◌, ℕ, ◌<◌, ◌≤◌, Bool, true, false, ◌||◌, cond, List, [], ◌∷◌, ◌++◌, length, Option, None, Some, refl, sym, ap, subst, ◌∙◌, arith}
+use Rattle.std.specs.Prelude.{All, IfSome, is_some, slice_set, Result, Ok, Err, OnOk, OnErr}
 use Rattle.std.proofs.lemmas.List.{length-set}
 use Rattle.std.proofs.lemmas.List.Elements.{All-nil}
-use Rattle.std.proofs.lemmas.Bool.{or_from}
 use Rattle.cip_problem.specs.Limits.{most_columns}
 use Rattle.cip_problem.specs.Program.{Row, Sides}
 use Rattle.cip_rational.specs.Rational.{ℚ, zeroℚ}
@@ -17,6 +16,7 @@ use Rattle.cip_text_rules.specs.LpSound.{form_rises}
 use Rattle.cip_text_rules.proofs.LpEvents.{unbroken}
 use Rattle.cip_text_rules.proofs.LpFits.{event_kept, number_within}
 use Rattle.cip_lp.specs.LpDrafts.{is_among, IsKeptLp}
+use Rattle.cip_lp.specs.LpEvents.{IsLpKind, IsTaken}
 
 -- ---- names of rows
 
@@ -62,26 +62,31 @@ kept_with facts event h e = record {
 
 -- ---- terms
 
--- a column too many, by the number of its name
-many_is : (o column : Option ℕ) (b : Bool) → column ≡ o → (is_none column && b) ≡ false → (not (is_some o) && b) ≡ false
-many_is None None b e h = h
-many_is None (Some k) b e h = absurd (cc)
-many_is (Some k) column b e h = refl
+or_none : (b : Bool) → (b || false) ≡ b
+or_none true = refl
+or_none false = refl
 
-three_quiet : (a b c : Bool) → a ≡ false → b ≡ false → c ≡ false → least (rule 7 a ∷ rule 9 b ∷ rule 10 c ∷ []) ≡ None
-three_quiet false false false p q r = refl
-three_quiet true b c p q r = absurd (cc)
-three_quiet false true c p q r = absurd (cc)
-three_quiet false false true p q r = absurd (cc)
+-- the fault of a term of the objective, or of a row
+pub cost_fault : (facts : LpFacts) (amount : Amount) (name : List ℕ) (kind : Option ℕ) → kind ≡ least (rule 7 (is_again facts name) ∷ rule 9 (is_column_too_many facts name || false) ∷ rule 10 (is_long name) ∷ []) → kind ≡ event_fault facts (AddsCost amount name)
+cost_fault facts amount name kind e =
+    e ∙ ap (λ (b : Bool). least (rule 7 (is_again facts name) ∷ rule 9 b ∷ rule 10 (is_long name) ∷ [])) (or_none (is_column_too_many facts name))
 
-pub cost_quiet : (facts : LpFacts) (amount : Amount) (name : List ℕ) (column : Option ℕ) → column ≡ number_in facts.column_names name → is_again facts name ≡ false → (is_none column && nat_le most_columns (length facts.column_names)) ≡ false → is_long name ≡ false → event_fault facts (AddsCost amount name) ≡ None
-cost_quiet facts amount name column n a m l =
-    three_quiet (is_again facts name) (is_column_too_many facts name) (is_long name) a (many_is (number_in facts.column_names name) column (nat_le most_columns (length facts.column_names)) n m) l
+pub term_fault : (facts : LpFacts) (amount : Amount) (name : List ℕ) (full : Bool) (kind : Option ℕ) → full ≡ is_entry_too_many facts amount → kind ≡ least (rule 7 (is_again facts name) ∷ rule 9 (is_column_too_many facts name || full) ∷ rule 10 (is_long name) ∷ []) → kind ≡ event_fault facts (Adds amount name)
+term_fault facts amount name full kind f e =
+    e ∙ ap (λ (b : Bool). least (rule 7 (is_again facts name) ∷ rule 9 (is_column_too_many facts name || b) ∷ rule 10 (is_long name) ∷ [])) f
 
-pub term_quiet : (facts : LpFacts) (amount : Amount) (name : List ℕ) (column : Option ℕ) → column ≡ number_in facts.column_names name → is_again facts name ≡ false → (is_none column && nat_le most_columns (length facts.column_names)) ≡ false → is_entry_too_many facts amount ≡ false → is_long name ≡ false → event_fault facts (Adds amount name) ≡ None
-term_quiet facts amount name column n a m t l =
-    three_quiet (is_again facts name) (is_column_too_many facts name || is_entry_too_many facts amount) (is_long name) a
-    (or_from (is_column_too_many facts name) (is_entry_too_many facts amount) (many_is (number_in facts.column_names name) column (nat_le most_columns (length facts.column_names)) n m) t) l
+-- what has a fault changes nothing
+pub fault_taken : (facts : LpFacts) (event : Event) (kind : Option ℕ) → is_some kind ≡ true → kind ≡ event_fault facts event → IsLpKind kind → IsTaken facts facts event kind
+fault_taken facts event None some e few = absurd (cc)
+fault_taken facts event (Some kind) some e few = record {
+  is_kind = e;
+  taken = λ none. absurd (cc);
+  few = few;
+}
+
+pub no_fault : (kind other : Option ℕ) → is_some kind ≡ false → kind ≡ other → other ≡ None
+no_fault None other none e = sym e
+no_fault (Some kind) other none e = absurd (cc)
 
 -- a term of the objective is put
 pub cost_put : (old : LpFacts) (amount : Amount) (name : List ℕ) (f : LpFacts) (t : FormTerm) (column : ℕ) (cost : ℚ) (form : List FormTerm) (costs : List ℚ) → IsKeptLp old → event_fault old (AddsCost amount name) ≡ None → f ≡ with_column old name

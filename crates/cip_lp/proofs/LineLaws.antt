@@ -66,6 +66,15 @@ token_taken old new token kind ended t e = record {
   few = t.few;
 }
 
+-- a token with a fault, whatever the stage behind it
+pub token_failed : (old new : Statements) (stage : Stage LpContext) (token : Token) (kind : Option ℕ) → is_some kind ≡ true → IsTokenTaken old new token kind → IsTaken (context_of old) stage token kind
+token_failed old new stage token None some t = absurd (cc)
+token_failed old new stage token (Some kind) some t = record {
+  is_kind = t.is_kind;
+  taken = λ none. absurd (cc);
+  few = t.few;
+}
+
 -- one token more of a reader, and those behind it
 pub reader_goes_on : (old : LineReader) (new : Stage LpContext) (token : Token) (kind : Option ℕ) (before behind : List Token) → old.ended ≡ false → is_some kind ≡ false → before ≡ token ∷ behind → IsTaken (context_of old.statements) new token kind
     → (number : ℕ) → tokens_read number (Going new) behind ≡ tokens_read number (Going (stage_of old)) before

@@ -1,10 +1,11 @@
 //! Terms of the objective and of rows.
-ghost use Rattle.std.specs.Prelude.{◌≡◌, ◌<◌, ◌≤◌, slice_set, vec_len, IfOk, IfSome};
+ghost use Rattle.std.specs.Prelude.{◌≡◌, ◌<◌, ◌≤◌, ◌||◌, ◌∷◌, [], slice_set, vec_len, IfOk, IfSome};
 ghost use Rattle.cip_problem.specs.Limits.{most_columns, most_entries};
 ghost use Rattle.cip_text_rules.specs.MpsWords.{number_in};
 ghost use Rattle.cip_text_rules.specs.LpFacts as facts;
 ghost use Rattle.cip_text_rules.specs.LpPlaces.{NamesObjective, AddsCost, AddsConstant, Adds};
-ghost use Rattle.cip_lp.specs.LpEvents.{IsTaken};
+ghost use Rattle.cip_text_rules.specs.MpsRules.{rule, least};
+ghost use Rattle.cip_lp.specs.LpEvents.{IsLpKind, IsTaken};
 
 use crate::Amount;
 use crate::columns::is_long;
@@ -61,6 +62,26 @@ impl LpDraft {
         !amount.is_zero() && self.entries >= MOST_ENTRIES
     }
 
+    /// The kind of the fault of a term, if it has one, where it may be one entry too many.
+    fn term_fault(&self, name: &[u8], column: Option<usize>, full: bool) -> Option<u32>
+        requires column { column ≡ number_in self.now.column_names name.now }
+        requires small { IfSome column (λ number. number < most_columns) }
+        ensures kind { result ≡ least (rule 7 (facts.is_again self.now name.now)
+            ∷ rule 9 (facts.is_column_too_many self.now name.now || full) ∷ rule 10 (facts.is_long name.now) ∷ []) }
+        ensures few { IsLpKind result }
+    {
+        if self.is_again(name, column) {
+            return Some(7);
+        }
+        if self.is_column_too_many(column) || full {
+            return Some(9);
+        }
+        if is_long(name) {
+            return Some(10);
+        }
+        None
+    }
+
     /// Takes the objective's name, and answers the kind of the fault, if there is one.
     pub fn name_objective(&mut self, name: &[u8]) -> Result<Option<u32>, AllocError>
         ensures { IfOk result (IsTaken self.old self.new (NamesObjective name.now)) }
@@ -85,14 +106,9 @@ impl LpDraft {
     {
         self.stand_sound();
         let column = self.find_column(name);
-        if self.is_again(name, column) {
-            return Ok(Some(7));
-        }
-        if self.is_column_too_many(column) {
-            return Ok(Some(9));
-        }
-        if is_long(name) {
-            return Ok(Some(10));
+        let fault = self.term_fault(name, column, false);
+        if fault.is_some() {
+            return Ok(fault);
         }
         let Ok(number) = self.make_column(name, column) else {
             return Err(AllocError);
@@ -111,14 +127,9 @@ impl LpDraft {
     {
         self.stand_sound();
         let column = self.find_column(name);
-        if self.is_again(name, column) {
-            return Ok(Some(7));
-        }
-        if self.is_column_too_many(column) || self.is_entry_too_many(amount) {
-            return Ok(Some(9));
-        }
-        if is_long(name) {
-            return Ok(Some(10));
+        let fault = self.term_fault(name, column, self.is_entry_too_many(amount));
+        if fault.is_some() {
+            return Ok(fault);
         }
         let Ok(number) = self.make_column(name, column) else {
             return Err(AllocError);

@@ -7,8 +7,7 @@ ghost use Rattle.cip_text_rules.specs.LpOutcome.{LpContext, lp_reading};
 ghost use Rattle.cip_text_rules.specs.LpBytes.{tokens_read};
 ghost use Rattle.cip_lp.specs.LpLines.{token_shown, tokens_left};
 ghost use Rattle.cip_lp.specs.LpEvents.{IsLpKind};
-ghost use Rattle.cip_lp.specs.LpStages.{context_of};
-ghost use Rattle.cip_lp.specs.LinesRead.{stage_of, AreOver, IsTaken};
+ghost use Rattle.cip_lp.specs.LinesRead.{stage_of, AreOver};
 
 use crate::{LineTokens, LpPart, Program, Statements, Token};
 use std::alloc::{AllocError, Global};
@@ -41,18 +40,6 @@ impl LineReader {
         }
     }
 
-    /// Takes one token more, where none before has ended the text.
-    fn take(&mut self, token: Token<'_>) -> Result<Option<u32>, AllocError>
-        requires { self.old.ended ≡ false }
-        ensures { IfOk result (IsTaken (context_of self.old.statements) (stage_of self.new) (token_shown token.entry)) }
-    {
-        let kind = self.statements.take(token)?;
-        if kind.is_none() {
-            self.ended = is_end(token);
-        }
-        Ok(kind)
-    }
-
     /// The next token of a line, unless the text has ended.
     fn next_of<'a>(&self, tokens: &mut LineTokens<'a>) -> Option<Token<'a>>
         ensures { MatchOption result (AreOver (stage_of self.now) (tokens_left tokens.old))
@@ -74,10 +61,11 @@ impl LineReader {
     {
         let mut tokens = line;
         while let Some(token) = self.next_of(&mut tokens) {
-            let kind = self.take(token)?;
+            let kind = self.statements.take(token)?;
             if kind.is_some() {
                 return Ok(kind);
             }
+            self.ended = is_end(token);
         }
         Ok(None)
     }

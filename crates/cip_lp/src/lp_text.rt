@@ -70,21 +70,6 @@ impl LpText {
     ghost use Rattle.cip_lp.specs.LpReaders.{IsFaultOf};
     ghost use Rattle.cip_lp.specs.LpTexts.{stage_of, bytes_of, shown_of};
 
-    /// Before the first byte.
-    pub(crate) fn new(alloc: Global) -> LpText
-        ensures { shown_of result ≡ text_taken [] }
-    {
-        LpText {
-            alloc,
-            lines: LineReader::new(alloc),
-            ended: 0,
-            front: true,
-            rest: Vec::new(alloc),
-            size: 0,
-            fault: None,
-        }
-    }
-
     /// Lets go of what the tokens have said, where there is a fault.
     fn let_go(&mut self)
         ensures read { progress_of self.new.fault (stage_of self.new) ≡ progress_of self.old.fault (stage_of self.old) }
@@ -203,17 +188,6 @@ impl LpText {
         Ok(())
     }
 
-    /// Is too long, where no token as far as the first byte too many is faulty.
-    fn end_long(&mut self)
-        ensures { (read : Progress (Stage LpContext)) → progress_of self.old.fault (stage_of self.old) ≡ read
-            → shown_of self.new ≡ taken.beyond read (self.old.ended + 1) }
-    {
-        if self.fault.is_some() {
-            return;
-        }
-        self.fault = fault_on(self.ended + 1, Some(TOO_LONG));
-    }
-
     /// Takes the first byte too many.
     fn put_last(&mut self, byte: u8) -> Result<(), AllocError>
         requires going { self.old.fault ≡ None }
@@ -222,22 +196,11 @@ impl LpText {
     {
         self.keep_last(byte)?;
         self.read_rest()?;
-        self.end_long();
+        if self.fault.is_some() {
+            return Ok(());
+        }
+        self.fault = fault_on(self.ended + 1, Some(TOO_LONG));
         Ok(())
-    }
-
-    /// Takes one byte more, where there is no fault.
-    fn take_more(&mut self, byte: u8) -> Result<(), AllocError>
-        requires { self.old.fault ≡ None }
-        ensures { OnOk result (shown_of self.new ≡ byte_taken (shown_of self.old) byte) }
-    {
-        if self.size >= LONGEST_TEXT {
-            return self.put_last(byte);
-        }
-        if is_line_feed(byte) {
-            return self.end_line(byte);
-        }
-        self.put(byte)
     }
 
     /// Takes one byte more. Behind a fault none is looked at.
@@ -246,16 +209,16 @@ impl LpText {
     {
         match self.fault {
             Some(_) => Ok(()),
-            None => self.take_more(byte),
+            None => {
+                if self.size >= LONGEST_TEXT {
+                    return self.put_last(byte);
+                }
+                if is_line_feed(byte) {
+                    return self.end_line(byte);
+                }
+                self.put(byte)
+            }
         }
-    }
-
-    /// The fault, if there is one so far.
-    fn known_fault(&self) -> Option<KnownFault>
-        ensures fault { result ≡ self.now.fault }
-        ensures kinds { has_kind_to 12 result ≡ true }
-    {
-        self.fault
     }
 
     /// The number of the last line.
@@ -312,7 +275,7 @@ impl LpText {
             → MatchResult result (λ _. HasLpProgram bytes (lp_reading.result (stage_of self.new))) (IsFaultOf bytes) }
     {
         taken_faults_stay();
-        answer(self.known_fault())?;
+        answer(self.fault)?;
         let known = self.close()?;
         answer(known)?;
         Ok(())
@@ -352,7 +315,15 @@ impl PieceText for LpText {
     ghost is_given = { λ _ bytes answer. MatchResult answer (HasLpProgram bytes) (IsFaultOf bytes) };
 
     fn begin(alloc: Global) -> Option<LpText> {
-        Some(LpText::new(alloc))
+        Some(LpText {
+            alloc,
+            lines: LineReader::new(alloc),
+            ended: 0,
+            front: true,
+            rest: Vec::new(alloc),
+            size: 0,
+            fault: None,
+        })
     }
 
     fn take(&mut self, piece: &[u8]) -> Result<(), AllocError> {
@@ -362,7 +333,7 @@ impl PieceText for LpText {
     /// A fault is known where a token that has ended is faulty, or the text has over 67,108,864 bytes.
     fn known(&self) -> Result<(), TextFault<LpKind>> {
         taken_faults_stay();
-        answer(self.known_fault())
+        answer(self.fault)
     }
 
     fn finish(self) -> Result<Program, ReadFault<LpKind>> {

@@ -5,7 +5,7 @@ ghost use Rattle.cip_text_rules.specs.MpsWords.{is_in};
 ghost use Rattle.cip_text_rules.specs.LpWords as text;
 ghost use Rattle.cip_text_rules.specs.LpFacts as facts;
 ghost use Rattle.cip_text_rules.specs.LpPlaces.{Opens, Begins, Ends};
-ghost use Rattle.cip_lp.specs.LpEvents.{IsTaken};
+ghost use Rattle.cip_lp.specs.LpEvents.{IsLpKind, IsTaken};
 
 use crate::columns::is_long;
 use crate::draft::LpDraft;
@@ -66,35 +66,42 @@ impl LpDraft {
         self.form.clear();
     }
 
-    /// Whether the objective has this name.
-    fn is_objective(&self, name: &[u8]) -> bool
-        ensures { result ≡ facts.is_named self.now.objective name.now }
-    {
-        match &self.objective {
-            None => false,
-            Some(objective) => objective.as_slice() == name,
-        }
-    }
-
     /// Whether a row or the objective has this name.
     fn is_taken(&self, name: &[u8]) -> bool
         ensures { result ≡ facts.is_taken self.now name.now }
     {
-        self.is_objective(name) || self.row_names.find(name).is_some()
+        if let Some(objective) = &self.objective {
+            if objective.as_slice() == name {
+                return true;
+            }
+        }
+        self.row_names.find(name).is_some()
+    }
+
+    /// The kind of the fault of a row that begins with this name, if it has one.
+    fn begin_fault(&self, name: &[u8]) -> Option<u32>
+        ensures kind { result ≡ facts.event_fault self.now (Begins (Some name.now)) }
+        ensures few { IsLpKind result }
+    {
+        if self.is_taken(name) {
+            return Some(6);
+        }
+        if self.rows.len() >= MOST_ROWS {
+            return Some(9);
+        }
+        if is_long(name) {
+            return Some(10);
+        }
+        None
     }
 
     /// Begins a row of this name, and answers the kind of the fault, if there is one.
     fn begin(&mut self, name: Vec<u8>) -> Option<u32>
         ensures { IsTaken self.old self.new (Begins (Some name.items)) result }
     {
-        if self.is_taken(name.as_slice()) {
-            return Some(6);
-        }
-        if self.rows.len() >= MOST_ROWS {
-            return Some(9);
-        }
-        if is_long(name.as_slice()) {
-            return Some(10);
+        let fault = self.begin_fault(name.as_slice());
+        if fault.is_some() {
+            return fault;
         }
         self.row_name = Some(name);
         None

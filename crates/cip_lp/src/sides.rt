@@ -13,8 +13,7 @@ impl LpDraft {
         ensures { self.new ≡ facts.facts_with self.old (SetsLow name.now side) }
     {
         if let Some(column) = self.find_column(name) {
-            let high = self.sides[column].high;
-            self.sides[column] = Sides { low: side, high };
+            self.sides[column].low = side;
         }
     }
 
@@ -23,8 +22,7 @@ impl LpDraft {
         ensures { self.new ≡ facts.facts_with self.old (SetsHigh name.now side) }
     {
         if let Some(column) = self.find_column(name) {
-            let low = self.sides[column].low;
-            self.sides[column] = Sides { low, high: side };
+            self.sides[column].high = side;
         }
     }
 

@@ -1,6 +1,7 @@
 use Rattle.std.proofs.Common.{◌<◌, length, sym, ◌∙◌, arith}
+use Rattle.cip_text_rules.specs.LpPlaces.{AddsCost}
 use Rattle.cip_lp.specs.LpDrafts.{facts_in}
-use Rattle.cip_lp.proofs.KeptLaws.{cost_quiet, cost_put, cost_within}
+use Rattle.cip_lp.proofs.KeptLaws.{cost_fault, fault_taken, no_fault, cost_put, cost_within}
 use Rattle.cip_lp.proofs.draft.LpDraft.add_cost.Goals as goal
 
 pub invariant_of-self-2 : goal.invariant_of-self-2
@@ -8,7 +9,8 @@ invariant_of-self-2 c =
     let old = c.args.self.now in
     let amount = c.args.amount.now in
     let name = c.args.name.now in
-    let quiet = cost_quiet old amount name c.find_column-column.result c.find_column-column.ensures.number (sym c.is_again.ensures ∙ c.if-is_again.false) (sym c.is_column_too_many.ensures ∙ c.if-is_column_too_many.false) (sym c.is_long.ensures ∙ c.if-is_long.false) in
+    let fault = c.term_fault-fault.result in
+    let quiet = no_fault fault _ (sym c.is_some.ensures ∙ c.if-is_some.false) (cost_fault old amount name fault c.term_fault-fault.ensures.kind) in
     cost_put old amount name (facts_in c.self.inside) c.of.result c.in-Ok.number c.minimized-cost.result c.put.new.self c.set_cost.new.costs.items c.stand_sound.ensures quiet
     (c.self.view_is ∙ c.in-Ok.ensures.ok) c.in-Ok.ensures.number c.of.ensures c.in-Ok-put.ensures.ok c.set_cost.ensures
 
@@ -16,3 +18,11 @@ pub set_cost-requires : goal.set_cost-requires
 set_cost-requires c =
     let within : c.in-Ok.number < length c.self.inside.costs.items = cost_within c.args.self.now (facts_in c.self.inside) c.args.name.now c.in-Ok.number c.self.invariant (c.self.view_is ∙ c.in-Ok.ensures.ok) c.in-Ok.ensures.number in
     omega (arith, within, c.self.inside.costs.ok.0)
+
+pub returns-then-is_some : goal.returns-then-is_some
+returns-then-is_some c =
+    let old = c.args.self.now in
+    let amount = c.args.amount.now in
+    let name = c.args.name.now in
+    let fault = c.term_fault-fault.result in
+    fault_taken old (AddsCost amount name) fault (sym c.is_some.ensures ∙ c.if-is_some.true) (cost_fault old amount name fault c.term_fault-fault.ensures.kind) c.term_fault-fault.ensures.few
