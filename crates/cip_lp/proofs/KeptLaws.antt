@@ -124,6 +124,21 @@ term_put old amount name f t column form entries h e fe ce te fo en =
     let put : ◌≡◌ {A = LpFacts} (with_term f amount column) (record f { form = form; entries = entries }) = λ i. record f { form = same i; entries = (sym en) i } in
     subst IsKeptLp put k
 
+-- and these are the facts
+pub cost_is : (old : LpFacts) (amount : Amount) (name : List ℕ) (f : LpFacts) (t : FormTerm) (column : ℕ) (cost : ℚ) (form : List FormTerm) (costs : List ℚ) → f ≡ with_column old name → column ≡ column_number old name → t ≡ form_term column amount
+    → form ≡ form_with t f.form → cost ≡ minimized f amount.value → costs ≡ slice_set f.costs column cost → ◌≡◌ {A = LpFacts} (record f { form = form; costs = costs }) (with_cost (with_column old name) amount (column_number old name))
+cost_is old amount name f t column cost form costs fe ce te fo mi co =
+    let put : ◌≡◌ {A = LpFacts} (record f { form = form; costs = costs }) (with_cost f amount column) =
+    λ i. record f { form = (fo ∙ ap (λ (x : FormTerm). form_with x f.form) te) i; costs = (co ∙ ap (λ (x : ℚ). slice_set f.costs column x) mi) i } in
+    put ∙ (λ i. with_cost (fe i) amount (ce i))
+
+pub term_is : (old : LpFacts) (amount : Amount) (name : List ℕ) (f : LpFacts) (t : FormTerm) (column : ℕ) (form : List FormTerm) (entries : ℕ) → f ≡ with_column old name → column ≡ column_number old name → t ≡ form_term column amount
+    → form ≡ form_with t f.form → entries ≡ entries_with f.entries amount → ◌≡◌ {A = LpFacts} (record f { form = form; entries = entries }) (with_term (with_column old name) amount (column_number old name))
+term_is old amount name f t column form entries fe ce te fo en =
+    let put : ◌≡◌ {A = LpFacts} (record f { form = form; entries = entries }) (with_term f amount column) =
+    λ i. record f { form = (fo ∙ ap (λ (x : FormTerm). form_with x f.form) te) i; entries = en i } in
+    put ∙ (λ i. with_term (fe i) amount (ce i))
+
 -- ---- columns
 
 -- a column that is new stands behind the others

@@ -1,4 +1,5 @@
 pub mod ByteSteps
+pub mod ColumnLaws
 pub mod FormLaws
 pub mod FormOrder
 pub mod FormPlaces

@@ -1,7 +1,7 @@
 -- What is read of a line.
 use Rattle.std.proofs.Common.{◌≡◌, ℕ, Bool, true, false, cond, List, [], ◌∷◌, Option, None, Some, refl, sym, ap, ◌∙◌}
 use Rattle.std.specs.Prelude.{is_some, MatchOption}
-use Rattle.cip_text_rules.specs.LineEnds.{Stage, Open, Ended}
+use Rattle.cip_text_rules.specs.LineEnds.{Stage, Open, Ended, known_at}
 use Rattle.cip_text_rules.specs.LineStream.{Going, progress_at, item_read}
 use Rattle.cip_text.specs.PieceStands.{progress_after}
 use Rattle.cip_lp.specs.declared.line_tokens.Token as code
@@ -47,6 +47,13 @@ tokens_stop old new token (Some kind) number before behind n e t =
 -- the stage of a reader
 pub stage_open : (lines : LineReader) → lines.ended ≡ false → stage_of lines ≡ Open (context_of lines.statements)
 stage_open lines e = ap (λ (b : Bool). cond b (Ended (context_of lines.statements)) (Open (context_of lines.statements))) e
+
+pub known_is : (lines : LineReader) → (known_at (stage_of lines)).facts ≡ lines.statements.draft
+known_is lines = go lines.ended
+  where
+    go : (b : Bool) → (known_at (cond b (Ended (context_of lines.statements)) (Open (context_of lines.statements)))).facts ≡ lines.statements.draft
+    go true = refl
+    go false = refl
 
 pub over_ended : (lines : LineReader) (tokens : List Token) → lines.ended ≡ true → AreOver (stage_of lines) tokens
 over_ended lines tokens e number = go lines.ended e

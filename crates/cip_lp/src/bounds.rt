@@ -77,13 +77,17 @@ impl Statements {
     {
         match self.place.stage {
             Stage::Start | Stage::BoundedName => {
-                let kind = self.draft.mention(name)?;
+                let Ok(kind) = self.draft.mention(name) else {
+                    return Err(AllocError);
+                };
                 set_name(&mut self.place.name, name)?;
                 self.place.stage = Stage::BoundName;
                 Ok(kind)
             }
             Stage::LimitDue => {
-                let kind = self.draft.mention(name)?;
+                let Ok(kind) = self.draft.mention(name) else {
+                    return Err(AllocError);
+                };
                 if kind.is_some() {
                     return Ok(kind);
                 }

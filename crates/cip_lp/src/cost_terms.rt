@@ -89,7 +89,10 @@ impl LpDraft {
         if is_long(name) {
             return Ok(Some(10));
         }
-        self.objective = Some(name.to_vec(self.alloc)?);
+        let Ok(owned) = name.to_vec(self.alloc) else {
+            return Err(AllocError);
+        };
+        self.objective = Some(owned);
         Ok(None)
     }
 

@@ -2,12 +2,10 @@
 ghost use Rattle.std.specs.Prelude.{◌≡◌, ◌+◌, ◌<◌, ◌≤◌, [], ◌∷◌, ℕ, List, None, true, false, OnOk, IfOk, fold};
 ghost use Rattle.cip_problem.specs.Limits.{longest_text};
 ghost use Rattle.cip_text_rules.specs.Lines as text;
-ghost use Rattle.cip_text_rules.specs.LineEnds.{Stage};
-ghost use Rattle.cip_text_rules.specs.LineStream.{Progress};
 ghost use Rattle.cip_text_rules.specs.LineTexts.{outcome_of};
 ghost use Rattle.cip_text.specs.PieceFaults.{has_kind_to, first_fault};
 ghost use Rattle.cip_text.specs.PieceStands.{progress_of, outcome_with};
-ghost use Rattle.cip_text_rules.specs.LpOutcome.{LpContext, lp_reading};
+ghost use Rattle.cip_text_rules.specs.LpOutcome.{lp_reading};
 ghost use Rattle.cip_text_rules.specs.LpBytes as taken;
 ghost use Rattle.cip_text_rules.specs.LpBytes.{part_read, with_last, byte_taken, text_taken};
 ghost use Rattle.cip_text_rules.specs.LpParts.{ends_with};
@@ -280,15 +278,6 @@ impl LpText {
         answer(known)?;
         Ok(())
     }
-
-    /// The program that the tokens have said.
-    fn into_program(self) -> Result<Program, AllocError>
-        ensures { IfOk result (λ program. program ≡ lp_reading.result (stage_of self)) }
-    {
-        let LpText { lines, rest, .. } = self;
-        drop(rest);
-        lines.into_program()
-    }
 }
 
 impl PieceText for LpText {
@@ -339,7 +328,11 @@ impl PieceText for LpText {
     fn finish(self) -> Result<Program, ReadFault<LpKind>> {
         let mut text = self;
         match text.end() {
-            Ok(()) => Ok(text.into_program()?),
+            Ok(()) => {
+                let LpText { lines, rest, .. } = text;
+                drop(rest);
+                Ok(lines.into_program()?)
+            }
             Err(fault) => {
                 drop(text);
                 Err(fault)

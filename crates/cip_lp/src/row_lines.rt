@@ -22,8 +22,12 @@ fn own_name(alloc: Global, number: usize) -> Result<Vec<u8>, AllocError>
 {
     let mut name = Vec::new(alloc);
     let mut digits = Buffer::new();
-    name.push(b'R')?;
-    name.extend_from_slice(digits.format(number as u64).as_bytes())?;
+    let Ok(()) = name.push(b'R') else {
+        return Err(AllocError);
+    };
+    let Ok(()) = name.extend_from_slice(digits.format(number as u64).as_bytes()) else {
+        return Err(AllocError);
+    };
     Ok(name)
 }
 

@@ -4,7 +4,7 @@ ghost use Rattle.cip_text_rules.specs.LpPlaces as places;
 ghost use Rattle.cip_text_rules.specs.LpGrammar as grammar;
 ghost use Rattle.cip_text_rules.specs.LpGrammar.{settled, settled_cost, settled_row};
 ghost use Rattle.cip_lp.specs.LpLines.{token_shown};
-ghost use Rattle.cip_lp.specs.LpStages.{first_of, given_of, goes_on_with, place_at, where_of};
+ghost use Rattle.cip_lp.specs.LpStages.{first_of, given_of, goes_on_with, where_of};
 ghost use Rattle.cip_lp.specs.LpTaken.{AreTaken};
 
 use crate::places::Stage;
@@ -66,13 +66,16 @@ impl Statements {
         if is_colon(token) {
             return Ok(None);
         }
-        let kind = self.draft.begin_unnamed()?;
+        let Ok(kind) = self.draft.begin_unnamed() else {
+            return Err(AllocError);
+        };
         if kind.is_some() {
             return Ok(kind);
         }
-        let kind = self
-            .draft
-            .add_term(&unit(false), self.place.name.as_slice())?;
+        let name = self.place.name.as_slice();
+        let Ok(kind) = self.draft.add_term(&unit(false), name) else {
+            return Err(AllocError);
+        };
         self.place.given = false;
         self.place.stage = Stage::AfterTerm;
         Ok(kind)
@@ -107,7 +110,9 @@ impl Statements {
             return Ok(None);
         }
         let amount = self.place.amount;
-        let kind = self.draft.add_term(&amount, self.place.name.as_slice())?;
+        let Ok(kind) = self.draft.add_term(&amount, self.place.name.as_slice()) else {
+            return Err(AllocError);
+        };
         self.place.given = true;
         self.place.stage = Stage::AfterTerm;
         Ok(kind)

@@ -19,8 +19,7 @@ pub(crate) fn set_name(kept: &mut Vec<u8>, name: &[u8]) -> Result<(), AllocError
     ensures { OnOk result (kept.new.items ≡ name.now) }
 {
     kept.clear();
-    kept.extend_from_slice(name)?;
-    Ok(())
+    kept.extend_from_slice(name)
 }
 
 impl Statements {

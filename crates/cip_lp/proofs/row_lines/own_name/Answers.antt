@@ -6,6 +6,6 @@ use Rattle.cip_lp.proofs.row_lines.own_name.Goals as goal
 pub returns : goal.returns
 returns c =
     let small : c.args.number < 2 ^ 64 = search rules in
-    let letter : c.push.new.self.items ≡ 82 ∷ [] = c.in_ok-push.ensures.items ∙ ap (λ (xs : List ℕ). xs ++ 82 ∷ []) c.new-name.ensures.items in
+    let letter : c.push.new.self.items ≡ 82 ∷ [] = c.in-Ok.ensures.items ∙ ap (λ (xs : List ℕ). xs ++ 82 ∷ []) c.new-name.ensures.items in
     let digits : c.as_bytes.result.now ≡ natural_text c.args.number = c.as_bytes.ensures.value ∙ c.format.ensures.text ∙ sym (natural_text_decimal c.args.number (omega (arith, small))) in
-    c.in_ok-extend_from_slice.ensures.items ∙ ap (λ (xs : List ℕ). xs ++ c.as_bytes.result.now) letter ∙ ap (λ (xs : List ℕ). 82 ∷ xs) digits
+    c.in-Ok-extend_from_slice.ensures.items ∙ ap (λ (xs : List ℕ). xs ++ c.as_bytes.result.now) letter ∙ ap (λ (xs : List ℕ). 82 ∷ xs) digits

@@ -1,7 +1,7 @@
-use Rattle.std.proofs.Common.{◌≡◌, None, sym, subst}
+use Rattle.std.proofs.Common.{◌≡◌, None, sym, subst, ap, ◌∙◌}
 use Rattle.cip_text_rules.specs.MpsWords.{number_in}
 use Rattle.cip_text_rules.specs.LpPlaces.{Mentions}
-use Rattle.cip_text_rules.specs.LpFacts.{LpFacts, event_fault}
+use Rattle.cip_text_rules.specs.LpFacts.{LpFacts, event_fault, with_column}
 use Rattle.cip_lp.specs.LpDrafts.{facts_in, IsKeptLp}
 use Rattle.cip_lp.proofs.KeptLaws.{kept_with, column_put, column_unput}
 use Rattle.cip_lp.proofs.draft.LpDraft.add_column.Goals as goal
@@ -17,3 +17,10 @@ invariant_of-self-2 c =
     let new : number_in (facts_in c.self.inside).column_names c.args.name.now ≡ None = subst (λ f. number_in f.column_names c.args.name.now ≡ None) (sym c.self.view_is) c.requires.new in
     let quiet : event_fault (facts_in c.self.inside) (Mentions c.args.name.now) ≡ None = subst (λ (f : LpFacts). event_fault f (Mentions c.args.name.now) ≡ None) (sym c.self.view_is) c.requires.quiet in
     subst IsKeptLp (sym (column_put (facts_in c.self.inside) c.args.name.now c.put_column.new.names c.put_column.new.costs.items c.put_column.new.sides.items c.put_column.new.whole.items new e.0 e.1 e.2 e.3)) (kept_with (facts_in c.self.inside) (Mentions c.args.name.now) c.self.invariant quiet)
+
+pub returns-clause-ok : goal.returns-clause-ok
+returns-clause-ok c =
+    let e = c.in_ok-put_column.ensures.ok in
+    let new : number_in (facts_in c.self.inside).column_names c.args.name.now ≡ None = subst (λ f. number_in f.column_names c.args.name.now ≡ None) (sym c.self.view_is) c.requires.new in
+    column_put (facts_in c.self.inside) c.args.name.now c.put_column.new.names c.put_column.new.costs.items c.put_column.new.sides.items c.put_column.new.whole.items new e.0 e.1 e.2 e.3
+    ∙ ap (λ (f : LpFacts). with_column f c.args.name.now) c.self.view_is

@@ -1,7 +1,8 @@
-use Rattle.std.proofs.Common.{◌<◌, length, sym, ◌∙◌, arith}
-use Rattle.cip_text_rules.specs.LpPlaces.{AddsCost}
+use Rattle.std.proofs.Common.{◌<◌, length, sym, ◌∙◌, arith, ap}
+use Rattle.cip_text_rules.specs.LpPlaces.{AddsCost, Amount}
 use Rattle.cip_lp.specs.LpDrafts.{facts_in}
-use Rattle.cip_lp.proofs.KeptLaws.{cost_fault, fault_taken, no_fault, cost_put, cost_within}
+use Rattle.cip_lp.proofs.KeptLaws.{cost_fault, fault_taken, no_fault, cost_put, cost_within, cost_is}
+use Rattle.cip_text_rules.specs.LpFacts.{minimized}
 use Rattle.cip_lp.proofs.draft.LpDraft.add_cost.Goals as goal
 
 pub invariant_of-self-2 : goal.invariant_of-self-2
@@ -26,3 +27,18 @@ returns-then-is_some c =
     let name = c.args.name.now in
     let fault = c.term_fault-fault.result in
     fault_taken old (AddsCost amount name) fault (sym c.is_some.ensures ∙ c.if-is_some.true) (cost_fault old amount name fault c.term_fault-fault.ensures.kind) c.term_fault-fault.ensures.few
+
+pub returns : goal.returns
+returns c =
+    let old = c.args.self.now in
+    let amount = c.args.amount.now in
+    let name = c.args.name.now in
+    let fault = c.term_fault-fault.result in
+    let cost = c.minimized-cost.ensures ∙ (λ i. minimized (sym c.self.view_is i) (ap (λ (a : Amount). a.value) c.amount.view_is i)) in
+    record {
+      is_kind = sym (no_fault fault _ (sym c.is_some.ensures ∙ c.if-is_some.false) (cost_fault old amount name fault c.term_fault-fault.ensures.kind));
+      taken = λ none.
+          cost_is old amount name (facts_in c.self.inside) c.of.result c.in-Ok.number c.minimized-cost.result c.put.new.self c.set_cost.new.costs.items
+          (c.self.view_is ∙ c.in-Ok.ensures.ok) c.in-Ok.ensures.number c.of.ensures c.in-Ok-put.ensures.ok cost c.set_cost.ensures;
+      few = tt;
+    }
