@@ -1,14 +1,15 @@
 -- What the command takes of words, and the job of words that it takes.
-use Rattle.std.specs.Prelude.{◌≡◌, true, ℕ, List, [], ◌∷◌, Option, None, Some, Result, Ok, Err, MatchResult, IfOk, refl, option_and_then}
+use Rattle.std.specs.Prelude.{◌≡◌, Bool, true, false, not, ◌&&◌, ℕ, List, [], ◌∷◌, Option, None, Some, Result, Ok, Err, MatchResult, IfOk, refl, option_and_then}
 use Rattle.std.proofs.Common.{sym, ap, ap₂, ◌∙◌, subst, inl, inr}
-use Rattle.clap.specs.Words.{App, HasKind, HasMatchesOf, IsAmong, Kinds, fault_of, kind_of, is_simple, is_simple_and_free, subcommand_of, subcommand_rows_of}
+use Rattle.clap.specs.Words.{App, app_of, with_subcommand, HasKind, HasMatchesOf, IsAmong, Kinds, fault_of, kind_of, is_simple, is_simple_and_free, subcommand_of, subcommand_rows_of}
+use Rattle.clap.specs.declared.builder.command.Command.{Command}
 use Rattle.clap.specs.declared.error.Error.{Error}
 use Rattle.clap.specs.declared.error.kind.ErrorKind.{ErrorKind}
 use Rattle.clap.specs.declared.error.kind.ErrorKind.TheVariants.{OutOfMemory}
 use Rattle.clap.specs.declared.parser.matches.ArgMatches.{ArgMatches}
 use Rattle.clap.proofs.OnLiterals.{clap_on_literals}
 use Rattle.cip_input.proofs.Numbers.{asks_for_some}
-use Rattle.cip_input.specs.Jobs.{Job, AsksForSome, cip_command, job_at, job_of, unless_faulty}
+use Rattle.cip_input.specs.Jobs.{Job, IsAddedAs, AsksForSome, cip_command, job_at, job_of, unless_faulty}
 use Rattle.cip_input.specs.WordsRead.{WordsCause, meant}
 use Rattle.cip_input.specs.declared.words.Job.{Job as Wanted}
 use Rattle.cip_input.specs.declared.words.WordsFault.{WordsFault}
@@ -22,6 +23,17 @@ is_free = refl
 pub is_plain : is_simple cip_command ≡ true
 unfolding clap_on_literals cip_command
 is_plain = refl
+
+-- a plain command is added as its shape says
+third_false : (a b c rest : Bool) → (a && (b && (not c && rest))) ≡ true → c ≡ false
+third_false true true false rest e = refl
+third_false true true true rest e = absurd (cc)
+third_false true false c rest e = absurd (cc)
+third_false false b c rest e = absurd (cc)
+
+pub added_as : (app : App) (command : Command) → app_of command ≡ app → app.top.is_plain ≡ true → IsAddedAs app.top command
+added_as app command made plain = λ old new added.
+    added.shape (third_false _ _ _ _ (ap (λ (a : App). a.top.is_plain) made ∙ plain)) ∙ ap (λ (a : App). with_subcommand (app_of old) a.top) made
 
 -- words without a fault have the job of their subcommand
 job_taken : (words : List (List ℕ)) (job : Option Job) → fault_of cip_command words ≡ [] → option_and_then job_at (subcommand_of cip_command words) ≡ job → job_of words ≡ job

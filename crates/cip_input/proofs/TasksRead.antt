@@ -149,7 +149,7 @@ plain_for faulty (Faulty fault) (plain.Refused text) p = ap plain.Refused p
 plain_for faulty (Faulty fault) plain.NoMemory p = absurd p
 plain_for faulty NoMemory given p = p
 
-cause_told : {K : Type 0} (faulty : TextFault K → FaultyText) (Cause : Plain → Type 0) (cause : Unread K) (given : Plain) → Cause (plain_of faulty cause) → IsPlain (λ fault said. said ≡ faulty fault) cause given → Cause given
+pub cause_told : {K : Type 0} (faulty : TextFault K → FaultyText) (Cause : Plain → Type 0) (cause : Unread K) (given : Plain) → Cause (plain_of faulty cause) → IsPlain (λ fault said. said ≡ faulty fault) cause given → Cause given
 cause_told faulty Cause cause given h p = subst Cause (sym (plain_for faulty cause given p)) h
 
 -- nothing was read of a text

@@ -53,7 +53,14 @@ pub(crate) fn numbered_names(alloc: Global, letter: u8, count: usize) -> Result<
 {
     let mut names = Names::new(alloc);
     for number in 0..count {
-        names.add(name_with(alloc, letter, number)?)?;
+        let Ok(name) = name_with(alloc, letter, number) else {
+            drop(names);
+            return Err(AllocError);
+        };
+        let Ok(()) = names.add(name) else {
+            drop(names);
+            return Err(AllocError);
+        };
     }
     Ok(names)
 }
@@ -64,10 +71,14 @@ pub(crate) fn column_sides(alloc: Global, columns: usize) -> Result<Bounds, Allo
 {
     let mut bounds = Bounds::new(alloc, 0)?;
     for _column in 0..columns {
-        bounds.push(Sides {
+        let sides = Sides {
             low: Some(Frac::zero()),
             high: Some(Frac::from(3)),
-        })?;
+        };
+        let Ok(()) = bounds.push(sides) else {
+            drop(bounds);
+            return Err(AllocError);
+        };
     }
     Ok(bounds)
 }

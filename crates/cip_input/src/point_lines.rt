@@ -56,7 +56,12 @@ fn no_values(alloc: Global, columns: usize) -> Result<Vec<Option<Frac>>, AllocEr
 fn has_none(values: &[Option<Frac>]) -> bool
     ensures { result ≡ list_any is_none values.now }
 {
-    values.iter().any(|value| value.is_none())
+    for value in values {
+        if value.is_none() {
+            return true;
+        }
+    }
+    false
 }
 
 /// A value that was given; 0 where it was not.

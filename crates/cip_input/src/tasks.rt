@@ -104,8 +104,13 @@ fn take_blocks<S: Store>(
     let Some(name) = blocks else {
         return Ok(());
     };
-    let _blocks = read_blocks(alloc, store, name, program)?;
-    Ok(())
+    match read_blocks(alloc, store, name, program) {
+        Err(cause) => Err(Plain::from(cause)),
+        Ok(blocks) => {
+            drop(blocks);
+            Ok(())
+        }
+    }
 }
 
 /// Reads the texts of a model and of its blocks.
@@ -145,13 +150,17 @@ fn read_check<'a, S: Store>(
         (IsTask job (S.tells store.old) (S.tells store.new)) (TaskCause job (S.tells store.old) (S.tells store.new)) }
 {
     let program = read_program(alloc, store, model)?;
-    let values = read_point(alloc, store, point, &program)?;
-    programs_are_limited();
-    points_are_of_lines();
-    Ok(Task::Check {
-        program,
-        point: values,
-    })
+    match read_point(alloc, store, point, &program) {
+        Err(cause) => {
+            drop(program);
+            Err(Plain::from(cause))
+        }
+        Ok(point) => {
+            programs_are_limited();
+            points_are_of_lines();
+            Ok(Task::Check { program, point })
+        }
+    }
 }
 
 /// Draws the program of a seed. `NoMemory` comes where a growth was refused, and nothing else.

@@ -1,6 +1,6 @@
 //! The words of a command line.
-ghost use Rattle.std.specs.Prelude.{◌≡◌, ◌++◌, ◌∷◌, [], true, false, Some, None, map, IfOk, OnOk, OnErr, MatchResult, option_map, option_and_then};
-ghost use Rattle.clap.specs.Words.{app_of, kind_of, rows_of, found_of, new_rule, rule_of, subcommand_rows_of};
+ghost use Rattle.std.specs.Prelude.{◌≡◌, ◌++◌, ◌∷◌, ◌&&◌, if◌then◌else◌, [], true, false, Some, None, map, IfOk, OnOk, OnErr, MatchResult, option_map, option_and_then};
+ghost use Rattle.clap.specs.Words.{App, Shape, app_of, kind_of, rows_of, found_of, new_rule, rule_of, subcommand_rows_of, with_rule, with_subcommand};
 ghost use Rattle.clap.specs.declared.builder.action.ArgAction.TheVariants.{SetTrue};
 ghost use Rattle.clap.specs.declared.error.kind.ErrorKind.TheVariants.{OutOfMemory};
 ghost use Rattle.cip_input.specs.Jobs.{AsksForSome, IsAddedAs, solve_command, check_command, self_command, cip_command, begins_above_zero, begins_plainly, nodes_of, number_up_to, at_least_zero, gap_of, off_of, is_presolved, is_true, job_behind, check_behind, self_behind, job_at, job_of};
@@ -113,61 +113,108 @@ impl From<AllocError> for WordsFault {
     }
 }
 
-/// A value that has to be there, behind no name.
-fn wanted<'a>(alloc: Global, id: &'a str) -> Arg<'a>
-    ensures rule { rule_of result ≡ record (new_rule id.entry.now) { required = true } }
+/// A word behind the name of a subcommand: a value that has to be there; or else what may be there behind `--` and the
+/// name, a value or, for a flag, none.
+fn word<'a>(alloc: Global, id: &'a str, required: bool, flag: bool) -> Arg<'a>
+    requires { (required && flag) ≡ false }
+    ensures rule { rule_of result ≡ record (new_rule id.entry.now) {
+      required = required;
+      long = if required then None else Some id.entry.now;
+      action = if flag then Some SetTrue else None;
+    } }
     ensures local { result.global ≡ false }
 {
-    Arg::new(alloc, id).required(true)
+    let word = Arg::new(alloc, id);
+    if required {
+        return word.required(true);
+    }
+    let option = word.long(id);
+    if flag {
+        option.action(ArgAction::SetTrue)
+    } else {
+        option
+    }
 }
 
-/// A value that may be there, behind `--` and the name.
-fn option<'a>(alloc: Global, id: &'a str) -> Arg<'a>
-    ensures rule { rule_of result ≡ record (new_rule id.entry.now) { long = Some id.entry.now } }
-    ensures local { result.global ≡ false }
+/// The command with a word more; `Err` comes where a growth was refused, now or before.
+fn with_word<'a>(
+    alloc: Global,
+    command: Result<Command<'a>, AllocError>,
+    id: &'a str,
+    required: bool,
+    flag: bool,
+) -> Result<Command<'a>, AllocError>
+    requires { (required && flag) ≡ false }
+    ensures { (app : App) → IfOk command.entry (λ old. app_of old ≡ app)
+        → IfOk result (λ new. app_of new ≡ with_rule app (record (new_rule id.entry.now) {
+          required = required;
+          long = if required then None else Some id.entry.now;
+          action = if flag then Some SetTrue else None;
+        })) }
 {
-    Arg::new(alloc, id).long(id)
+    match command {
+        Ok(command) => command.arg(word(alloc, id, required, flag)),
+        Err(AllocError) => Err(AllocError),
+    }
 }
 
-/// A name behind `--` that may be there, without a value.
-fn flag<'a>(alloc: Global, id: &'a str) -> Arg<'a>
-    ensures rule { rule_of result
-        ≡ record (new_rule id.entry.now) { long = Some id.entry.now; action = Some SetTrue } }
-    ensures local { result.global ≡ false }
+/// The command with a subcommand more; `Err` comes where a growth was refused, now or before.
+fn with_subcommand<'a>(
+    command: Command<'a>,
+    subcommand: Result<Command<'a>, AllocError>,
+) -> Result<Command<'a>, AllocError>
+    ensures { (shape : Shape) → IfOk subcommand.entry (IsAddedAs shape)
+        → IfOk result (λ new. app_of new ≡ with_subcommand (app_of command.entry) shape) }
 {
-    option(alloc, id).action(ArgAction::SetTrue)
+    match subcommand {
+        Ok(subcommand) => command.subcommand(subcommand),
+        Err(AllocError) => {
+            drop(command);
+            Err(AllocError)
+        }
+    }
 }
 
 /// The subcommand `solve MODEL [--blocks FILE] [--nodes N] [--gap G] [--off LIST] [--plain] [--trace]`.
 fn solving<'a>(alloc: Global) -> Result<Command<'a>, AllocError>
     ensures { IfOk result (IsAddedAs solve_command.top) }
 {
-    Command::new(alloc, "solve")
-        .arg(wanted(alloc, "model"))?
-        .arg(option(alloc, "blocks"))?
-        .arg(option(alloc, "nodes"))?
-        .arg(option(alloc, "gap"))?
-        .arg(option(alloc, "off"))?
-        .arg(flag(alloc, "plain"))?
-        .arg(flag(alloc, "trace"))
+    let solve = with_word(
+        alloc,
+        Ok(Command::new(alloc, "solve")),
+        "model",
+        true,
+        false,
+    );
+    let solve = with_word(alloc, solve, "blocks", false, false);
+    let solve = with_word(alloc, solve, "nodes", false, false);
+    let solve = with_word(alloc, solve, "gap", false, false);
+    let solve = with_word(alloc, solve, "off", false, false);
+    let solve = with_word(alloc, solve, "plain", false, true);
+    with_word(alloc, solve, "trace", false, true)
 }
 
 /// The subcommand `check MODEL POINT`.
 fn checking<'a>(alloc: Global) -> Result<Command<'a>, AllocError>
     ensures { IfOk result (IsAddedAs check_command.top) }
 {
-    let check = Command::new(alloc, "check").arg(wanted(alloc, "model"))?;
-    check.arg(wanted(alloc, "point"))
+    let check = with_word(
+        alloc,
+        Ok(Command::new(alloc, "check")),
+        "model",
+        true,
+        false,
+    );
+    with_word(alloc, check, "point", true, false)
 }
 
 /// The subcommand `self SEED COLS ROWS`.
 fn drawing<'a>(alloc: Global) -> Result<Command<'a>, AllocError>
     ensures { IfOk result (IsAddedAs self_command.top) }
 {
-    Command::new(alloc, "self")
-        .arg(wanted(alloc, "seed"))?
-        .arg(wanted(alloc, "cols"))?
-        .arg(wanted(alloc, "rows"))
+    let draw = with_word(alloc, Ok(Command::new(alloc, "self")), "seed", true, false);
+    let draw = with_word(alloc, draw, "cols", true, false);
+    with_word(alloc, draw, "rows", true, false)
 }
 
 /// The command: `solve MODEL [--blocks FILE] [--nodes N] [--gap G] [--off LIST] [--plain] [--trace]`,
@@ -175,12 +222,14 @@ fn drawing<'a>(alloc: Global) -> Result<Command<'a>, AllocError>
 fn command<'a>(alloc: Global) -> Result<Command<'a>, AllocError>
     ensures { IfOk result (λ command. app_of command ≡ cip_command) }
 {
-    let solve = solving(alloc)?;
-    let solver = Command::new(alloc, "cip")
-        .no_binary_name(true)
-        .subcommand(solve)?;
-    let checker = solver.subcommand(checking(alloc)?)?;
-    checker.subcommand(drawing(alloc)?)
+    let bare = Command::new(alloc, "cip").no_binary_name(true);
+    let Ok(solver) = with_subcommand(bare, solving(alloc)) else {
+        return Err(AllocError);
+    };
+    let Ok(checker) = with_subcommand(solver, checking(alloc)) else {
+        return Err(AllocError);
+    };
+    with_subcommand(checker, drawing(alloc))
 }
 
 /// Whether a text begins with a digit from 1 to 9.
@@ -440,8 +489,13 @@ impl Words {
         ensures ok { OnOk result (self.new ≡ self.old ++ word.now ∷ []) }
         ensures err { OnErr result (self.new ≡ self.old) }
     {
-        let owned = String::from_str(self.alloc, word)?;
-        self.words.push(owned)?;
+        let Ok(()) = self.words.reserve(1) else {
+            return Err(AllocError);
+        };
+        let Ok(owned) = String::from_str(self.alloc, word) else {
+            return Err(AllocError);
+        };
+        self.words.push_reserved(owned);
         Ok(())
     }
 
@@ -453,8 +507,16 @@ impl Words {
     {
         let command = command(self.alloc)?;
         match command.try_get_matches_from(self.words.as_slice()) {
-            Ok(matches) => job_in(self.alloc, &matches),
-            Err(error) => Err(fault_of(&error)),
+            Ok(matches) => {
+                let job = job_in(self.alloc, &matches);
+                drop(matches);
+                job
+            }
+            Err(error) => {
+                let fault = fault_of(&error);
+                drop(error);
+                Err(fault)
+            }
         }
     }
 }

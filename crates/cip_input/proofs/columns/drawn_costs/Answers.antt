@@ -1,8 +1,8 @@
-use Rattle.std.proofs.Common.{◌≡◌, ℕ, ◌+◌, ◌%◌, List, [], ◌∷◌, ◌++◌, map, sym, ap, ◌∙◌, zero-add}
+use Rattle.std.proofs.Common.{◌≡◌, ℕ, ◌+◌, ◌%◌, List, [], ◌∷◌, ◌++◌, map, sym, ap, ◌∙◌, zero-add, arith}
 use Rattle.std.specs.List.{range_with_len}
 use Rattle.std.proofs.lemmas.List.FromFn.{map-range_with_len_more}
 use Rattle.cip_rational.specs.Rational.{ℚ, negate}
-use Rattle.cip_input.specs.Generated.{next_state, drawn_at, draw, natural, cost_from}
+use Rattle.cip_input.specs.Generated.{next_state, drawn_at, draw, natural, cost_from, state_after}
 use Rattle.cip_input.proofs.DrawLaws.{state_after_next}
 use Rattle.cip_input.proofs.columns.drawn_costs.Goals as goal
 
@@ -19,3 +19,13 @@ loop-column-preserved c =
           ∙ sym (map-range_with_len_more (cost_from start) 0 k k (zero-add k));
       state = c.draw.ensures.state ∙ ap next_state c.loop-column.invariant.state ∙ sym (state_after_next k start);
     }
+
+pub returns-clause-costs : goal.returns-clause-costs
+returns-clause-costs c =
+    let all : c.loop-column._column ≡ c.args.columns = omega (arith, c.loop-column-test.false, c.loop-column.auto._column-end) in
+    c.loop-column.invariant.costs ∙ ap (λ (n : ℕ). map (cost_from c.args.draws.now.state) (range_with_len 0 n)) all
+
+pub returns-clause-state : goal.returns-clause-state
+returns-clause-state c =
+    let all : c.loop-column._column ≡ c.args.columns = omega (arith, c.loop-column-test.false, c.loop-column.auto._column-end) in
+    c.loop-column.invariant.state ∙ ap (λ (n : ℕ). state_after n c.args.draws.now.state) all

@@ -7,11 +7,11 @@ use Rattle.cip_input.proofs.columns.numbered_names.Goals as goal
 
 pub add-requires : goal.add-requires
 add-requires c =
-    ap₂ number_of c.loop-number.invariant c.in_ok-name_with.ensures ∙ fresh c.args.letter c.loop-number.number
+    ap₂ number_of c.loop-number.invariant c.in-Ok.ensures ∙ fresh c.args.letter c.loop-number.number
 
 pub loop-number-preserved : goal.loop-number-preserved
 loop-number-preserved c =
     let k : ℕ = c.loop-number.number in
-    c.in_ok-add.ensures.ok
-    ∙ ap₂ (λ (xs : List (List ℕ)) (x : List ℕ). xs ++ x ∷ []) c.loop-number.invariant c.in_ok-name_with.ensures
+    c.in-Ok-add.ensures.ok
+    ∙ ap₂ (λ (xs : List (List ℕ)) (x : List ℕ). xs ++ x ∷ []) c.loop-number.invariant c.in-Ok.ensures
     ∙ sym (map-range_with_len_more (name_of c.args.letter) 0 k k (zero-add k))

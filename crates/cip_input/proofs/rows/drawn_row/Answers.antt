@@ -1,7 +1,7 @@
 use Rattle.std.proofs.Common.{◌≡◌, ℕ, ◌+◌, ◌%◌, ◌++◌, List, None, sym, ap, ap₂, ◌∙◌, subst, arith}
 use Rattle.cip_problem.specs.Program.{Term, Row}
 use Rattle.cip_problem.specs.Activity.{StandsBelow}
-use Rattle.cip_input.specs.Generated.{next_state, drawn_at, draw, coefficient_from}
+use Rattle.cip_input.specs.Generated.{next_state, drawn_at, draw, coefficient_from, state_after}
 use Rattle.cip_input.proofs.DrawLaws.{state_after_next, entry_on, terms_more, total_more, terms_below}
 use Rattle.cip_input.proofs.rows.drawn_row.Goals as goal
 
@@ -28,3 +28,8 @@ loop-column-preserved c =
       state =
           c.draw-coefficient.ensures.state ∙ ap next_state c.loop-column.invariant.state ∙ sym (state_after_next k start);
     }
+
+pub returns-clause-state : goal.returns-clause-state
+returns-clause-state c =
+    let all : c.loop-column.column ≡ c.args.columns = omega (arith, c.loop-column-test.false, c.loop-column.auto.column-end) in
+    c.loop-column.invariant.state ∙ ap (λ (n : ℕ). state_after n c.args.draws.now.state) all

@@ -8,7 +8,7 @@ use Rattle.cip_input.proofs.words.command.Goals as goal
 pub returns : goal.returns
 unfolding cip_command
 returns c =
-    let bare_is = ap app_of_fields c.no_binary_name.ensures ∙ ap (on_top (λ (top : Shape). record top { no_binary_name = true })) c.new.ensures.app in
-    let wider = c.in_ok-solve.ensures _ _ c.in_ok-solver.ensures ∙ ap (λ (app : App). with_subcommand app solve_command.top) bare_is in
-    let widest = c.in_ok-checking.ensures _ _ c.in_ok-checker.ensures ∙ ap (λ (app : App). with_subcommand app check_command.top) wider in
-    IfOk-weaker c.subcommand-3.result _ _ (λ command h. c.in_ok-drawing.ensures _ _ h ∙ ap (λ (app : App). with_subcommand app self_command.top) widest) c.subcommand-3.ensures
+    let bare = ap app_of_fields c.no_binary_name-bare.ensures ∙ ap (on_top (λ (top : Shape). record top { no_binary_name = true })) c.new.ensures.app in
+    let solver = c.in-Ok.ensures _ c.solving.ensures ∙ ap (λ (app : App). with_subcommand app solve_command.top) bare in
+    let checker = c.in-Ok-with_subcommand.ensures _ c.checking.ensures ∙ ap (λ (app : App). with_subcommand app check_command.top) solver in
+    IfOk-weaker c.with_subcommand-3.result _ _ (λ command h. h ∙ ap (λ (app : App). with_subcommand app self_command.top) checker) (c.with_subcommand-3.ensures _ c.drawing.ensures)
