@@ -1,5 +1,5 @@
 -- The objective, the names of the rows that are kept, and that the program is well-formed.
-use Rattle.std.proofs.Common.{◌≡◌, ℕ, zero, suc, ◌+◌, ◌<◌, ◌≤◌, Bool, true, false, not, cond, ◌||◌, List, [], ◌∷◌, ◌++◌, length, map, take, Option, Some, refl, sym, ap, subst, ◌∙◌, arith, All}
+use Rattle.std.proofs.Common.{◌≡◌, ℕ, zero, suc, ◌+◌, ◌<◌, ◌≤◌, Bool, true, false, not, cond, ◌||◌, List, [], ◌∷◌, ◌++◌, length, map, take, Option, Some, refl, sym, ap, subst, ◌∙◌, arith, All, drop}
 use Rattle.std.specs.Prelude.{slice_get, slice_index_or, nat_lt, unwrap_or}
 use Rattle.std.specs.List.{AllByRecursion, filter, list_all, list_any}
 use Rattle.std.specs.Str.{bytes_eq}
@@ -149,3 +149,9 @@ same_program s column_names row_names rows costs constant maximized integral bou
     let sides : bounds ≡ map column_sides (map settled s.columns) = h ∙ map_twice column_sides settled s.columns in
     let open_ : choices ≡ choices_of (map settled s.columns) = k ∙ choices_made s.columns in
     λ i. record { column_names = a i; row_names = b i; rows = c i; costs = d i; constant = e i; maximized = f i; integral = whole i; bounds = sides i; choices = open_ i }
+
+-- the first row of type N
+pub first_free : (rows : List RowRead) (k : ℕ) → k < length rows → is_free (slice_index_or rows k no_row).kind ≡ true → objective_row (drop k rows) ≡ slice_index_or rows k no_row
+first_free [] k l e = absurd (omega (arith, l))
+first_free (r ∷ rs) zero l e = ap (λ b. cond b r (objective_row rs)) e
+first_free (r ∷ rs) (suc k) l e = first_free rs k (omega (arith, l)) e

@@ -1,13 +1,16 @@
 -- Rows keep their numbers by rising column.
+use Rattle.cip_text_rules.specs.MpsWords.{is_in}
+use Rattle.cip_text_rules.proofs.LookUps.{number_some, number_none}
+use Rattle.cip_text_rules.proofs.MpsNames.{number_below}
 use Rattle.std.proofs.Common.{◌≡◌, ℕ, zero, suc, ◌+◌, add-one, ◌<◌, ◌≤◌, Bool, true, false, cond, ◌&&◌, List, [], ◌∷◌, ◌++◌, length, Some, subst, refl, sym, ap, ◌∙◌, arith}
-use Rattle.std.specs.Prelude.{nat_lt, nat_le, slice_index_or, slice_set, not, Result, Ok, Err, OnOk, OnErr}
+use Rattle.std.specs.Prelude.{nat_lt, nat_le, slice_index_or, slice_set, not, Result, Ok, Err, OnOk, OnErr, unwrap_or}
 use Rattle.std.specs.List.{filter, list_all}
 use Rattle.std.proofs.lemmas.Bool.{lt-ltb, ltb-true, leb-false}
 use Rattle.std.proofs.lemmas.List.{length_push}
 use Rattle.cip_rational.specs.Rational.{ℚ}
 use Rattle.cip_text_rules.specs.MpsState.{RowRead, no_row, is_kept}
 use Rattle.cip_text_rules.specs.MpsProgram.{is_free}
-use Rattle.cip_text_rules.specs.MpsSteps.{changed, with_held}
+use Rattle.cip_text_rules.specs.MpsSteps.{changed, with_held, number_or_next, with_name}
 use Rattle.cip_text_rules.specs.MpsSoundState.{held_below}
 use Rattle.cip_text_rules.proofs.SoundState.{all_set, all_at, all_push, all_more}
 
@@ -100,3 +103,32 @@ counted_same rows rows2 row n c p k =
 -- a row without numbers
 pub below_more_rows : (n : ℕ) (rows rows2 : List RowRead) (row : RowRead) → list_all (λ row. held_below n row.held) rows ≡ true → rows2 ≡ rows ++ row ∷ [] → row.held ≡ [] → list_all (λ row. held_below n row.held) rows2 ≡ true
 below_more_rows n rows rows2 row h p e = ap (list_all (below n)) p ∙ all_push (below n) rows row h (ap (held_below n) e)
+
+-- the last row
+pub last_pushed : (rows : List RowRead) (row : RowRead) → slice_index_or (rows ++ row ∷ []) (length rows) no_row ≡ row
+last_pushed [] row = refl
+last_pushed (r ∷ rows) row = last_pushed rows row
+
+-- what holds in any case
+pub always_err : {A E X : Type 0} (result : Result A E) → X → OnErr result X
+always_err (Ok a) x = tt
+always_err (Err e) x = x
+
+pub always_ok : {A E X : Type 0} (result : Result A E) → X → OnOk result X
+always_ok (Ok a) x = x
+always_ok (Err e) x = tt
+
+-- the number of a name is that of one of the names, and it
+pub next_within : (names : List (List ℕ)) (name : List ℕ) → number_or_next names name < length (with_name names name)
+next_within names name = go (is_in names name) refl
+  where
+    go : (b : Bool) → is_in names name ≡ b → number_or_next names name < length (cond b names (names ++ name ∷ []))
+    go true e =
+        let k = number_some names name e in
+        let l : k.0 < length names = number_below names name k.0 k.1 in
+        let p : number_or_next names name ≡ k.0 = ap (λ o. unwrap_or o (length names)) k.1 in
+        omega (arith, l, p)
+    go false e =
+        let p : number_or_next names name ≡ length names = ap (λ o. unwrap_or o (length names)) (number_none names name e) in
+        let l : length (names ++ name ∷ []) ≡ length names + 1 = length_push names name in
+        omega (arith, l, p)

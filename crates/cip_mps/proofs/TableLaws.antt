@@ -227,3 +227,9 @@ rows_changed heads groups number head f l e =
     let g : ℕ → RowRead → RowRead = λ row. with_numbers (numbers_at groups row) in
     at_change g heads number head
     ∙ ap (slice_set (rows_of heads groups) number) (e ∙ ap f (sym (at_index g heads number no_row no_row l)))
+
+-- a group that is as it was
+pub group_same : (groups : List (List Entry)) (k : ℕ) (now new : List Entry) → k < length groups → now ≡ slice_index_or groups k now → new ≡ now → slice_set groups k new ≡ groups
+group_same [] k now new l e p = absurd (omega (arith, l))
+group_same (g ∷ gs) zero now new l e p = ap (λ x. x ∷ gs) (p ∙ e)
+group_same (g ∷ gs) (suc k) now new l e p = ap (λ xs. g ∷ xs) (group_same gs k now new (omega (arith, l)) e p)

@@ -3,11 +3,10 @@ ghost use Rattle.std.specs.Prelude.{◌≡◌, ℕ, ◌<◌, ◌||◌, List, fal
 ghost use Rattle.cip_rational.specs.Numeral.{Numeral};
 ghost use Rattle.cip_mps_lines.specs.MpsKinds.{bound_kind_in};
 ghost use Rattle.cip_text_rules.specs.MpsWords.{number_in};
-ghost use Rattle.cip_text_rules.specs.MpsBounds.{unbounded, with_bound};
+ghost use Rattle.cip_text_rules.specs.MpsBounds.{unbounded};
 ghost use Rattle.cip_text_rules.specs.MpsRules as text;
 ghost use Rattle.cip_text_rules.specs.MpsRules.{least, is_mixed_by};
 ghost use Rattle.cip_text_rules.specs.MpsState.{item_at};
-ghost use Rattle.cip_text_rules.specs.MpsSteps.{changed};
 ghost use Rattle.cip_text_rules.specs.MpsLineTests.{bound_tests};
 ghost use Rattle.cip_mps.specs.DraftStates.{kept};
 
@@ -64,24 +63,5 @@ impl Draft {
             return Some(21);
         }
         None
-    }
-
-    /// Takes a line of BOUNDS, of which the number of the column is given.
-    pub(crate) fn put_bound(
-        &mut self,
-        kind: BoundKind,
-        value: &BoundNumber<'_>,
-        column: Option<usize>,
-    )
-        requires { IfSome column (λ number. number < vec_len self.old.columns) }
-        ensures { kept self.new ≡ record (kept self.old) {
-          columns = changed (unbounded false) self.old.columns.items column
-              (λ b. with_bound b (bound_kind_in kind) value.now);
-        } }
-    {
-        if let Some(number) = column {
-            let column = &mut self.columns[number];
-            column.take(kind, value);
-        }
     }
 }

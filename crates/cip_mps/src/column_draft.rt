@@ -2,7 +2,7 @@
 ghost use Rattle.std.specs.Prelude.{◌≡◌, true};
 ghost use Rattle.cip_rational.specs.Numeral.{Numeral};
 ghost use Rattle.cip_mps_lines.specs.MpsKinds.{bound_kind_in};
-ghost use Rattle.cip_text_rules.specs.MpsBounds.{unbounded, with_low, with_high, with_semi, with_bound, made_whole, settled, own_sides, lacks_sides, is_mixed, is_semi, column_sides, choice_of};
+ghost use Rattle.cip_text_rules.specs.MpsBounds.{unbounded, with_low, with_high, with_bound, settled, own_sides, lacks_sides, is_mixed, is_semi, column_sides, choice_of};
 
 use crate::semi_sides::{are_semi_sides, open_sides};
 use cip_frac::Frac;
@@ -84,22 +84,6 @@ impl ColumnDraft {
         self.named = true;
     }
 
-    /// Sets the high bound of a semi-continuous column.
-    fn set_semi(&mut self, value: &BoundNumber<'_>)
-        ensures { self.new ≡ with_semi self.old value.now }
-    {
-        self.high = value.value();
-        self.semi = true;
-        self.named = true;
-    }
-
-    /// Makes the column whole.
-    fn make_whole(&mut self)
-        ensures { self.new ≡ made_whole self.old }
-    {
-        self.whole = true;
-    }
-
     /// Takes one bound record more.
     pub(crate) fn take(&mut self, kind: BoundKind, value: &BoundNumber<'_>)
         ensures { self.new ≡ with_bound self.old (bound_kind_in kind) value.now }
@@ -109,11 +93,11 @@ impl ColumnDraft {
             BoundKind::High => self.set_high(value),
             BoundKind::WholeLow => {
                 self.set_low(value);
-                self.make_whole();
+                self.whole = true;
             }
             BoundKind::WholeHigh => {
                 self.set_high(value);
-                self.make_whole();
+                self.whole = true;
             }
             BoundKind::Fixed => self.set_sides(value.value(), value.value()),
             BoundKind::Unbounded => self.set_sides(None, None),
@@ -124,9 +108,13 @@ impl ColumnDraft {
             }
             BoundKind::Binary => {
                 self.set_sides(Some(Frac::zero()), Some(Frac::one()));
-                self.make_whole();
+                self.whole = true;
             }
-            BoundKind::SemiContinuous => self.set_semi(value),
+            BoundKind::SemiContinuous => {
+                self.high = value.value();
+                self.semi = true;
+                self.named = true;
+            }
         }
     }
 

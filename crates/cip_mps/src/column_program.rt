@@ -2,7 +2,7 @@
 ghost use Rattle.std.specs.Prelude.{◌≡◌, ◌≤◌, [], true, map, nat_le, IfOk, if◌then◌else◌};
 ghost use Rattle.std.specs.List.{list_all, list_any};
 ghost use Rattle.cip_problem.specs.Limits.{most_columns};
-ghost use Rattle.cip_text_rules.specs.MpsBounds.{settled, lacks_sides, is_semi, column_sides, choice_of};
+ghost use Rattle.cip_text_rules.specs.MpsBounds.{settled, is_semi, column_sides, choice_of};
 ghost use Rattle.cip_text_rules.specs.MpsState.{held_value, minimized_by, costs_from};
 ghost use Rattle.cip_text_rules.specs.MpsSoundState.{rises};
 ghost use Rattle.cip_mps.specs.Costs.{held_behind};
@@ -49,18 +49,16 @@ pub(crate) fn bounds_of(alloc: Global, columns: &[ColumnDraft]) -> Result<Bounds
     Ok(bounds)
 }
 
-/// Whether a semi-continuous column lacks one of the bounds that it must have.
-pub(crate) fn any_lacks_sides(columns: &[ColumnDraft]) -> bool
-    ensures { result ≡ list_any (λ column. lacks_sides (settled column)) columns.now }
-{
-    columns.iter().any(|column| column.lacks_sides())
-}
-
 /// Whether a column is semi-continuous.
 fn any_semi(columns: &[ColumnDraft]) -> bool
     ensures { result ≡ list_any (λ column. is_semi (settled column)) columns.now }
 {
-    columns.iter().any(|column| column.is_semi())
+    for column in columns {
+        if column.is_semi() {
+            return true;
+        }
+    }
+    false
 }
 
 /// The choice of each column.

@@ -50,7 +50,7 @@ impl Draft {
         let Ok(()) = self.column_names.add(owned) else {
             return Err(AllocError);
         };
-        let _ = self.columns.push(ColumnDraft::new(whole));
+        self.columns.push_reserved(ColumnDraft::new(whole));
         Ok(number)
     }
 

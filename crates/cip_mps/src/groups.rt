@@ -123,14 +123,24 @@ fn near_of(row: u32, held: Held) -> Option<Near>
 fn any_near(near: &[Near], row: u32, column: u32) -> bool
     ensures { result ≡ list_any (λ n. n.column == column && n.row == row) near.now }
 {
-    near.iter().any(|n| n.column == column && n.row == row)
+    for number in near {
+        if number.column == column && number.row == row {
+            return true;
+        }
+    }
+    false
 }
 
 /// Whether a row has another number in a column.
 fn any_far(far: &[Far], row: u32, column: u32) -> bool
     ensures { result ≡ list_any (λ n. n.column == column && n.row == row) far.now }
 {
-    far.iter().any(|n| n.column == column && n.row == row)
+    for other in far {
+        if other.column == column && other.row == row {
+            return true;
+        }
+    }
+    false
 }
 
 /// The numbers of a row, of those in 32 bits.

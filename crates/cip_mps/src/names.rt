@@ -1,5 +1,5 @@
 //! Names and their numbers.
-ghost use Rattle.std.specs.Prelude.{◌≡◌, ◌<◌, length, vec_len, IfSome};
+ghost use Rattle.std.specs.Prelude.{◌≡◌, ◌<◌, vec_len, IfSome};
 ghost use Rattle.cip_text_rules.specs.MpsWords.{number_in};
 ghost use Rattle.cip_mps.specs.FoundRows.{AreFound};
 
@@ -33,14 +33,6 @@ impl RowNumbers {
 }
 
 impl Draft {
-    /// The number of the row of this name.
-    pub(crate) fn find_row(&self, name: &[u8]) -> Option<usize>
-        ensures number { result ≡ number_in self.now.row_names name.now }
-        ensures within { IfSome result (λ number. number < length self.now.rows) }
-    {
-        self.row_names.find(name)
-    }
-
     /// The number of the column of this name; the last column is looked at first.
     pub(crate) fn find_column(&self, name: &[u8]) -> Option<usize>
         ensures number { result ≡ number_in self.now.column_names name.now }

@@ -25,7 +25,7 @@ fn objective_at(rows: &RowTable) -> Option<usize>
         (λ number. (number < length rows.now) × (objective_row rows.now ≡ slice_index_or rows.now number no_row)) }
 {
     for number in 0..rows.len() {
-        if rows.is_free(number) {
+        if rows.head(number).is_free() {
             return Some(number);
         }
     }
@@ -57,7 +57,7 @@ fn objective_constant(sense: Option<bool>, rows: &RowTable) -> Frac
 {
     match objective_at(rows) {
         None => minimized(sense, Frac::zero().neg()),
-        Some(number) => minimized(sense, rows.right_side_or_zero(number).neg()),
+        Some(number) => minimized(sense, rows.head(number).right_side_or_zero().neg()),
     }
 }
 
@@ -80,7 +80,12 @@ fn names_of(alloc: Global, names: &NameIndex, rows: &RowTable) -> Result<Names, 
 {
     let mut kept = Names::new(alloc);
     for number in 0..rows.len() {
-        keep_name(alloc, &mut kept, names.name(number), rows.is_free(number))?;
+        keep_name(
+            alloc,
+            &mut kept,
+            names.name(number),
+            rows.head(number).is_free(),
+        )?;
     }
     Ok(kept)
 }

@@ -4,7 +4,7 @@ ghost use Rattle.std.specs.List.{list_any};
 ghost use Rattle.cip_mps_lines.specs.MpsLines.{values_of};
 ghost use Rattle.cip_text_rules.specs.MpsRules.{least};
 ghost use Rattle.cip_text_rules.specs.MpsState.{no_row, item_at, row_at, value_for};
-ghost use Rattle.cip_text_rules.specs.MpsSteps.{changed, overflows_with, has_range, is_free_at, with_range, put_values};
+ghost use Rattle.cip_text_rules.specs.MpsSteps.{changed, overflows_with, has_range, is_free_at, with_range};
 ghost use Rattle.cip_text_rules.specs.MpsLineTests.{range_tests};
 ghost use Rattle.cip_mps.specs.DraftStates.{kept};
 ghost use Rattle.cip_mps.specs.FoundRows.{AreFound};
@@ -23,7 +23,7 @@ impl Draft {
     {
         match row {
             None => false,
-            Some(number) => self.rows.has_range(number),
+            Some(number) => self.rows.head(number).has_range(),
         }
     }
 
@@ -47,7 +47,7 @@ impl Draft {
     {
         match row {
             None => false,
-            Some(number) => self.rows.is_free(number),
+            Some(number) => self.rows.head(number).is_free(),
         }
     }
 
@@ -71,7 +71,7 @@ impl Draft {
     {
         match row {
             None => false,
-            Some(number) => self.rows.is_wide_with_range(number, value),
+            Some(number) => self.rows.head(number).is_wide_with_range(value),
         }
     }
 
@@ -124,7 +124,7 @@ impl Draft {
     }
 
     /// Sets the value in RANGES of the row of a number.
-    fn set_range(&mut self, row: Option<usize>, value: Frac)
+    pub(crate) fn set_range(&mut self, row: Option<usize>, value: Frac)
         requires within { IfSome row (λ number. number < length self.old.rows) }
         requires fits { overflows_with None (Some value) (item_at no_row self.old.rows row) ≡ false }
         ensures { kept self.new
@@ -132,20 +132,6 @@ impl Draft {
     {
         if let Some(number) = row {
             self.rows.set_range(number, value);
-        }
-    }
-
-    /// Takes a line of RANGES without fault, of which the numbers of the rows are given.
-    pub(crate) fn put_ranges(&mut self, values: &Pairs<'_>, rows: RowNumbers)
-        requires found { AreFound self.old.row_names values.now rows }
-        requires passed { least (range_tests (kept self.old) (values_of values.now)) ≡ None }
-        ensures { kept self.new ≡ record (kept self.old) {
-          rows = put_values with_range self.old.row_names self.old.rows (values_of values.now);
-        } }
-    {
-        self.set_range(rows.first, values.first.number.value());
-        if let Some(pair) = &values.second {
-            self.set_range(rows.second, pair.number.value());
         }
     }
 }

@@ -43,7 +43,7 @@ impl Draft {
     pub(crate) fn row_fault(&self, kind: Option<RowKind>, name: &[u8]) -> Option<u32>
         ensures { result ≡ least (row_line_tests (kept self.now) (option_map row_kind_in kind) name.now) }
     {
-        if self.find_row(name).is_some() {
+        if self.row_names.find(name).is_some() {
             return Some(10);
         }
         let Some(kind) = kind else {

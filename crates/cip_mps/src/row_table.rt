@@ -1,9 +1,8 @@
 //! The rows of a text.
-ghost use Rattle.std.specs.Prelude.{◌≡◌, ◌<◌, ◌≤◌, ◌+◌, ◌*◌, ◌-◌, ◌^◌, ◌++◌, ◌∷◌, ◌==◌, [], ℕ, true, false, Some, None, length, vec_len, vec_capacity, is_some, take, slice_index_or, IfOk, OnOk, OnErr};
+ghost use Rattle.std.specs.Prelude.{◌≡◌, ◌<◌, ◌≤◌, ◌+◌, ◌*◌, ◌-◌, ◌^◌, ◌++◌, ◌∷◌, ◌==◌, [], ℕ, true, false, Some, None, length, take, slice_index_or, IfOk, OnOk, OnErr};
 ghost use Rattle.std.specs.List.{list_any};
 ghost use Rattle.cip_mps_lines.specs.MpsKinds.{row_kind_in};
-ghost use Rattle.cip_text_rules.specs.MpsProgram.{is_free};
-ghost use Rattle.cip_text_rules.specs.MpsState.{no_row, right_side_of};
+ghost use Rattle.cip_text_rules.specs.MpsState.{no_row};
 ghost use Rattle.cip_text_rules.specs.MpsSteps.{changed, new_row, overflows_with, with_held, with_right_side, with_range};
 ghost use Rattle.cip_text_rules.specs.MpsSoundState.{held_below, rises};
 ghost use Rattle.cip_mps.specs.Tables.{numbers_at};
@@ -41,22 +40,6 @@ impl Model for RowTable {
     ghost view = { λ t. rows_of t.heads.items t.groups.items };
 
     ghost invariant = { λ t. IsSoundTable t.held_to.items t.heads.items t.groups.items };
-}
-
-/// Puts the head of a row behind those of others, for which there is room.
-fn push_head(heads: &mut Vec<RowHead>, head: RowHead)
-    requires { vec_len heads.old < vec_capacity heads.old }
-    ensures { heads.new.items ≡ heads.old.items ++ head ∷ [] }
-{
-    let _ = heads.push(head);
-}
-
-/// Puts a number behind others, for which there is room.
-fn push_end(held_to: &mut Vec<u32>, end: u32)
-    requires { vec_len held_to.old < vec_capacity held_to.old }
-    ensures { held_to.new.items ≡ held_to.old.items ++ end ∷ [] }
-{
-    let _ = held_to.push(end);
 }
 
 /// Makes a group for the row of a number, where it has none yet. `Err` comes where a growth was refused.
@@ -107,8 +90,8 @@ impl RowTable {
         let Ok(()) = make_group(self.alloc, &mut self.groups, number) else {
             return Err(AllocError);
         };
-        push_head(&mut self.heads, RowHead::new(kind));
-        push_end(&mut self.held_to, 0);
+        self.heads.push_reserved(RowHead::new(kind));
+        self.held_to.push_reserved(0);
         Ok(())
     }
 
@@ -123,31 +106,14 @@ impl RowTable {
         self.held_to.truncate(count);
     }
 
-    /// Whether a row is of type N.
-    pub fn is_free(&self, number: usize) -> bool
+    /// A row without its numbers.
+    pub(crate) fn head(&self, number: usize) -> &RowHead
         requires { number < length self.now }
-        ensures { result ≡ is_free (slice_index_or self.now number no_row).kind }
+        ensures kind { result.now.kind ≡ (slice_index_or self.now number no_row).kind }
+        ensures right_side { result.now.right_side ≡ (slice_index_or self.now number no_row).right_side }
+        ensures range { result.now.range ≡ (slice_index_or self.now number no_row).range }
     {
-        let head = &self.heads[number];
-        head.is_free()
-    }
-
-    /// Whether a row has a value in RHS.
-    pub fn has_right_side(&self, number: usize) -> bool
-        requires { number < length self.now }
-        ensures { result ≡ is_some (slice_index_or self.now number no_row).right_side }
-    {
-        let head = &self.heads[number];
-        head.has_right_side()
-    }
-
-    /// Whether a row has a value in RANGES.
-    pub fn has_range(&self, number: usize) -> bool
-        requires { number < length self.now }
-        ensures { result ≡ is_some (slice_index_or self.now number no_row).range }
-    {
-        let head = &self.heads[number];
-        head.has_range()
+        &self.heads[number]
     }
 
     /// Whether a row has a number in a column. Where the column is behind all of them no number is looked at.
@@ -160,24 +126,6 @@ impl RowTable {
         }
         let group = &self.groups[number / GROUP];
         group.holds((number % GROUP) as u32, column)
-    }
-
-    /// Whether a side of a row can't be formed with a value in RHS, which counts where there is none yet.
-    pub fn is_wide_with_right_side(&self, number: usize, value: Frac) -> bool
-        requires { number < length self.now }
-        ensures { result ≡ overflows_with (Some value) None (Some (slice_index_or self.now number no_row)) }
-    {
-        let head = &self.heads[number];
-        head.is_wide_with_right_side(value)
-    }
-
-    /// Whether a side of a row can't be formed with a value in RANGES, which counts where there is none yet.
-    pub fn is_wide_with_range(&self, number: usize, value: Frac) -> bool
-        requires { number < length self.now }
-        ensures { result ≡ overflows_with None (Some value) (Some (slice_index_or self.now number no_row)) }
-    {
-        let head = &self.heads[number];
-        head.is_wide_with_range(value)
     }
 
     /// Puts a number at the end of a row; its column is behind those of the row's others. `Err` comes where a growth
@@ -214,15 +162,6 @@ impl RowTable {
     {
         let head = &mut self.heads[number];
         head.set_range(value);
-    }
-
-    /// The right-hand side of a row, 0 where it has none.
-    pub fn right_side_or_zero(&self, number: usize) -> Frac
-        requires { number < length self.now }
-        ensures { result ≡ right_side_of (slice_index_or self.now number no_row) }
-    {
-        let head = &self.heads[number];
-        head.right_side_or_zero()
     }
 
     /// The numbers of a row, by rising column. `Err` comes where a growth was refused.

@@ -1,5 +1,5 @@
 //! Section lines and lines of OBJSENSE.
-ghost use Rattle.std.specs.Prelude.{◌≡◌, ◌+◌, ◌==◌, ◌++◌, ◌∷◌, [], None, map, is_none, OnOk};
+ghost use Rattle.std.specs.Prelude.{◌≡◌, ◌==◌, None, map, is_none};
 ghost use Rattle.std.specs.List.{list_any};
 ghost use Rattle.cip_text.specs.TextLines.{fields_left};
 ghost use Rattle.cip_mps_lines.specs.MpsKinds.{part_of};
@@ -10,16 +10,13 @@ ghost use Rattle.cip_text_rules.specs.MpsBounds.{settled, lacks_sides};
 ghost use Rattle.cip_text_rules.specs.MpsProgram.{is_free};
 ghost use Rattle.cip_text_rules.specs.MpsRules.{least, stands_behind, is_opened, has_many_words};
 ghost use Rattle.cip_text_rules.specs.MpsSteps.{or_else};
-ghost use Rattle.cip_text_rules.specs.MpsLineTests.{opening_tests, end_tests, sense_tests};
+ghost use Rattle.cip_text_rules.specs.MpsLineTests.{opening_tests, end_tests};
 ghost use Rattle.cip_mps.specs.DraftLines.{section_tests, sense_said_on};
 ghost use Rattle.cip_mps.specs.DraftStates.{kept};
 
-use crate::RowTable;
-use crate::column_program::any_lacks_sides;
 use crate::draft::Draft;
 use cip_mps_lines::{Part, sense_of};
 use cip_text::Fields;
-use std::alloc::AllocError;
 
 /// A number of its own for each section.
 fn number_of(part: Part) -> u8
@@ -59,35 +56,6 @@ fn is_behind(part: Part, before: Part) -> bool
     number_of(before) == number_of(part) || rank_of(part) < rank_of(before)
 }
 
-/// Whether one of these sections is this one, or has its place behind it.
-fn any_behind(opened: &[Part], part: Part) -> bool
-    ensures { result ≡ list_any (λ before. stands_behind (part_of part) (part_of before)) opened.now }
-{
-    opened.iter().any(|before| is_behind(part, *before))
-}
-
-/// Whether one of these sections is this one.
-fn any_same(opened: &[Part], part: Part) -> bool
-    ensures { result
-        ≡ list_any (λ before. text.part_number (part_of before) == text.part_number (part_of part)) opened.now }
-{
-    opened
-        .iter()
-        .any(|before| number_of(*before) == number_of(part))
-}
-
-/// Whether a row is of type N.
-fn any_free(rows: &RowTable) -> bool
-    ensures { result ≡ list_any (λ row. is_free row.kind) rows.now }
-{
-    for number in 0..rows.len() {
-        if rows.is_free(number) {
-            return true;
-        }
-    }
-    false
-}
-
 /// Whether a section line has a wrong number of words behind its first.
 fn is_miscounted(part: Part, words: &Fields<'_>) -> bool
     ensures { result ≡ has_many_words (part_of part) (fields_left words.now) }
@@ -117,7 +85,7 @@ fn has_bad_sense(part: Part, words: &Fields<'_>) -> bool
 }
 
 /// The sense that a section line says.
-fn sense_on(part: Part, words: &Fields<'_>) -> Option<bool>
+pub(crate) fn sense_on(part: Part, words: &Fields<'_>) -> Option<bool>
     ensures { result ≡ sense_said_on (part_of part) (fields_left words.now) }
 {
     let mut rest = *words;
@@ -135,28 +103,48 @@ impl Draft {
     fn is_late(&self, part: Part) -> bool
         ensures { result ≡ list_any (stands_behind (part_of part)) (map part_of self.now.opened.items) }
     {
-        any_behind(self.opened.as_slice(), part)
+        for before in &self.opened {
+            if is_behind(part, *before) {
+                return true;
+            }
+        }
+        false
     }
 
     /// Whether a section was opened.
     fn was_opened(&self, part: Part) -> bool
         ensures { result ≡ is_opened (map part_of self.now.opened.items) (part_of part) }
     {
-        any_same(self.opened.as_slice(), part)
+        for before in &self.opened {
+            if number_of(*before) == number_of(part) {
+                return true;
+            }
+        }
+        false
     }
 
     /// Whether a row is of type N.
     fn has_objective(&self) -> bool
         ensures { result ≡ list_any is_free (map (λ row. row.kind) self.now.rows) }
     {
-        any_free(&self.rows)
+        for number in 0..self.rows.len() {
+            if self.rows.head(number).is_free() {
+                return true;
+            }
+        }
+        false
     }
 
     /// Whether a semi-continuous column lacks one of the bounds that it must have.
     fn lacks_sides(&self) -> bool
         ensures { result ≡ list_any lacks_sides (map settled self.now.columns.items) }
     {
-        any_lacks_sides(self.columns.as_slice())
+        for column in &self.columns {
+            if column.lacks_sides() {
+                return true;
+            }
+        }
+        false
     }
 
     /// The least kind of fault of a section line that isn't ENDATA.
@@ -214,27 +202,5 @@ impl Draft {
         if self.sense.is_none() {
             self.sense = sense;
         }
-    }
-
-    /// Takes a section line. `Err` comes where a growth was refused.
-    pub(crate) fn put_section(&mut self, part: Part, words: &Fields<'_>) -> Result<(), AllocError>
-        ensures { OnOk result (kept self.new ≡ record (kept self.old) {
-          opened = map part_of self.old.opened.items ++ part_of part ∷ [];
-          sense = or_else self.old.sense (sense_said_on (part_of part) (fields_left words.now));
-        }) }
-    {
-        self.opened.push(part)?;
-        self.put_sense(sense_on(part, words));
-        Ok(())
-    }
-}
-
-/// The least kind of fault of a line of OBJSENSE.
-pub(crate) fn sense_fault(word: &[u8]) -> Option<u32>
-    ensures { result ≡ least (sense_tests word.now) }
-{
-    match sense_of(word) {
-        None => Some(21),
-        Some(_) => None,
     }
 }

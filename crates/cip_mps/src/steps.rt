@@ -8,11 +8,11 @@ ghost use Rattle.cip_text_rules.specs.MpsSayings.{no_place};
 ghost use Rattle.cip_text_rules.specs.MpsFacts.{no_facts};
 ghost use Rattle.cip_text_rules.specs.MpsState.{state_of};
 ghost use Rattle.cip_mps.specs.DraftStates.{kept};
-ghost use Rattle.cip_mps.specs.DraftSteps.{IsStep, PlacesJoin};
+ghost use Rattle.cip_mps.specs.DraftSteps.{IsStep};
 
 use crate::RowTable;
 use crate::draft::Draft;
-use crate::sections::sense_fault;
+use crate::sections::sense_on;
 use cip_mps_lines::{BoundKind, BoundNumber, Line, NameIndex, Pairs, Part, RowKind, sense_of};
 use cip_text::Fields;
 use cip_text_rules::step_laws::lines_have_tests;
@@ -27,7 +27,8 @@ impl Draft {
         lines_have_tests();
         let fault = self.section_fault(part, words);
         if fault.is_none() {
-            self.put_section(part, words)?;
+            self.opened.push(part)?;
+            self.put_sense(sense_on(part, words));
         }
         Ok(fault)
     }
@@ -37,11 +38,12 @@ impl Draft {
         ensures { IsStep (kept self.old) (kept self.new) (text.SenseLine word.now) result }
     {
         lines_have_tests();
-        let fault = sense_fault(word);
-        if fault.is_none() {
-            self.put_sense(sense_of(word));
+        let sense = sense_of(word);
+        if sense.is_none() {
+            return Some(21);
         }
-        fault
+        self.put_sense(sense);
+        None
     }
 
     /// Reads a line of ROWS.
@@ -90,7 +92,10 @@ impl Draft {
         let rows = self.find_rows(values);
         let fault = self.right_side_fault(values, rows);
         if fault.is_none() {
-            self.put_right_sides(values, rows);
+            self.set_right_side(rows.first, values.first.number.value());
+            if let Some(pair) = &values.second {
+                self.set_right_side(rows.second, pair.number.value());
+            }
         }
         fault
     }
@@ -104,7 +109,10 @@ impl Draft {
         let rows = self.find_rows(values);
         let fault = self.range_fault(values, rows);
         if fault.is_none() {
-            self.put_ranges(values, rows);
+            self.set_range(rows.first, values.first.number.value());
+            if let Some(pair) = &values.second {
+                self.set_range(rows.second, pair.number.value());
+            }
         }
         fault
     }
@@ -124,7 +132,10 @@ impl Draft {
         let column = self.find_column(name);
         let fault = self.bound_fault(kind, value, column);
         if fault.is_none() {
-            self.put_bound(kind, value, column);
+            if let Some(number) = column {
+                let column = &mut self.columns[number];
+                column.take(kind, value);
+            }
         }
         fault
     }
@@ -181,8 +192,3 @@ impl Draft {
         }
     }
 }
-
-/// No test of a line looks at its place, and the state behind a line is what is kept behind it, at the place behind it.
-pub fn places_join()
-    ensures { PlacesJoin }
-{}

@@ -1,4 +1,5 @@
-use Rattle.std.proofs.Common.{◌≡◌, arith, sym, ap, add-one, subst, true, ℕ}
+use Rattle.std.proofs.lemmas.List.{append-nil}
+use Rattle.std.proofs.Common.{◌≡◌, arith, sym, ap, add-one, subst, true, ℕ, ◌++◌, ◌-◌, ◌∙◌}
 use Rattle.cip_text_rules.specs.MpsState.{costs_from}
 use Rattle.cip_mps.specs.Costs.{held_behind}
 use Rattle.cip_mps.proofs.CostLaws.{from, one_cost, behind_rises, behind_later, from_zero}
@@ -22,3 +23,9 @@ loop-column-preserved c =
       rising = rw rest (behind_rises at.rest.now at.column at.invariant.rising);
       from = rw rest (subst (λ (n : ℕ). from n (held_behind at.rest.now at.column) ≡ true) (sym (add-one at.column)) (behind_later at.rest.now at.column at.invariant.rising at.invariant.from));
     }
+
+pub returns : goal.returns
+returns c =
+    let at = c.loop-column in
+    let none : c.args.columns - at.column ≡ 0 = omega (arith, c.loop-column-test.false) in
+    sym (append-nil at.costs.items) ∙ ap (λ (n : ℕ). at.costs.items ++ costs_from c.args.sense at.rest.now at.column n) (sym none) ∙ at.invariant.costs

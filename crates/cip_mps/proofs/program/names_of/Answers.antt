@@ -1,5 +1,7 @@
-use Rattle.std.proofs.Common.{◌++◌, ◌∷◌, [], cond, refl, ap, sym, ◌∙◌, take, add-one, arith}
+use Rattle.std.proofs.lemmas.List.{take_all}
+use Rattle.std.proofs.Common.{◌++◌, ◌∷◌, [], cond, refl, ap, sym, ◌∙◌, take, add-one, arith, length, ◌≤◌, ap₂}
 use Rattle.std.specs.Prelude.{slice_index_or}
+use Rattle.cip_text_rules.specs.MpsProgram.{is_free}
 use Rattle.cip_text_rules.specs.MpsState.{no_row, is_kept, kept_names}
 use Rattle.cip_mps.proofs.ProgramLaws.{kept_absent, take_absent, kept_more, kept_unless}
 use Rattle.cip_mps.proofs.program.names_of.Goals as goal
@@ -15,7 +17,14 @@ loop-number-preserved c =
     let n = c.loop-number.number in
     let name = c.name.result.now in
     let row = slice_index_or c.args.rows.now n no_row in
-    c.in_ok-keep_name.ensures ∙ kept_unless c.is_free.result row c.loop-number.kept name c.is_free.ensures
+    c.in_ok-keep_name.ensures ∙ kept_unless c.is_free.result row c.loop-number.kept name (c.is_free.ensures ∙ ap is_free c.head.ensures.kind)
     ∙ ap (λ ns. cond (is_kept row) (ns ++ name ∷ []) ns) c.loop-number.invariant
     ∙ sym (kept_more c.args.names.now c.args.rows.now n name row c.name.ensures.name (omega (arith, c.loop-number-test.true, c.len-number-end.ensures)) refl)
     ∙ ap (λ k. kept_names (take k c.args.names.now) (take k c.args.rows.now)) (sym (add-one n))
+
+pub returns : goal.returns
+returns c =
+    let n = c.loop-number.number in
+    let here : length c.args.rows.now ≤ n = rw c.len-number-end.ensures at c.loop-number-test.false in
+    let there : length c.args.names.now ≤ n = omega (arith, here, c.requires) in
+    c.loop-number.invariant ∙ ap₂ kept_names (take_all n c.args.names.now there) (take_all n c.args.rows.now here)

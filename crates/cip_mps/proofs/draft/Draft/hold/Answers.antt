@@ -1,4 +1,5 @@
-use Rattle.std.proofs.Common.{◌≡◌, ◌<◌, List, true, length, refl, ◌∙◌, Some}
+use Rattle.cip_mps.specs.DraftStates.{kept}
+use Rattle.std.proofs.Common.{◌≡◌, ◌<◌, List, true, length, refl, ◌∙◌, Some, Option, ℕ, sym, ap}
 use Rattle.std.specs.Prelude.{slice_index_or}
 use Rattle.std.specs.List.{filter, list_all}
 use Rattle.std.proofs.Math.ListN.{length-set}
@@ -26,3 +27,14 @@ invariant_of-self c =
       few_entries = self.few_entries;
       rows_below = either (λ (rows : List RowRead). list_all (λ row. held_below n row.held) rows ≡ true) c.hold.ensures.ok c.hold.ensures.err self.rows_below (changed_below n self.rows number put (held_still n c.args.column c.args.value c.requires.is_column) self.rows_below);
     }
+
+pub returns-in_ok-hold-in-Some : goal.returns-in_ok-hold-in-Some
+returns-in_ok-hold-in-Some c =
+    let self = c.args.self.now in
+    let more = c.in_ok-hold-in-Some.ensures.ok ∙ ap (λ (row : Option ℕ). changed no_row self.rows row (with_held c.args.column c.args.value)) (sym c.in-Some.is) in
+    λ i. record (kept self) { rows = more i }
+
+pub returns-in-None : goal.returns-in-None
+returns-in-None c =
+    let self = c.args.self.now in
+    ap (λ (row : Option ℕ). record (kept self) { rows = changed no_row self.rows row (with_held c.args.column c.args.value) }) (sym c.in-None.is)

@@ -1,4 +1,7 @@
-use Rattle.std.proofs.Common.{◌+◌, ap, refl, arith, ◌∙◌}
+use Rattle.cip_mps.specs.FoundRows.{AreFound}
+use Rattle.cip_text_rules.specs.MpsSayings.{ColumnLine}
+use Rattle.cip_mps.proofs.RowLaws.{next_within}
+use Rattle.std.proofs.Common.{◌+◌, ap, refl, arith, ◌∙◌, ℕ, List, ◌<◌, length, subst, sym}
 use Rattle.std.proofs.lemmas.Bool.{ltb-false}
 use Rattle.cip_problem.specs.Limits.{most_entries}
 use Rattle.std.specs.List.{list_any}
@@ -6,7 +9,7 @@ use Rattle.cip_mps_lines.specs.MpsLines.{values_of, value_in, second_in}
 use Rattle.cip_text_rules.specs.MpsWords.{number_in}
 use Rattle.cip_text_rules.proofs.Quiet.{right_false}
 use Rattle.cip_text_rules.specs.MpsState.{State, row_at}
-use Rattle.cip_text_rules.specs.MpsSteps.{holds}
+use Rattle.cip_text_rules.specs.MpsSteps.{holds, number_or_next, put, put_values, with_held}
 use Rattle.cip_mps.specs.DraftLines.{entries_in}
 use Rattle.cip_mps.specs.DraftStates.{kept}
 use Rattle.cip_mps.proofs.ColumnLaws.{passes_column, first_free, second_free, opened}
@@ -37,3 +40,26 @@ invariant_of-self-clause-few_entries c =
     let few = ltb-false most_entries (state.entries + entries_in (values_of c.args.values.now)) p.few in
     let same = ap (λ (s : State). s.entries) c.in_ok-hold_values.ensures ∙ ap (λ (s : State). s.entries) c.in_ok-number.ensures.state in
     omega (arith, few, same, c.count_entries.ensures.count)
+
+pub hold_values-requires-clause-is_column : goal.hold_values-requires-clause-is_column
+hold_values-requires-clause-is_column c =
+    let names = c.args.self.now.column_names in
+    subst (λ (n : ℕ). n < length c.make_column.new.self.column_names) (sym c.in_ok-number.ensures.number)
+    (subst (λ (all : List (List ℕ)). number_or_next names c.args.name.now < length all) (sym (ap (λ (s : State). s.column_names) c.in_ok-number.ensures.state)) (next_within names c.args.name.now))
+
+pub returns : goal.returns
+returns c =
+    let self = c.args.self.now in
+    let values = values_of c.args.values.now in
+    let number = c.in_ok-number.ensures.number in
+    ap (λ (s : State). record s { entries = s.entries + c.count_entries.result })
+    (c.in_ok-hold_values.ensures
+    ∙ ap (λ (s : State). record s { rows = put_values (with_held c.in_ok-number.number) s.row_names s.rows values }) c.in_ok-number.ensures.state)
+    ∙ (λ i. record (put (kept self) (ColumnLine c.args.name.now c.args.whole values)) {
+      rows = put_values (with_held (number i)) self.row_names self.rows values;
+      entries = self.entries + c.count_entries.ensures.count i;
+    })
+
+pub hold_values-requires-clause-found : goal.hold_values-requires-clause-found
+hold_values-requires-clause-found c =
+    subst (λ (names : List (List ℕ)). AreFound names c.args.values.now c.args.rows) (sym (ap (λ (s : State). s.row_names) c.in_ok-number.ensures.state)) c.requires.rows

@@ -2,7 +2,7 @@ use Rattle.std.proofs.Common.{sym, ◌∙◌}
 use Rattle.cip_mps_lines.specs.MpsLines.{values_of}
 use Rattle.cip_text_rules.specs.MpsSayings.{ColumnLine}
 use Rattle.cip_mps.specs.DraftStates.{kept}
-use Rattle.cip_mps.proofs.TakenLaws.{rules_are, taken_column, faulty_step, quiet_step}
+use Rattle.cip_mps.proofs.TakenLaws.{rules_are, taken_column, faulty_step, quiet_step, no_fault}
 use Rattle.cip_mps.proofs.draft.Draft.read_column.Goals as goal
 
 pub invariant_of-self : goal.invariant_of-self
@@ -34,3 +34,7 @@ returns-else-is_none c =
     let values = values_of c.args.values.now in
     faulty_step old (ColumnLine name c.args.whole values) c.column_fault-fault.result
     (c.column_fault-fault.ensures ∙ sym (c.lines_have_tests.ensures.column old name c.args.whole values ∙ rules_are old name c.args.whole values)) c.if-is_none.ensures
+
+pub put_column-requires-clause-passed : goal.put_column-requires-clause-passed
+put_column-requires-clause-passed c =
+    sym c.column_fault-fault.ensures ∙ no_fault c.column_fault-fault.result c.if-is_none.ensures

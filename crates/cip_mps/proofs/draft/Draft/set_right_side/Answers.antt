@@ -1,9 +1,10 @@
-use Rattle.std.proofs.Common.{◌≡◌, ◌<◌, List, true, length, refl, sym, subst, ◌∙◌}
+use Rattle.cip_mps.specs.DraftStates.{kept}
+use Rattle.std.proofs.Common.{◌≡◌, ◌<◌, List, true, length, refl, sym, subst, ◌∙◌, Option, ℕ, ap}
 use Rattle.std.specs.Prelude.{slice_index_or}
 use Rattle.std.specs.List.{filter, list_all}
 use Rattle.std.proofs.Math.ListN.{length-set}
 use Rattle.cip_text_rules.specs.MpsState.{RowRead, no_row, is_kept}
-use Rattle.cip_text_rules.specs.MpsSteps.{with_right_side}
+use Rattle.cip_text_rules.specs.MpsSteps.{with_right_side, changed}
 use Rattle.cip_text_rules.specs.MpsSoundState.{held_below}
 use Rattle.cip_mps.proofs.RowLaws.{changed_counted, changed_below}
 use Rattle.cip_mps.proofs.draft.Draft.set_right_side.Goals as goal
@@ -25,3 +26,14 @@ invariant_of-self c =
       few_entries = self.few_entries;
       rows_below = subst (λ (rows : List RowRead). list_all (λ row. held_below n row.held) rows ≡ true) new (changed_below n self.rows number put (λ row below. below) self.rows_below);
     }
+
+pub returns-in-Some : goal.returns-in-Some
+returns-in-Some c =
+    let self = c.args.self.now in
+    let more = c.set_right_side.ensures ∙ ap (λ (row : Option ℕ). changed no_row self.rows row (with_right_side c.args.value)) (sym c.in-Some.is) in
+    λ i. record (kept self) { rows = more i }
+
+pub returns-in_default : goal.returns-in_default
+returns-in_default c =
+    let self = c.args.self.now in
+    ap (λ (row : Option ℕ). record (kept self) { rows = changed no_row self.rows row (with_right_side c.args.value) }) (sym c.in_default.is)

@@ -5,3 +5,6 @@ use Rattle.cip_mps.proofs.line_reader.LineReader.take.Goals as goal
 
 pub returns-else-is_none-clause-kinds : goal.returns-else-is_none-clause-kinds
 returns-else-is_none-clause-kinds c = kind_to (kept c.args.self.now.draft) (saying_of c.args.line.now) c.in_ok-kind.kind c.in_ok-kind.ensures.is_fault
+
+pub returns-in_ok-move_behind-clause-kinds : goal.returns-in_ok-move_behind-clause-kinds
+returns-in_ok-move_behind-clause-kinds c = kind_to (kept c.args.self.now.draft) (saying_of c.args.line.now) c.in_ok-kind.kind c.in_ok-kind.ensures.is_fault

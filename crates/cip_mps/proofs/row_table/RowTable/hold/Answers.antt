@@ -1,3 +1,4 @@
+use Rattle.cip_mps.proofs.RowLaws.{always_err}
 use Rattle.std.proofs.Common.{◌+◌, ◌/◌, List, Some, ap, sym, subst, ◌∙◌, arith}
 use Rattle.std.specs.Prelude.{slice_set}
 use Rattle.cip_text_rules.specs.MpsState.{RowRead, no_row}
@@ -5,7 +6,7 @@ use Rattle.cip_text_rules.specs.MpsSteps.{changed, with_held}
 use Rattle.cip_text_rules.specs.MpsSoundState.{held_below}
 use Rattle.cip_mps.specs.Entries.{Entry}
 use Rattle.cip_mps.specs.Tables.{IsSoundTable, rows_of}
-use Rattle.cip_mps.proofs.TableLaws.{within, has_group, held_is, numbers_are, group_pushed, rows_held, sound_held}
+use Rattle.cip_mps.proofs.TableLaws.{within, has_group, held_is, numbers_are, group_pushed, rows_held, sound_held, group_same}
 use Rattle.cip_mps.proofs.row_table.RowTable.hold.Goals as goal
 
 pub index_mut-group-requires : goal.index_mut-group-requires
@@ -47,3 +48,19 @@ returns-clause-ok c =
     ap (λ (g : List Entry). rows_of heads (slice_set groups (number / 64) g)) pushed
     ∙ rows_held number c.args.column c.args.value heads groups there group
     ∙ ap (λ (rs : List RowRead). changed no_row rs (Some number) (with_held c.args.column c.args.value)) c.self.view_is
+
+pub invariant_of-self : goal.invariant_of-self
+invariant_of-self c =
+    let heads = c.self.inside.heads.items in
+    let groups = c.self.inside.groups.items in
+    let there = has_group heads groups c.args.self.now c.args.number c.self.view_is c.requires.within c.self.invariant.enough in
+    let same = group_same groups (c.args.number / 64) c.index_mut-group.result.now c.push.new.self there c.index_mut-group.ensures.value c.in_err-push.ensures.err in
+    subst (λ (gs : List (List Entry)). IsSoundTable c.self.inside.held_to.items heads gs) (sym same) c.self.invariant
+
+pub returns-in_err-push-clause-err : goal.returns-in_err-push-clause-err
+returns-in_err-push-clause-err c =
+    let heads = c.self.inside.heads.items in
+    let groups = c.self.inside.groups.items in
+    let there = has_group heads groups c.args.self.now c.args.number c.self.view_is c.requires.within c.self.invariant.enough in
+    let same = group_same groups (c.args.number / 64) c.index_mut-group.result.now c.push.new.self there c.index_mut-group.ensures.value c.in_err-push.ensures.err in
+    always_err c.from_residual.result (ap (rows_of heads) same ∙ c.self.view_is)

@@ -1,9 +1,9 @@
-use Rattle.std.proofs.Common.{◌*◌, ◌<◌, ◌≤◌, ℕ, List, [], ◌∷◌, ◌++◌, length, refl, ap, ◌∙◌, arith}
+use Rattle.std.proofs.Common.{◌≡◌, ◌*◌, ◌<◌, ◌≤◌, ℕ, List, [], ◌∷◌, ◌++◌, length, refl, ap, ◌∙◌, arith}
 use Rattle.cip_mps_lines.specs.MpsKinds.{row_kind_in}
 use Rattle.cip_text_rules.specs.MpsState.{RowRead}
 use Rattle.cip_text_rules.specs.MpsSteps.{new_row}
 use Rattle.cip_mps.specs.Tables.{rows_of}
-use Rattle.cip_mps.proofs.TableLaws.{rows_pushed, sound_kept, sound_others, sound_pushed}
+use Rattle.cip_mps.proofs.TableLaws.{rows_pushed, sound_kept, sound_others, sound_pushed, same_rows}
 use Rattle.cip_mps.proofs.row_table.RowTable.push.Goals as goal
 
 pub returns-clause-ok : goal.returns-clause-ok
@@ -12,7 +12,7 @@ returns-clause-ok c =
     let groups = c.self.inside.groups.items in
     let others = c.make_group.new.groups.items in
     let kind = row_kind_in c.args.kind in
-    let more = c.push_head.ensures ∙ ap (λ (hs : List RowRead). hs ++ c.new.result ∷ []) c.in-Ok.ensures.items ∙ ap (λ (h : RowRead). heads ++ h ∷ []) c.new.ensures in
+    let more : c.push_reserved.new.self.items ≡ heads ++ new_row kind ∷ [] = c.push_reserved.ensures.items ∙ ap (λ (hs : List RowRead). hs ++ c.new.result ∷ []) c.in-Ok.ensures.items ∙ ap (λ (h : RowRead). heads ++ h ∷ []) c.new.ensures in
     ap (λ (hs : List RowRead). rows_of hs others) more ∙ rows_pushed c.self.inside.held_to.items heads groups others kind c.self.invariant c.in-Ok-make_group.ensures.same
     ∙ ap (λ (rs : List RowRead). rs ++ new_row kind ∷ []) c.self.view_is
 
@@ -42,7 +42,20 @@ invariant_of-self-2 c =
     let groups = c.self.inside.groups.items in
     let others = c.make_group.new.groups.items in
     let room : length heads < 64 * length others = omega (arith, c.in-Ok-make_group.ensures.room, c.len-number.ensures, c.self.inside.heads.ok.0) in
-    let more = c.push_head.ensures ∙ ap (λ (hs : List RowRead). hs ++ c.new.result ∷ []) c.in-Ok.ensures.items in
-    let ends = c.push_end.ensures ∙ ap (λ (ns : List ℕ). ns ++ 0 ∷ []) c.in-Ok-reserve.ensures.items in
-    sound_kept (held_to ++ 0 ∷ []) c.push_end.new.held_to.items (heads ++ c.new.result ∷ []) c.push_head.new.heads.items others ends more
+    let more : c.push_reserved.new.self.items ≡ heads ++ c.new.result ∷ [] = c.push_reserved.ensures.items ∙ ap (λ (hs : List RowRead). hs ++ c.new.result ∷ []) c.in-Ok.ensures.items in
+    let ends : c.push_reserved-2.new.self.items ≡ held_to ++ 0 ∷ [] = c.push_reserved-2.ensures.items ∙ ap (λ (ns : List ℕ). ns ++ 0 ∷ []) c.in-Ok-reserve.ensures.items in
+    sound_kept (held_to ++ 0 ∷ []) c.push_reserved-2.new.self.items (heads ++ c.new.result ∷ []) c.push_reserved.new.self.items others ends more
     (sound_pushed held_to heads groups others c.new.result c.self.invariant c.in-Ok-make_group.ensures.same room)
+
+pub returns-in_default-make_group-clause-err : goal.returns-in_default-make_group-clause-err
+returns-in_default-make_group-clause-err c =
+    let others = c.make_group.new.groups.items in
+    ap (λ (hs : List RowRead). rows_of hs others) c.in-Ok.ensures.items ∙ same_rows c.self.inside.heads.items c.self.inside.groups.items others c.in_default-make_group.ensures.same ∙ c.self.view_is
+
+pub returns-in_default-reserve-clause-err : goal.returns-in_default-reserve-clause-err
+returns-in_default-reserve-clause-err c =
+    ap (λ (hs : List RowRead). rows_of hs c.self.inside.groups.items) c.in-Ok.ensures.items ∙ c.self.view_is
+
+pub returns-in_default-clause-err : goal.returns-in_default-clause-err
+returns-in_default-clause-err c =
+    ap (λ (hs : List RowRead). rows_of hs c.self.inside.groups.items) c.in_default.ensures.items ∙ c.self.view_is

@@ -1,0 +1,14 @@
+use Rattle.cip_text.specs.TextLines.{fields_left}
+use Rattle.cip_mps.proofs.TakenLaws.{faulty_step, section_is}
+use Rattle.cip_text_rules.specs.MpsSayings.{Opens}
+use Rattle.cip_mps_lines.specs.MpsKinds.{part_of}
+use Rattle.cip_mps.specs.DraftStates.{kept}
+use Rattle.std.proofs.Common.{sym, ◌∙◌}
+use Rattle.cip_mps.proofs.draft.Draft.read_section.Goals as goal
+
+pub returns-else-is_none : goal.returns-else-is_none
+returns-else-is_none c =
+    let old = kept c.args.self.now in
+    let part = part_of c.args.part in
+    let words = fields_left c.args.words.now in
+    faulty_step old (Opens part words) c.section_fault-fault.result (c.section_fault-fault.ensures ∙ sym (section_is c.lines_have_tests.ensures old part words)) c.if-is_none.ensures
