@@ -13,7 +13,7 @@ use cip_roster::Seated;
 use std::alloc::{AllocError, Global};
 
 /// What all plugins of a kind are asked for, one after the other, and where it is so the handlers behind them.
-#[derive(Clone, Copy, PartialEq, Eq)]
+#[derive(Clone, Copy)]
 pub enum Round {
     /// Cuts, of separators and handlers.
     Cuts,
@@ -24,7 +24,7 @@ pub enum Round {
 }
 
 /// What plugins are asked for until one gives it.
-#[derive(Clone, Copy, PartialEq, Eq)]
+#[derive(Clone, Copy)]
 pub enum Turn {
     /// A split, of branching rules.
     Split,

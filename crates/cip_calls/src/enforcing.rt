@@ -14,7 +14,7 @@ use cip_tree::Node;
 use std::alloc::{AllocError, Global};
 
 /// What handlers said of the point of a node's last linear program.
-#[derive(Clone, Copy, PartialEq, Eq)]
+#[derive(Clone, Copy)]
 pub enum Verdict {
     /// No answer was accepted but words: all handlers were asked, and nothing has changed.
     Quiet,

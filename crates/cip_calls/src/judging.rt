@@ -22,7 +22,7 @@ use cip_tree::Node;
 use std::alloc::AllocError;
 
 /// What became of proposals.
-#[derive(Clone, Copy, PartialEq, Eq)]
+#[derive(Clone, Copy)]
 pub enum Came {
     /// None was accepted.
     Quiet,
@@ -82,18 +82,10 @@ fn sides_at(core: &Core<'_>, col: u32) -> Option<Sides> {
     core.bounds().as_slice().get(col as usize).copied()
 }
 
-/// What is told of a cut that was judged at a node.
-fn cut_event(node: u64, came: &Judged) -> Option<Event> {
+/// What is told of a cut or a point that was judged at a node: this, where it was accepted.
+fn event_of(node: u64, came: &Judged, accepted: EventKind) -> Option<Event> {
     match came {
-        Judged::Accepted => Some(Event::at(node, EventKind::RowAdded)),
-        _ => None,
-    }
-}
-
-/// What is told of a point that was judged at a node.
-fn point_event(node: u64, came: &Judged) -> Option<Event> {
-    match came {
-        Judged::Accepted => Some(Event::at(node, EventKind::BestSolFound)),
+        Judged::Accepted => Some(Event::at(node, accepted)),
         Judged::NotBetter => Some(Event::at(node, EventKind::PoorSolFound)),
         _ => None,
     }
@@ -169,7 +161,7 @@ impl<R: Asks> Plugins<R> {
     {
         self.judged.reserve(1)?;
         let came = judge_cut(core, node, cut, &mut self.scratches)?;
-        self.finish(id, &came, cut_event(node.id(), &came))?;
+        self.finish(id, &came, event_of(node.id(), &came, EventKind::RowAdded))?;
         Ok(came)
     }
 
@@ -217,7 +209,11 @@ impl<R: Asks> Plugins<R> {
     {
         self.judged.reserve(1)?;
         let came = judge_guess(self.alloc, core, node, guess)?;
-        self.finish(id, &came, point_event(node.id(), &came))?;
+        self.finish(
+            id,
+            &came,
+            event_of(node.id(), &came, EventKind::BestSolFound),
+        )?;
         keep_guess(self.alloc, &mut self.guess, guess, &came)?;
         Ok(came)
     }

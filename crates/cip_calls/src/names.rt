@@ -4,14 +4,7 @@ use cip_cert::{CutFault, SplitFormFault};
 use cip_core::{PostsolveFault, Verdict};
 use cip_tree::SplitFault;
 
-fn node_fault_name(fault: NodeFault) -> &'static str {
-    match fault {
-        NodeFault::BadLength => "BadLength",
-        NodeFault::NoSuchColumn => "NoSuchColumn",
-        NodeFault::TooFar => "TooFar",
-    }
-}
-
+/// The name of a fault of a check.
 fn cut_fault_name(fault: CutFault) -> &'static str {
     match fault {
         CutFault::TooLong => "TooLong",
@@ -27,55 +20,33 @@ fn cut_fault_name(fault: CutFault) -> &'static str {
     }
 }
 
-fn form_fault_name(fault: SplitFormFault) -> &'static str {
-    match fault {
-        SplitFormFault::FormOrder { .. } => "FormOrder",
-        SplitFormFault::UnknownColumn { .. } => "UnknownColumn",
-        SplitFormFault::NotWhole { .. } => "NotWhole",
-        SplitFormFault::Negative { .. } => "Negative",
-        SplitFormFault::FormWide => "FormWide",
-        SplitFormFault::Left(inner) => cut_fault_name(inner),
-        SplitFormFault::Right(inner) => cut_fault_name(inner),
-        SplitFormFault::Differs { .. } => "Differs",
-    }
-}
-
-fn split_fault_name(fault: SplitFault) -> &'static str {
-    match fault {
-        SplitFault::NotWhole => "NotWhole",
-        SplitFault::Outside => "Outside",
-        SplitFault::NoMemory => "NoMemory",
-    }
-}
-
-fn postsolve_fault_name(fault: PostsolveFault) -> &'static str {
-    match fault {
-        PostsolveFault::Wide => "Wide",
-        PostsolveFault::NoMemory => "NoMemory",
-    }
-}
-
-fn verdict_name(verdict: Verdict) -> &'static str {
-    match verdict {
-        Verdict::Feasible(_) => "Feasible",
-        Verdict::BreaksBound { .. } => "BreaksBound",
-        Verdict::BreaksWhole { .. } => "BreaksWhole",
-        Verdict::BreaksRow { .. } => "BreaksRow",
-        Verdict::Wide { .. } => "Wide",
-    }
-}
-
 impl JudgeFault {
     /// The name of the fault, as a trace shows it: of a fault that holds another, the inner one's.
     pub fn name(self) -> &'static str {
         match self {
-            JudgeFault::Node(inner) => node_fault_name(inner),
+            JudgeFault::Node(NodeFault::BadLength) => "BadLength",
+            JudgeFault::Node(NodeFault::NoSuchColumn) => "NoSuchColumn",
+            JudgeFault::Node(NodeFault::TooFar) => "TooFar",
             JudgeFault::Check(inner) => cut_fault_name(inner),
             JudgeFault::Full => "Full",
-            JudgeFault::Postsolve(inner) => postsolve_fault_name(inner),
-            JudgeFault::Offer(inner) => verdict_name(inner),
-            JudgeFault::Split(inner) => split_fault_name(inner),
-            JudgeFault::SplitForm(inner) => form_fault_name(inner),
+            JudgeFault::Postsolve(PostsolveFault::Wide) => "Wide",
+            JudgeFault::Postsolve(PostsolveFault::NoMemory) => "NoMemory",
+            JudgeFault::Offer(Verdict::Feasible(_)) => "Feasible",
+            JudgeFault::Offer(Verdict::BreaksBound { .. }) => "BreaksBound",
+            JudgeFault::Offer(Verdict::BreaksWhole { .. }) => "BreaksWhole",
+            JudgeFault::Offer(Verdict::BreaksRow { .. }) => "BreaksRow",
+            JudgeFault::Offer(Verdict::Wide { .. }) => "Wide",
+            JudgeFault::Split(SplitFault::NotWhole) => "NotWhole",
+            JudgeFault::Split(SplitFault::Outside) => "Outside",
+            JudgeFault::Split(SplitFault::NoMemory) => "NoMemory",
+            JudgeFault::SplitForm(SplitFormFault::FormOrder { .. }) => "FormOrder",
+            JudgeFault::SplitForm(SplitFormFault::UnknownColumn { .. }) => "UnknownColumn",
+            JudgeFault::SplitForm(SplitFormFault::NotWhole { .. }) => "NotWhole",
+            JudgeFault::SplitForm(SplitFormFault::Negative { .. }) => "Negative",
+            JudgeFault::SplitForm(SplitFormFault::FormWide) => "FormWide",
+            JudgeFault::SplitForm(SplitFormFault::Left(inner)) => cut_fault_name(inner),
+            JudgeFault::SplitForm(SplitFormFault::Right(inner)) => cut_fault_name(inner),
+            JudgeFault::SplitForm(SplitFormFault::Differs { .. }) => "Differs",
         }
     }
 }

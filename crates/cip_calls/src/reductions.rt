@@ -22,18 +22,11 @@ use cip_plugin::Reduction;
 use cip_tree::Node;
 use std::alloc::AllocError;
 
-/// Whether a number has a size above 2^100.
-fn is_beyond(number: i128) -> bool
-    ensures { result ≡ nat_lt (2 ^ 100) (unsigned_abs number) }
-{
-    1 << 100 < number.unsigned_abs()
-}
-
 /// Whether a value has a size above 2^100.
 fn is_far(value: Frac) -> bool
     ensures { result ≡ is_far_away value }
 {
-    is_beyond(value.ceil()) || is_beyond(value.floor())
+    1 << 100 < value.ceil().unsigned_abs() || 1 << 100 < value.floor().unsigned_abs()
 }
 
 /// What a value for a side names that isn't there, or is too far away.
@@ -47,29 +40,6 @@ fn side_fault(program: &Program, col: u32, value: Frac) -> Option<NodeFault>
         return Some(NodeFault::TooFar);
     }
     None
-}
-
-/// Checks that a side follows in the box in work.
-fn checked(core: &Core<'_>, told: &Reduction, scratch: &mut Scratch) -> Result<Frac, CutFault>
-    requires long { length core.now.tree.work.box ≡ columns (reduced_of core.now) }
-    requires inside { told.now.col < columns (reduced_of core.now) }
-    requires room { length scratch.old.row.entries ≡ columns (reduced_of core.now) }
-    ensures answer { result ≡ side_checked core.now told.now.col told.now.side told.now.value
-        (multiples_of told.now.combo) }
-    ensures follows { IsOk result → HoldsInBox (reduced_of core.now) (held_of core.now) core.now.tree.work.box
-        (λ point. Meets point (side_change told.now.col told.now.side told.now.value)) }
-    ensures room { length scratch.new.row.entries ≡ length scratch.old.row.entries }
-{
-    core.is_sound();
-    reduction(
-        &core.rows(),
-        core.bounds(),
-        told.col,
-        told.side,
-        told.value,
-        &told.combo,
-        scratch,
-    )
 }
 
 /// Why a side that is proposed is refused: by what it names, or else by the check of its combination.
@@ -86,7 +56,15 @@ fn refusal(core: &Core<'_>, told: &Reduction, scratch: &mut Scratch) -> Option<J
     if let Some(fault) = side_fault(core.reduced(), told.col, told.value) {
         return Some(JudgeFault::Node(fault));
     }
-    match checked(core, told, scratch) {
+    match reduction(
+        &core.rows(),
+        core.bounds(),
+        told.col,
+        told.side,
+        told.value,
+        &told.combo,
+        scratch,
+    ) {
         Err(fault) => Some(JudgeFault::Check(fault)),
         Ok(_) => None,
     }

@@ -1,5 +1,5 @@
 //! Branching rules are asked where a node is split.
-ghost use Rattle.std.specs.Prelude.{◌≡◌, true, IfOk, IfSome, OnOk, IsSome, is_some, slice_get, if◌then◌else◌};
+ghost use Rattle.std.specs.Prelude.{◌≡◌, IfOk, IfSome, OnOk, IsSome, is_some, slice_get, if◌then◌else◌};
 ghost use Rattle.cip_plugin.specs.Asking.{answer_of};
 ghost use Rattle.cip_plugin.specs.Calls.{Branch};
 ghost use Rattle.cip_calls.specs.Turns.{IsSound};
@@ -69,32 +69,8 @@ fn came_of_split(refusal: Option<JudgeFault>) -> Judged {
     }
 }
 
-/// Judges a split of the plugin of a number, and writes down what became of it; whether it was accepted. `Err` comes
-/// where memory was refused.
-pub(crate) fn take_split<R: Asks>(
-    plugins: &mut Plugins<R>,
-    core: &Core<'_>,
-    node: &Node,
-    id: u32,
-    split: Split,
-) -> Result<bool, AllocError>
-    requires at_work { IsAtWork core.now node.now }
-    requires sound { IsSound (R.state plugins.old.roster) (R.room plugins.old.roster) }
-    requires seat { IsSome (slice_get (R.state plugins.old.roster).seats id) }
-    ensures sound { IsSound (R.state plugins.new.roster) (R.room plugins.new.roster) }
-    ensures noted { HasNoted (R.state plugins.old.roster) (R.state plugins.new.roster) }
-    ensures judged { OnOk result (HasJudged id 1 plugins.old.judged.items plugins.new.judged.items) }
-    ensures scratches { plugins.new.scratches ≡ plugins.old.scratches }
-    ensures place { IfOk result (λ is_place. is_place ≡ true → IsPlace core.now split.col split.at) }
-{
-    plugins.judged.reserve(1)?;
-    let refusal = split_refusal(core, node, split);
-    plugins.finish(id, &came_of_split(refusal), None)?;
-    Ok(refusal.is_none())
-}
-
-/// Judges the split that a rule gave, if it gave one: which, where it is accepted. `Err` comes where memory was
-/// refused.
+/// Judges the split that a rule gave, if it gave one, and writes down what became of it: which, where it is accepted.
+/// `Err` comes where memory was refused.
 fn take_rule<R: Asks>(
     plugins: &mut Plugins<R>,
     core: &Core<'_>,
@@ -112,16 +88,16 @@ fn take_rule<R: Asks>(
     ensures scratches { plugins.new.scratches ≡ plugins.old.scratches }
     ensures place { IfOk result (λ found. IfSome found (λ split. IsPlace core.now split.col split.at)) }
 {
-    match given {
-        None => Ok(None),
-        Some(split) => {
-            let is_place = take_split(plugins, core, node, id, split)?;
-            if is_place {
-                return Ok(Some(split));
-            }
-            Ok(None)
-        }
+    let Some(split) = given else {
+        return Ok(None);
+    };
+    plugins.judged.reserve(1)?;
+    let refusal = split_refusal(core, node, split);
+    plugins.finish(id, &came_of_split(refusal), None)?;
+    if refusal.is_none() {
+        return Ok(Some(split));
     }
+    Ok(None)
 }
 
 /// Asks branching rules where a node in work is split, by falling priority and rising number, until one gives a split

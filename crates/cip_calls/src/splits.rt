@@ -24,26 +24,6 @@ pub enum Parted {
     Whole(Node, JudgeFault),
 }
 
-/// Whether a number has a size of at most 2^100.
-fn is_near(at: i128) -> bool
-    ensures { IsTrue result ↔ (unsigned_abs at ≤ 2 ^ 100) }
-{
-    at.unsigned_abs() <= 1 << 100
-}
-
-/// What a split names that isn't there, or is too far away.
-fn misnamed(core: &Core<'_>, split: Split) -> Option<NodeFault>
-    ensures { MatchOption result (IsNamed core.now split.col split.at) (IsMisnamed core.now split.col split.at) }
-{
-    if split.col as usize >= core.reduced().columns() {
-        return Some(NodeFault::NoSuchColumn);
-    }
-    if !is_near(split.at) {
-        return Some(NodeFault::TooFar);
-    }
-    None
-}
-
 /// Why the region in work can't be split at a place that is there.
 fn no_place(core: &Core<'_>, split: Split) -> Option<SplitFault>
     requires named { IsNamed core.now split.col split.at }
@@ -69,21 +49,6 @@ fn no_place(core: &Core<'_>, split: Split) -> Option<SplitFault>
     }
 }
 
-/// Why a split is refused.
-fn refusal(core: &Core<'_>, split: Split) -> Option<JudgeFault>
-    requires long { length core.now.tree.work.box ≡ columns (reduced_of core.now) }
-    ensures { MatchOption result (IsPlace core.now split.col split.at)
-        (IsSplitRefused core.now split.col split.at) }
-{
-    if let Some(fault) = misnamed(core, split) {
-        return Some(JudgeFault::Node(fault));
-    }
-    match no_place(core, split) {
-        None => None,
-        Some(fault) => Some(JudgeFault::Split(fault)),
-    }
-}
-
 /// Why a node in work can't be split at a place. `None` comes exactly where the column is one of the reduced program's,
 /// the number has a size of at most 2^100, and the column is whole and plain with a whole value on both sides of the
 /// number, or isn't whole and its choice is open; else the first of these that fails. Nothing changes.
@@ -94,7 +59,16 @@ pub fn split_refusal(core: &Core<'_>, node: &Node, split: Split) -> Option<Judge
 {
     let _ = node;
     core.is_sound();
-    refusal(core, split)
+    if split.col as usize >= core.reduced().columns() {
+        return Some(JudgeFault::Node(NodeFault::NoSuchColumn));
+    }
+    if split.at.unsigned_abs() > 1 << 100 {
+        return Some(JudgeFault::Node(NodeFault::TooFar));
+    }
+    match no_place(core, split) {
+        None => None,
+        Some(fault) => Some(JudgeFault::Split(fault)),
+    }
 }
 
 /// Judges a split of a node in work, each of whose whole columns has a whole value. It is made exactly where the column

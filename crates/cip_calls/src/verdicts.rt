@@ -1,17 +1,18 @@
 //! What a handler says of a point is judged.
-ghost use Rattle.std.specs.Prelude.{◌≡◌, IfOk, OnOk, IsSome, is_some, slice_get, if◌then◌else◌};
+ghost use Rattle.std.specs.Prelude.{◌≡◌, length, IfOk, OnOk, IsSome, is_some, slice_get, if◌then◌else◌};
+ghost use Rattle.cip_problem.specs.WellFormed.{columns};
 ghost use Rattle.cip_plugin.specs.Asking.{answer_of};
 ghost use Rattle.cip_plugin.specs.Calls.{Enforce};
 ghost use Rattle.cip_calls.specs.Turns.{IsSound};
+ghost use Rattle.cip_calls.specs.CoreStates.{reduced_of, IsAtWork};
 ghost use Rattle.cip_calls.specs.Noted.{IsReady, HasGone, HasJudged};
 ghost use Rattle.cip_calls.specs.Served.{count_for};
 ghost use Rattle.cip_calls.specs.Enforcing.{made, IsVerdict};
 
 use crate::enforcing::Verdict;
-use crate::rules::take_split;
-use crate::{Asks, Core, Judged, Plugins, judge_cutoff};
-use cip_lin::Combo;
-use cip_plugin::{Cut, Enforced, Given, Reduction, Split};
+use crate::{Asks, Core, Judged, Plugins, judge_cutoff, split_refusal};
+use cip_cert::Scratch;
+use cip_plugin::{Cut, Enforced, Given, Reduction};
 use cip_tree::Node;
 use std::alloc::AllocError;
 
@@ -55,28 +56,29 @@ pub(crate) fn said_of(given: Option<Given>) -> Option<Enforced>
     }
 }
 
-/// Judges a combination by which a node is to be empty. `Err` comes where memory was refused.
-fn take_cutoff<R: Asks>(
-    plugins: &mut Plugins<R>,
-    core: &mut Core<'_>,
-    node: &mut Node,
-    id: u32,
-    combo: &Combo,
-) -> Result<Verdict, AllocError>
-    requires ready { IsReady core.old node.old plugins.old.scratches }
-    requires sound { IsSound (R.state plugins.old.roster) (R.room plugins.old.roster) }
-    requires seat { IsSome (slice_get (R.state plugins.old.roster).seats id) }
-    ensures gone { HasGone core.old node.old (R.state plugins.old.roster) core.new node.new plugins.new.scratches
-        (R.state plugins.new.roster) (R.room plugins.new.roster) }
-    ensures judged { OnOk result (HasJudged id 1 plugins.old.judged.items plugins.new.judged.items) }
-    ensures verdict { IfOk result (IsVerdict core.old core.new node.old node.new) }
+/// Judges a combination by which a node is to be empty, a split, which is not made here, and a word, which changes
+/// nothing: what is written down of it, and what it comes to.
+fn judge_word(
+    core: &Core<'_>,
+    node: &Node,
+    said: &Enforced,
+    scratch: &mut Scratch,
+) -> (Judged, Verdict)
+    requires at_work { IsAtWork core.now node.now }
+    requires room { length scratch.old.row.entries ≡ columns (reduced_of core.now) }
+    ensures verdict { IsVerdict core.now core.now node.now node.now result.1 }
+    ensures scratch { length scratch.new.row.entries ≡ length scratch.old.row.entries }
 {
-    plugins.judged.reserve(1)?;
-    let came = judge_cutoff(core, node, combo, &mut plugins.scratches.first);
-    plugins.finish(id, &came, None)?;
-    match came {
-        Judged::Emptied => Ok(Verdict::Emptied),
-        _ => Ok(Verdict::Quiet),
+    match said {
+        Enforced::Cutoff(combo) => match judge_cutoff(core, node, combo, scratch) {
+            Judged::Emptied => (Judged::Emptied, Verdict::Emptied),
+            came => (came, Verdict::Quiet),
+        },
+        Enforced::Branched(split) => match split_refusal(core, node, *split) {
+            None => (Judged::Accepted, Verdict::Place(*split)),
+            Some(fault) => (Judged::Refused(fault), Verdict::Quiet),
+        },
+        _ => (Judged::Accepted, Verdict::Quiet),
     }
 }
 
@@ -125,50 +127,27 @@ fn take_separated<R: Asks>(
     }
 }
 
-/// Judges a split, which is not made here. `Err` comes where memory was refused.
-fn take_branched<R: Asks>(
-    plugins: &mut Plugins<R>,
-    core: &mut Core<'_>,
-    node: &mut Node,
-    id: u32,
-    split: Split,
-) -> Result<Verdict, AllocError>
-    requires ready { IsReady core.old node.old plugins.old.scratches }
-    requires sound { IsSound (R.state plugins.old.roster) (R.room plugins.old.roster) }
-    requires seat { IsSome (slice_get (R.state plugins.old.roster).seats id) }
-    ensures gone { HasGone core.old node.old (R.state plugins.old.roster) core.new node.new plugins.new.scratches
-        (R.state plugins.new.roster) (R.room plugins.new.roster) }
-    ensures judged { OnOk result (HasJudged id 1 plugins.old.judged.items plugins.new.judged.items) }
-    ensures verdict { IfOk result (IsVerdict core.old core.new node.old node.new) }
-{
-    let is_place = take_split(plugins, core, node, id, split)?;
-    if is_place {
-        return Ok(Verdict::Place(split));
-    }
-    Ok(Verdict::Quiet)
-}
-
-/// Writes down that a handler said whether the point keeps its rows, which changes nothing. `Err` comes where memory
-/// was refused.
+/// Judges what a handler says of a point that is neither a side nor a row, and writes down what became of it, which
+/// changes nothing else. `Err` comes where memory was refused.
 fn take_word<R: Asks>(
     plugins: &mut Plugins<R>,
-    core: &mut Core<'_>,
-    node: &mut Node,
+    core: &Core<'_>,
+    node: &Node,
     id: u32,
+    said: &Enforced,
 ) -> Result<Verdict, AllocError>
-    requires ready { IsReady core.old node.old plugins.old.scratches }
+    requires ready { IsReady core.now node.now plugins.old.scratches }
     requires sound { IsSound (R.state plugins.old.roster) (R.room plugins.old.roster) }
     requires seat { IsSome (slice_get (R.state plugins.old.roster).seats id) }
-    ensures gone { HasGone core.old node.old (R.state plugins.old.roster) core.new node.new plugins.new.scratches
+    ensures gone { HasGone core.now node.now (R.state plugins.old.roster) core.now node.now plugins.new.scratches
         (R.state plugins.new.roster) (R.room plugins.new.roster) }
     ensures judged { OnOk result (HasJudged id 1 plugins.old.judged.items plugins.new.judged.items) }
-    ensures verdict { IfOk result (IsVerdict core.old core.new node.old node.new) }
+    ensures verdict { IfOk result (IsVerdict core.now core.now node.now node.now) }
 {
-    let _ = core;
-    let _ = node;
     plugins.judged.reserve(1)?;
-    plugins.finish(id, &Judged::Accepted, None)?;
-    Ok(Verdict::Quiet)
+    let (came, verdict) = judge_word(core, node, said, &mut plugins.scratches.first);
+    plugins.finish(id, &came, None)?;
+    Ok(verdict)
 }
 
 /// Judges what a handler says of a point, each as its own call does. `Err` comes where memory was refused.
@@ -188,12 +167,9 @@ fn take_said<R: Asks>(
     ensures verdict { IfOk result (IsVerdict core.old core.new node.old node.new) }
 {
     match said {
-        Enforced::Cutoff(combo) => take_cutoff(plugins, core, node, id, combo),
         Enforced::Reduced(told) => take_reduced(plugins, core, node, id, told),
         Enforced::Separated(cut) => take_separated(plugins, core, node, id, cut),
-        Enforced::Branched(split) => take_branched(plugins, core, node, id, *split),
-        Enforced::Infeasible => take_word(plugins, core, node, id),
-        Enforced::Feasible => take_word(plugins, core, node, id),
+        _ => take_word(plugins, core, node, id, said),
     }
 }
 

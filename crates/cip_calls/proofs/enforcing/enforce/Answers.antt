@@ -1,3 +1,4 @@
+use Rattle.cip_calls.specs.Asked.{IsSeatedNext}
 use Rattle.std.proofs.Common.{[], ◌∷◌, refl, subst}
 use Rattle.cip_plugin.specs.Calls.{Enforce}
 use Rattle.cip_calls.specs.Waiting.{HasAskedNext}
@@ -75,3 +76,6 @@ returns-clause-all g c = λ _.
 
 pub returns-clause-verdict : goal.returns-clause-verdict
 returns-clause-verdict g c = c.loop-id.invariant.alone
+
+pub take_verdict-requires-clause-seat : goal.take_verdict-requires-clause-seat
+take_verdict-requires-clause-seat g c = subst (IsSeatedNext (g.R.Seated.state c.ask_next.new.self)) c.in-Some.is c.in_ok-id.ensures.seated

@@ -14,3 +14,12 @@ returns-clause-region c =
     let new = c.offer_at-taken.new.self in
     let work : new.tree.work ≡ old.tree.work = ap (λ (n : Nodes). n.work) (trimmed_is old.tree new.tree (held_of new) c.offer_at-taken.ensures.offered.trimmed) in
     sym c.offer_at-taken.ensures.later.at_work.region ∙ work ∙ c.requires.at_work.region
+
+pub offer_at-taken-requires-clause-values : goal.offer_at-taken-requires-clause-values
+offer_at-taken-requires-clause-values c = c.requires.values
+
+pub offer_at-taken-requires-clause-at_work : goal.offer_at-taken-requires-clause-at_work
+offer_at-taken-requires-clause-at_work c = c.requires.at_work
+
+pub offer_at-taken-requires-clause-found : goal.offer_at-taken-requires-clause-found
+offer_at-taken-requires-clause-found c = c.requires.found

@@ -1,4 +1,7 @@
-use Rattle.std.proofs.Common.{rules, refl}
+use Rattle.cip_core.specs.Verdicts.{verdict_of}
+use Rattle.cip_problem.specs.WellFormed.{columns}
+use Rattle.cip_problem.specs.Program.{Program}
+use Rattle.std.proofs.Common.{rules, refl, sym, ap, ◌∙◌}
 use Rattle.cip_core.proofs.Relations.{later_at_itself}
 use Rattle.cip_calls.proofs.guesses.judge_point.Goals as goal
 
@@ -10,3 +13,15 @@ returns-in_default c = record {
   region = refl;
   frame = refl;
 }
+
+pub hold-requires-clause-found : goal.hold-requires-clause-found
+hold-requires-clause-found c = ap (λ (p : Program). verdict_of p c.args.values.now) (sym c.program.ensures) ∙ sym c.check.ensures.verdict ∙ c.in-Feasible.is
+
+pub check-requires : goal.check-requires
+check-requires c = c.requires.values ∙ ap columns (sym c.program.ensures)
+
+pub hold-requires-clause-values : goal.hold-requires-clause-values
+hold-requires-clause-values c = c.requires.values
+
+pub hold-requires-clause-at_work : goal.hold-requires-clause-at_work
+hold-requires-clause-at_work c = c.requires.at_work

@@ -1,3 +1,5 @@
+use Rattle.cip_tree.specs.Nodes.{TakenNode}
+use Rattle.cip_core.specs.CoreStates.{CoreState, IsGivenBound}
 use Rattle.std.proofs.Common.{◌∙◌, sym, subst}
 use Rattle.cip_calls.specs.SplitsJudged.{IsSplitJudged}
 use Rattle.cip_calls.proofs.Going.{whole_goes_on, whole_judged}
@@ -12,3 +14,24 @@ returns-in-Whole-clause-ruled c =
       whole_judged core new c.args.node c.in-Whole.node c.args.proposal.now split c.in-Whole.fault (sym c.split_proposed.ensures ∙ c.in-Some.is) (record { core = h.0; node = h.1 }, h.2),
       whole_goes_on core new c.args.node c.in-Whole.node c.in-Whole.fault h.0 h.1 c.requires.at_work.0,
     )
+
+pub go_back-requires-clause-given : goal.go_back-requires-clause-given
+go_back-requires-clause-given c = 
+    let core = c.args.core.now in
+    let kept = subst (λ (n : TakenNode). IsGivenBound core n.number c.args.given) (sym c.in-Err.ensures.err.1) c.requires.given in
+    subst (λ (k : CoreState). IsGivenBound k c.judge_in_work.new.node.number c.args.given) (sym c.in-Err.ensures.err.0) kept
+
+pub judge_split-requires-clause-given : goal.judge_split-requires-clause-given
+judge_split-requires-clause-given c = c.requires.given
+
+pub judge_split-requires-clause-at_work : goal.judge_split-requires-clause-at_work
+judge_split-requires-clause-at_work c = c.requires.at_work
+
+pub judge_in_work-requires-clause-at_work : goal.judge_in_work-requires-clause-at_work
+judge_in_work-requires-clause-at_work c = c.requires.at_work.0
+
+pub judge_in_work-requires-clause-no_split : goal.judge_in_work-requires-clause-no_split
+judge_in_work-requires-clause-no_split c = sym c.split_proposed.ensures ∙ c.in_default.is
+
+pub judge_in_work-requires-clause-room : goal.judge_in_work-requires-clause-room
+judge_in_work-requires-clause-room c = c.requires.room

@@ -76,3 +76,9 @@ returns-clause-later c = c.tighten.ensures.later
 
 pub returns-clause-scratch : goal.returns-clause-scratch
 returns-clause-scratch c = c.refusal.ensures.room
+
+pub tighten-requires-clause-at_work : goal.tighten-requires-clause-at_work
+tighten-requires-clause-at_work c = c.requires.at_work
+
+pub refusal-requires-clause-room : goal.refusal-requires-clause-room
+refusal-requires-clause-room c = c.requires.room

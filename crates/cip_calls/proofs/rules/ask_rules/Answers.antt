@@ -1,3 +1,4 @@
+use Rattle.cip_calls.specs.Asked.{IsSeatedNext}
 use Rattle.std.proofs.Common.{refl, ◌∙◌, subst}
 use Rattle.cip_plugin.specs.Calls.{Branch}
 use Rattle.cip_calls.specs.Waiting.{HasAskedNext}
@@ -63,3 +64,9 @@ pub returns-clause-used : goal.returns-clause-used
 returns-clause-used g c =
     used_all Branch _ _ _ _ _ _ (λ s. refl) c.loop-id.invariant.so_far
     (end_next Branch _ _ _ _ c.in_default.not-Some c.in_ok-id.ensures.asked)
+
+pub take_rule-requires-clause-seat : goal.take_rule-requires-clause-seat
+take_rule-requires-clause-seat g c = subst (IsSeatedNext (g.R.Seated.state c.ask_next.new.self)) c.in-Some.is c.in_ok-id.ensures.seated
+
+pub take_rule-requires-clause-at_work : goal.take_rule-requires-clause-at_work
+take_rule-requires-clause-at_work g c = c.requires.at_work

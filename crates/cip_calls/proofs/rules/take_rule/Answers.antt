@@ -1,16 +1,19 @@
-use Rattle.std.proofs.Common.{refl}
-use Rattle.cip_calls.proofs.Noting.{noted_none}
-use Rattle.cip_calls.proofs.Said.{none_judged, one_judged}
+use Rattle.std.proofs.Common.{ℕ, List, refl, subst, arith}
+use Rattle.cip_calls.specs.declared.judged.Judged.{Judged}
+use Rattle.cip_calls.specs.Noted.{HasJudged}
+use Rattle.cip_calls.proofs.Said.{place_there, one_judged}
 use Rattle.cip_calls.proofs.rules.take_rule.Goals as goal
 
-pub returns-in-None-clause-noted : goal.returns-in-None-clause-noted
-returns-in-None-clause-noted g c = noted_none (g.R.Seated.state c.args.plugins.now.roster)
+pub returns-then-is_none-clause-place : goal.returns-then-is_none-clause-place
+returns-then-is_none-clause-place g c = place_there c.split_refusal-refusal.result c.is_none.result _ _ c.is_none.ensures c.split_refusal-refusal.ensures c.if-is_none.true
 
-pub returns-in-None-clause-judged : goal.returns-in-None-clause-judged
-returns-in-None-clause-judged g c = none_judged _ c.args.id c.args.given _ refl c.in-None.is
+pub returns-then-is_none-clause-judged : goal.returns-then-is_none-clause-judged
+returns-then-is_none-clause-judged g c = 
+    one_judged _ c.args.id c.args.given c.in-Some.split _ _ refl c.in-Some.is
+    (subst (λ (l : List (ℕ × Judged)). HasJudged c.args.id 1 l c.finish.new.self.judged.items) c.reserve.ensures.items c.finish.ensures.judged)
 
-pub returns-then-is_place-clause-judged : goal.returns-then-is_place-clause-judged
-returns-then-is_place-clause-judged g c = one_judged _ c.args.id c.args.given c.in-Some.split _ _ refl c.in-Some.is c.in_ok-is_place-in-Some.ensures.judged
+pub finish-requires-clause-room : goal.finish-requires-clause-room
+finish-requires-clause-room g c = omega (arith, c.reserve.ensures.len, c.in_ok-reserve.ensures.ok)
 
-pub returns-then-is_place-clause-place : goal.returns-then-is_place-clause-place
-returns-then-is_place-clause-place g c = c.in_ok-is_place-in-Some.ensures.place c.if-is_place.true
+pub split_refusal-refusal-requires : goal.split_refusal-refusal-requires
+split_refusal-refusal-requires g c = record { at_work = c.requires.at_work }

@@ -1,3 +1,4 @@
+use Rattle.cip_cert.specs.Pool.{AreRising}
 use Rattle.std.proofs.Common.{◌≡◌, ◌∙◌, if◌then◌else◌, length, refl, sym, ap, subst, arith}
 use Rattle.cip_problem.specs.Program.{Program}
 use Rattle.cip_problem.specs.Improving.{IsValid}
@@ -116,3 +117,6 @@ returns-in_ok-added-in-Ok-clause-judged c =
     let told = c.in_ok-added-in-Ok.added in
     subst (IsCutJudged core new cut local) (sym c.judged_row.ensures)
     (cut_judged core new cut local told (split_told core new cut local row c.split_rests_on_cutoff-rests.result told accepted rests c.in_ok-added-in-Ok.ensures.added))
+
+pub split_rests_on_cutoff-rests-requires : goal.split_rests_on_cutoff-rests-requires
+split_rests_on_cutoff-rests-requires c = subst (λ (l : Lent). AreRising l.pool) (sym c.rows.ensures.lent) c.is_sound.ensures.pool.rising

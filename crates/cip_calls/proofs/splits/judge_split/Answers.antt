@@ -10,3 +10,15 @@ split-requires-clause-place c =
     let region = c.requires.at_work.0.region in
     let placed = place.place in
     (c.requires.at_work.1, inside, search rules)
+
+pub split-requires-clause-at_work : goal.split-requires-clause-at_work
+split-requires-clause-at_work c = c.requires.at_work.0
+
+pub split-requires-clause-given : goal.split-requires-clause-given
+split-requires-clause-given c = c.requires.given
+
+pub split-requires-clause-wholes : goal.split-requires-clause-wholes
+split-requires-clause-wholes c = c.requires.wholes
+
+pub split_refusal-requires : goal.split_refusal-requires
+split_refusal-requires c = record { at_work = c.requires.at_work.0 }

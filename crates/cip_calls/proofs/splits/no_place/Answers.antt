@@ -1,9 +1,9 @@
-use Rattle.std.proofs.Common.{◌≡◌, inl, inr, true, false, Some, sym, ap, ◌∙◌, subst, to_z, of_z}
+use Rattle.std.proofs.Common.{◌≡◌, inl, inr, true, false, Some, sym, ap, ◌∙◌, subst, to_z, of_z, ◌<◌, length}
 use Rattle.std.specs.Int.{w128}
 use Rattle.cip_problem.specs.Program.{Program}
 use Rattle.cip_problem.specs.Choices.{choice_at, is_open}
 use Rattle.cip_problem.specs.Box.{sides_at}
-use Rattle.cip_problem.specs.WellFormed.{IsWellFormed}
+use Rattle.cip_problem.specs.WellFormed.{IsWellFormed, columns}
 use Rattle.cip_problem.specs.Log.{CanSplitAt}
 use Rattle.cip_domain.specs.Halves.{CanHalve}
 use Rattle.cip_core.specs.CoreStates.{reduced_of}
@@ -75,3 +75,10 @@ returns-else-is_open c =
     let kind = kind_of (reduced_of core) c.whole.result.now col false kinds (subst IsWellFormed c.reduced.ensures c.whole.ensures.formed) c.requires.named.inside c.if-whole.false in
     subst (λ x. ¬ CanSplitAt (choice_at core.tree.work.choices col) x) (sym kind)
     (subst (λ x. ¬ CanSplitAt x (Some false)) choice (continuous_not_splittable c.at-choice.result (sym c.is_open.ensures ∙ c.if-is_open.false)))
+
+pub sides-requires : goal.sides-requires
+sides-requires c = subst (λ n. c.args.split.col < n) (sym (ap length c.bounds.ensures ∙ c.requires.long)) c.requires.named.inside
+
+pub bounds-whole-split : goal.bounds-whole-split
+bounds-whole-split c = 
+    subst (λ n. c.args.split.col < n) (sym (ap length c.whole.ensures.whole ∙ c.whole.ensures.formed.integral ∙ ap columns c.reduced.ensures)) c.requires.named.inside

@@ -1,5 +1,5 @@
 use Rattle.cip_core.proofs.CoreSteps.{work_long}
 use Rattle.cip_calls.proofs.splits.split_refusal.Goals as goal
 
-pub refusal-requires : goal.refusal-requires
-refusal-requires c = record { long = work_long c.args.core.now c.args.node.now c.is_sound.ensures.reduced c.requires.at_work }
+pub no_place-requires-clause-long : goal.no_place-requires-clause-long
+no_place-requires-clause-long c = work_long c.args.core.now c.args.node.now c.is_sound.ensures.reduced c.requires.at_work

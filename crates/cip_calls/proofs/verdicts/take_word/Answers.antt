@@ -1,6 +1,13 @@
+use Rattle.std.proofs.Common.{refl, arith}
 use Rattle.cip_calls.proofs.Noting.{gone_none}
-use Rattle.cip_calls.proofs.Said.{gone_noted, ready_same, alone_none}
+use Rattle.cip_calls.proofs.Said.{gone_noted, ready_again, ready_same}
 use Rattle.cip_calls.proofs.verdicts.take_word.Goals as goal
+
+pub judge_word-came-requires-clause-at_work : goal.judge_word-came-requires-clause-at_work
+judge_word-came-requires-clause-at_work g c = c.requires.ready.at_work
+
+pub judge_word-came-requires-clause-room : goal.judge_word-came-requires-clause-room
+judge_word-came-requires-clause-room g c = c.requires.ready.room.first
 
 pub returns-in_err-reserve-clause-gone : goal.returns-in_err-reserve-clause-gone
 returns-in_err-reserve-clause-gone g c =
@@ -8,11 +15,13 @@ returns-in_err-reserve-clause-gone g c =
 
 pub returns-in_err-finish-clause-gone : goal.returns-in_err-finish-clause-gone
 returns-in_err-finish-clause-gone g c =
-    gone_noted c.args.core.now c.args.node.now _ _ _ _ (ready_same _ _ _ _ c.finish.ensures.scratches c.requires.ready) c.finish.ensures.sound c.finish.ensures.noted
+    gone_noted c.args.core.now c.args.node.now _ _ _ _
+    (ready_same _ _ _ _ c.finish.ensures.scratches (ready_again _ _ _ _ c.requires.ready c.judge_word-came.ensures.scratch refl)) c.finish.ensures.sound c.finish.ensures.noted
 
 pub returns-clause-gone : goal.returns-clause-gone
 returns-clause-gone g c =
-    gone_noted c.args.core.now c.args.node.now _ _ _ _ (ready_same _ _ _ _ c.finish.ensures.scratches c.requires.ready) c.finish.ensures.sound c.finish.ensures.noted
+    gone_noted c.args.core.now c.args.node.now _ _ _ _
+    (ready_same _ _ _ _ c.finish.ensures.scratches (ready_again _ _ _ _ c.requires.ready c.judge_word-came.ensures.scratch refl)) c.finish.ensures.sound c.finish.ensures.noted
 
-pub returns-clause-verdict : goal.returns-clause-verdict
-returns-clause-verdict g c = alone_none c.args.core.now c.args.node.now
+pub finish-requires-clause-room : goal.finish-requires-clause-room
+finish-requires-clause-room g c = omega (arith, c.reserve.ensures.len, c.in_ok-reserve.ensures.ok)

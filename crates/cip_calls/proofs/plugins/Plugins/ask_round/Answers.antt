@@ -74,3 +74,6 @@ returns-clause-pool g c = c.take_all-came.ensures.pool
 
 pub returns-clause-sides : goal.returns-clause-sides
 returns-clause-sides g c = c.take_all-came.ensures.sides
+
+pub ask_all-requires : goal.ask_all-requires
+ask_all-requires g c = record { sound = c.requires.sound }

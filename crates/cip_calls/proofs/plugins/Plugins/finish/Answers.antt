@@ -1,3 +1,4 @@
+use Rattle.std.proofs.Common.{refl}
 use Rattle.cip_events.specs.declared.words.Word.TheVariants as say
 use Rattle.cip_calls.proofs.Noting.{noted_none, noted_by, judged_entry}
 use Rattle.cip_calls.proofs.plugins.Plugins.finish.Goals as goal
@@ -20,3 +21,24 @@ returns-in_default-clause-noted g c = noted_none (g.R.Seated.state c.args.self.n
 
 pub returns-in_default-clause-judged : goal.returns-in_default-clause-judged
 returns-in_default-clause-judged g c = judged_entry c.args.id c.args.came.now _ _ c.push_reserved.ensures.items
+
+pub returns-in_default-clause-sound : goal.returns-in_default-clause-sound
+returns-in_default-clause-sound g c = c.requires.sound
+
+pub note_refused-requires-clause-sound : goal.note_refused-requires-clause-sound
+note_refused-requires-clause-sound g c = c.requires.sound
+
+pub returns-in-Refused-clause-sound : goal.returns-in-Refused-clause-sound
+returns-in-Refused-clause-sound g c = c.note_refused.ensures.sound
+
+pub returns-in-Refused-clause-scratches : goal.returns-in-Refused-clause-scratches
+returns-in-Refused-clause-scratches g c = refl
+
+pub returns-in_err-put_if-clause-sound : goal.returns-in_err-put_if-clause-sound
+returns-in_err-put_if-clause-sound g c = c.requires.sound
+
+pub returns-in_default-clause-scratches : goal.returns-in_default-clause-scratches
+returns-in_default-clause-scratches g c = refl
+
+pub returns-in_err-put_if-clause-scratches : goal.returns-in_err-put_if-clause-scratches
+returns-in_err-put_if-clause-scratches g c = refl

@@ -11,3 +11,6 @@ returns-clause-used g c =
     let same : c.at.result ≡ event = c.at.ensures ∙ ap (λ n. event_at n NodeFocused) c.id.ensures in
     on_ok c.tell.result _ _ (focus_used c.has_none.result c.args.self.now.queue c.put.new.queue event _ _ _ _ c.has_none.ensures
     (λ f. c.in_ok-put.ensures f ∙ ap (λ (x : Event). c.args.self.now.queue ++ x ∷ []) same)) c.tell.ensures.used
+
+pub tell-requires : goal.tell-requires
+tell-requires g c = record { sound = c.requires.sound }

@@ -36,3 +36,9 @@ returns-clause-used g c = λ other. c.loop.invariant.used (c.came_in_rounds.ensu
 
 pub returns-clause-emptied : goal.returns-clause-emptied
 returns-clause-emptied g c = λ e. c.loop.invariant.emptied (c.came_in_rounds.ensures.emptied e)
+
+pub ask_round-requires-clause-ready : goal.ask_round-requires-clause-ready
+ask_round-requires-clause-ready g c = c.requires.ready
+
+pub ask_round-requires-clause-sound : goal.ask_round-requires-clause-sound
+ask_round-requires-clause-sound g c = c.requires.sound

@@ -1,4 +1,6 @@
-use Rattle.std.proofs.Common.{refl, sym, ◌∙◌, append-nil}
+use Rattle.cip_plugin.specs.declared.asking.Given.{Given}
+use Rattle.std.specs.Prelude.{IsSome, slice_get}
+use Rattle.std.proofs.Common.{refl, sym, ◌∙◌, append-nil, ℕ, subst}
 use Rattle.cip_calls.specs.Asked.{ask_in}
 use Rattle.cip_calls.specs.Noted.{makers}
 use Rattle.cip_calls.proofs.Noting.{gone_none, gone_further, seat_noted, all_more}
@@ -54,3 +56,7 @@ returns-in-Emptied-clause-sides g c = λ _. c.in_ok-came.ensures.sides c.in-Empt
 
 pub returns-clause-rows : goal.returns-clause-rows
 returns-clause-rows g c = λ e. c.loop-id.invariant.rows (c.came_of.ensures.quiet e)
+
+pub take_given-requires-clause-seat : goal.take_given-requires-clause-seat
+take_given-requires-clause-seat g c = 
+    subst (λ (e : ℕ × Given). IsSome (slice_get (g.R.Seated.state c.loop-id.self.roster).seats e.0)) (sym c.loop-id-item.is) (c.loop-id.invariant.seated c.loop-id.id-index c.loop-id-item.result c.loop-id-test.true)

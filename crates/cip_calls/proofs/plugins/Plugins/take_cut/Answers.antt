@@ -1,4 +1,4 @@
-use Rattle.std.proofs.Common.{refl, sym, ap, subst}
+use Rattle.std.proofs.Common.{refl, sym, ap, subst, arith}
 use Rattle.cip_problem.specs.WellFormed.{columns}
 use Rattle.cip_tree.specs.Nodes.{region_of}
 use Rattle.cip_calls.specs.CoreStates.{CoreState, reduced_of}
@@ -43,3 +43,12 @@ returns-clause-region g c = ap (λ (k : CoreState). region_of k.tree c.args.node
 
 pub returns-clause-rows : goal.returns-clause-rows
 returns-clause-rows g c = (cut_after c.args.core.now c.judge_cut.new.core c.args.cut.now c.in_ok-came.came c.in_ok-came.ensures.judged).same
+
+pub finish-requires-clause-room : goal.finish-requires-clause-room
+finish-requires-clause-room g c = omega (arith, c.reserve.ensures.len, c.in_ok-reserve.ensures.ok)
+
+pub judge_cut-requires-clause-at_work : goal.judge_cut-requires-clause-at_work
+judge_cut-requires-clause-at_work g c = c.requires.ready.at_work
+
+pub judge_cut-requires-clause-room : goal.judge_cut-requires-clause-room
+judge_cut-requires-clause-room g c = c.requires.ready.room

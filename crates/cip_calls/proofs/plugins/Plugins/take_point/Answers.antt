@@ -1,4 +1,4 @@
-use Rattle.std.proofs.Common.{sym, ap, subst}
+use Rattle.std.proofs.Common.{sym, ap, subst, arith}
 use Rattle.cip_problem.specs.WellFormed.{columns}
 use Rattle.cip_calls.specs.CoreStates.{CoreState, reduced_of}
 use Rattle.cip_calls.specs.ProposalsJudged.{HaveRoom}
@@ -45,3 +45,9 @@ returns-clause-gone g c =
 
 pub returns-clause-pool : goal.returns-clause-pool
 returns-clause-pool g c = ap (λ (k : CoreState). k.pool) c.judge_guess.ensures.frame
+
+pub finish-requires-clause-room : goal.finish-requires-clause-room
+finish-requires-clause-room g c = omega (arith, c.reserve.ensures.len, c.in_ok-reserve.ensures.ok)
+
+pub judge_guess-requires : goal.judge_guess-requires
+judge_guess-requires g c = record { at_work = c.requires.ready.at_work }

@@ -1,4 +1,4 @@
-use Rattle.std.proofs.Common.{◌∙◌, sym, subst}
+use Rattle.std.proofs.Common.{◌∙◌, sym, subst, arith}
 use Rattle.cip_problem.specs.WellFormed.{columns}
 use Rattle.cip_calls.specs.CoreStates.{reduced_of}
 use Rattle.cip_calls.specs.ProposalsJudged.{HaveRoom}
@@ -58,3 +58,12 @@ returns-clause-pool g c =
 pub returns-clause-node : goal.returns-clause-node
 returns-clause-node g c =
     side_node c.args.core.now c.judge_reduction.new.core c.args.node.now c.judge_reduction.new.node c.args.told.now.col c.args.told.now.side c.args.told.now.value c.in_ok-came.came c.in_ok-came.ensures.after
+
+pub judge_reduction-requires-clause-room : goal.judge_reduction-requires-clause-room
+judge_reduction-requires-clause-room g c = c.requires.ready.room.first
+
+pub finish-requires-clause-room : goal.finish-requires-clause-room
+finish-requires-clause-room g c = omega (arith, c.reserve.ensures.len, c.in_ok-reserve.ensures.ok)
+
+pub judge_reduction-requires-clause-at_work : goal.judge_reduction-requires-clause-at_work
+judge_reduction-requires-clause-at_work g c = c.requires.ready.at_work

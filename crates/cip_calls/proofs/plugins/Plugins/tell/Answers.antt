@@ -19,3 +19,21 @@ returns-clause-used g c =
     let had = c.args.self.now.judged.items in
     on_ok c.tell.result (HasTold c.args.self.now.queue a b) (Used (map (λ event. OnEvent event) c.args.self.now.queue) a had b had)
     (told_used c.args.self.now.queue a b had) c.tell.ensures.told
+
+pub returns-clause-frame : goal.returns-clause-frame
+returns-clause-frame g c = (refl, refl)
+
+pub returns-then-has_none-clause-frame : goal.returns-then-has_none-clause-frame
+returns-then-has_none-clause-frame g c = (refl, refl)
+
+pub returns-clause-sound : goal.returns-clause-sound
+returns-clause-sound g c = c.tell.ensures.sound
+
+pub returns-then-has_none-clause-sound : goal.returns-then-has_none-clause-sound
+returns-then-has_none-clause-sound g c = c.requires.sound
+
+pub returns-clause-run : goal.returns-clause-run
+returns-clause-run g c = c.tell.ensures.run
+
+pub tell-requires : goal.tell-requires
+tell-requires g c = record { sound = c.requires.sound }
