@@ -65,35 +65,8 @@ fn reached_by(starts: &mut Starts, found: Found, said: Verdict) -> Option<Reache
     }
 }
 
-/// Asks handlers what they say of an open node in work, and tells what happened. `None`: a side or a row was accepted,
-/// and the node goes back to its sides. `Err` comes where memory was refused.
-fn decide<R: Asks>(
-    alloc: Global,
-    work: &mut NodeWork<'_>,
-    plugins: &mut Plugins<R>,
-    node: &mut Node,
-    found: Found,
-) -> Result<Option<Reached>, AllocError>
-    requires ready { IsReady work.old.core node.old plugins.old.scratches
-        × IsSound (R.state plugins.old.roster) (R.room plugins.old.roster) }
-    requires open_ { IsOpenNode work.old.core node.old × IsFoundAt work.old.core node.old found }
-    ensures come { HasCome work.old.core node.old (R.state plugins.old.roster) work.new.core node.new
-        plugins.new.scratches (R.state plugins.new.roster) (R.room plugins.new.roster) }
-    ensures used { IfOk result (λ _. Used [] (R.state plugins.old.roster) plugins.old.judged.items
-        (R.state plugins.new.roster) plugins.new.judged.items) }
-    ensures reached { IfOk result (IsReachedIf work.new.core node.new) }
-{
-    match hear(alloc, &mut work.core, plugins, node, &found) {
-        Err(error) => {
-            drop(found);
-            Err(error)
-        }
-        Ok(said) => Ok(reached_by(&mut work.starts, found, said)),
-    }
-}
-
-/// One pass over a node in work, and what handlers say behind it. `None`: the node goes back to its sides. `Err` comes
-/// where memory was refused.
+/// One pass over a node in work, and what handlers say behind it where it is open. `None`: a side or a row was accepted
+/// then, and the node goes back to its sides. `Err` comes where memory was refused.
 fn turn<R: Asks>(
     alloc: Global,
     work: &mut NodeWork<'_>,
@@ -109,7 +82,13 @@ fn turn<R: Asks>(
     ensures reached { IfOk result (IsReachedIf work.new.core node.new) }
 {
     match pass(alloc, work, plugins, node)? {
-        Reached::Open(found) => decide(alloc, work, plugins, node, found),
+        Reached::Open(found) => match hear(alloc, &mut work.core, plugins, node, &found) {
+            Err(error) => {
+                drop(found);
+                Err(error)
+            }
+            Ok(said) => Ok(reached_by(&mut work.starts, found, said)),
+        },
         Reached::Empty => Ok(Some(Reached::Empty)),
         Reached::Leaf => Ok(Some(Reached::Leaf)),
         Reached::Place(found, split) => Ok(Some(Reached::Place(found, split))),

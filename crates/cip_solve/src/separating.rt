@@ -9,7 +9,7 @@ ghost use Rattle.cip_calls.specs.Served.{Used};
 ghost use Rattle.cip_calls.specs.declared.judging.Came.TheVariants.{Emptied};
 ghost use Rattle.cip_solve.specs.NodesReached.{IsFoundAt, IsFoundBy, IsOpenBounded, left_by};
 
-use crate::telling::{last_of, offered_kind, queue_known, tell_now};
+use crate::telling::{last_of, offered_kind, queue_both, tell_now};
 use cip_calls::{Asks, Came, Plugins, Round};
 use cip_events::EventKind;
 use cip_node::{Bounded, Found, NodeWork};
@@ -43,7 +43,7 @@ fn solve_lp<R: Asks>(
     let bounded = work.bound(alloc, node)?;
     let is_silent = plugins.roster.has_none();
     let offered = offered_kind(alloc, &work.core, node, before, &bounded, is_silent);
-    match queue_known(plugins, node.id(), solved, offered) {
+    match queue_both(plugins, node.id(), solved, offered) {
         Err(error) => {
             drop(bounded);
             Err(error)
@@ -147,35 +147,6 @@ fn left_by(came: Came, found: Found) -> Bounded
     }
 }
 
-/// Tells what waits behind the linear program of a node in work, which found this, and asks for rows in rounds. What is
-/// answered is what the last linear program leaves. `Err` comes where memory was refused.
-fn cut<R: Asks>(
-    alloc: Global,
-    work: &mut NodeWork<'_>,
-    plugins: &mut Plugins<R>,
-    node: &mut Node,
-    found: Found,
-) -> Result<Bounded, AllocError>
-    requires ready { IsReady work.old.core node.old plugins.old.scratches
-        × IsSound (R.state plugins.old.roster) (R.room plugins.old.roster) }
-    requires found { IsFoundAt work.old.core node.old found }
-    ensures come { HasCome work.old.core node.old (R.state plugins.old.roster) work.new.core node.new
-        plugins.new.scratches (R.state plugins.new.roster) (R.room plugins.new.roster) }
-    ensures used { IfOk result (λ bounded. IsOpenBounded bounded → Used (Separate ∷ []) (R.state plugins.old.roster)
-        plugins.old.judged.items (R.state plugins.new.roster) plugins.new.judged.items) }
-    ensures region { region_of work.new.core.tree node.new ≡ region_of work.old.core.tree node.old }
-    ensures bounded { IfOk result (IsBounded work.new.core node.new) }
-{
-    let mut found = found;
-    match cut_in_rounds(alloc, work, plugins, node, &mut found) {
-        Err(error) => {
-            drop(found);
-            Err(error)
-        }
-        Ok(came) => Ok(left_by(came, found)),
-    }
-}
-
 /// Solves the linear program of a node in work, tells that, and asks for rows in rounds, behind each of which that
 /// added one it is solved again. What is answered is what the last one leaves. `Err` comes where memory was refused.
 pub(crate) fn separate<R: Asks>(
@@ -195,6 +166,12 @@ pub(crate) fn separate<R: Asks>(
 {
     match solve_lp(alloc, work, plugins, node, Some(EventKind::FirstLpSolved))? {
         Bounded::Empty => Ok(Bounded::Empty),
-        Bounded::Open(found) => cut(alloc, work, plugins, node, found),
+        Bounded::Open(mut found) => match cut_in_rounds(alloc, work, plugins, node, &mut found) {
+            Err(error) => {
+                drop(found);
+                Err(error)
+            }
+            Ok(came) => Ok(left_by(came, found)),
+        },
     }
 }

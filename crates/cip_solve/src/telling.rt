@@ -17,18 +17,14 @@ use cip_node::{Bounded, Found, NodeEnd, Starts};
 use cip_tree::Node;
 use std::alloc::{AllocError, Global};
 
-/// The point that was found, if one was.
-fn point_in(found: &Found) -> Option<&[Frac]> {
-    match &found.point {
-        None => None,
-        Some(values) => Some(values.as_slice()),
-    }
-}
-
 /// What plugins see of what a linear program found.
 pub(crate) fn last_of(found: &Found) -> Last<'_> {
+    let point = match &found.point {
+        None => None,
+        Some(values) => Some(values.as_slice()),
+    };
     Last {
-        point: point_in(found),
+        point,
         combo: found.combo.as_ref(),
     }
 }
@@ -120,23 +116,9 @@ fn queue_if<R: Asks>(
     }
 }
 
-/// Puts up to two events of a node behind those that wait, in this order. `Err` comes where memory was refused.
-pub(crate) fn queue_both<R: Asks>(
-    plugins: &mut Plugins<R>,
-    node: u64,
-    first: Option<EventKind>,
-    second: Option<EventKind>,
-) -> Result<(), AllocError>
-    ensures roster { plugins.new.roster ≡ plugins.old.roster }
-    ensures rest { (plugins.new.scratches ≡ plugins.old.scratches) × (plugins.new.judged ≡ plugins.old.judged) }
-{
-    queue_if(plugins, node, first)?;
-    queue_if(plugins, node, second)
-}
-
 /// Puts up to two events of a node behind those that wait, in this order, where it is known what the second is. `Err`
 /// comes where memory was refused.
-pub(crate) fn queue_known<R: Asks>(
+pub(crate) fn queue_both<R: Asks>(
     plugins: &mut Plugins<R>,
     node: u64,
     first: Option<EventKind>,
@@ -145,7 +127,9 @@ pub(crate) fn queue_known<R: Asks>(
     ensures roster { plugins.new.roster ≡ plugins.old.roster }
     ensures rest { (plugins.new.scratches ≡ plugins.old.scratches) × (plugins.new.judged ≡ plugins.old.judged) }
 {
-    queue_both(plugins, node, first, second?)
+    let second = second?;
+    queue_if(plugins, node, first)?;
+    queue_if(plugins, node, second)
 }
 
 /// Tells all that waits, and then this, if it is given, while a node is in work. `Err` comes where memory was refused:
@@ -209,6 +193,6 @@ pub fn tell_end<R: Asks>(
     ensures run { Ran (R.state plugins.old.roster) (R.state plugins.new.roster) }
     ensures frame { (plugins.new.scratches ≡ plugins.old.scratches) × (plugins.new.judged ≡ plugins.old.judged) }
 {
-    queue_both(plugins, node, point_kind(done), end_kind(&done.end))?;
+    queue_both(plugins, node, point_kind(done), Ok(end_kind(&done.end)))?;
     plugins.tell(alloc, core, node, Last::none())
 }

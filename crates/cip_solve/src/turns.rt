@@ -45,7 +45,7 @@ impl<'a> Search<'a> {
         ensures marked { self.new.marks.items ≡ self.old.marks.items ++ marks_by number mark }
     {
         if let Some(mark) = mark {
-            let _ = self.marks.push((number, mark));
+            self.marks.push_reserved((number, mark));
         }
     }
 

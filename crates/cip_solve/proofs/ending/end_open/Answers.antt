@@ -52,3 +52,18 @@ returns-in-Ok-Some-clause-used g c =
 pub returns-in-Ok-Some-clause-kept : goal.returns-in-Ok-Some-clause-kept
 returns-in-Ok-Some-clause-kept g c =
     (c.end_parted.ensures.pool, c.ask_rules.ensures.sound, c.ask_rules.ensures.run, c.ask_rules.ensures.scratches)
+
+pub end_parted-requires-clause-up : goal.end_parted-requires-clause-up
+end_parted-requires-clause-up g c = c.requires.up
+
+pub end_by_rule-requires-clause-up : goal.end_by_rule-requires-clause-up
+end_by_rule-requires-clause-up g c = c.requires.up
+
+pub go_back-requires-clause-up : goal.go_back-requires-clause-up
+go_back-requires-clause-up g c = c.requires.up.0
+
+pub go_back-requires-clause-given : goal.go_back-requires-clause-given
+go_back-requires-clause-given g c = c.requires.up.2
+
+pub end_pruned-requires-clause-up : goal.end_pruned-requires-clause-up
+end_pruned-requires-clause-up g c = c.requires.up.0

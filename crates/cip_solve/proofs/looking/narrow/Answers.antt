@@ -19,3 +19,9 @@ returns-in_ok-tell_now-in_default-clause-come g c = come_further _ _ _ _ _ _ _ _
 pub returns-in_ok-tell_now-in_default-clause-used : goal.returns-in_ok-tell_now-in_default-clause-used
 returns-in_ok-tell_now-in_default-clause-used g c = λ still.
     in_then (Propagate ∷ []) _ _ _ _ _ _ c.propagate.ensures.come.sound.settled (c.in_ok-propagate.ensures.used c.in_default.not-Emptied) c.in_ok-tell_now-in_default.ensures.used
+
+pub propagate-requires-clause-ready : goal.propagate-requires-clause-ready
+propagate-requires-clause-ready g c = c.requires.ready.0
+
+pub propagate-requires-clause-sound : goal.propagate-requires-clause-sound
+propagate-requires-clause-sound g c = c.requires.ready.1

@@ -1,22 +1,29 @@
-use Rattle.std.proofs.Common.{subst}
+use Rattle.std.proofs.Common.{Option, sym, subst}
 use Rattle.cip_calls.proofs.PassedOn.{come_further}
-use Rattle.std.proofs.lemmas.Result.{IfOk-weaker}
-use Rattle.cip_solve.specs.NodesReached.{IsReached, IsUsedIn, asks_in_pass}
+use Rattle.cip_solve.specs.declared.reached.Reached.{Reached}
+use Rattle.cip_solve.proofs.Standing.{decided}
+use Rattle.cip_solve.specs.NodesReached.{IsReached, IsReachedIf, IsUsedIn, asks_in_pass}
 use Rattle.cip_solve.proofs.Using.{decided_used}
 use Rattle.cip_solve.proofs.node_turns.turn.Goals as goal
 
-pub decide-requires-clause-open_ : goal.decide-requires-clause-open_
-decide-requires-clause-open_ g c = subst (IsReached c.pass.new.work.core c.pass.new.node) c.in-Open.is c.in_ok-found.ensures.reached
+pub returns-in-Err-clause-come : goal.returns-in-Err-clause-come
+returns-in-Err-clause-come g c = come_further _ _ _ _ _ _ _ _ _ _ _ _ _ c.pass.ensures.come c.hear.ensures.come
 
-pub returns-in-Open-clause-come : goal.returns-in-Open-clause-come
-returns-in-Open-clause-come g c = come_further _ _ _ _ _ _ _ _ _ _ _ _ _ c.pass.ensures.come c.decide.ensures.come
+pub returns-in-Ok-clause-come : goal.returns-in-Ok-clause-come
+returns-in-Ok-clause-come g c = come_further _ _ _ _ _ _ _ _ _ _ _ _ _ c.pass.ensures.come c.hear.ensures.come
 
-pub returns-in-Open-clause-used : goal.returns-in-Open-clause-used
-returns-in-Open-clause-used g c =
+pub returns-in-Ok-clause-used : goal.returns-in-Ok-clause-used
+returns-in-Ok-clause-used g c =
     let first = subst (λ r. IsUsedIn asks_in_pass r (g.R.Seated.state c.args.plugins.now.roster) c.args.plugins.now.judged.items (g.R.Seated.state c.pass.new.plugins.roster) c.pass.new.plugins.judged.items) c.in-Open.is c.in_ok-found.ensures.used in
-    IfOk-weaker c.decide.result _ _
-    (λ turned used. decided_used turned _ _ _ _ _ _ c.pass.ensures.come.sound.settled first used)
-    c.decide.ensures.used
+    decided_used c.reached_by.result _ _ _ _ _ _ c.pass.ensures.come.sound.settled first c.in-Ok.ensures.used
+
+pub returns-in-Ok-clause-reached : goal.returns-in-Ok-clause-reached
+returns-in-Ok-clause-reached g c =
+    let old = c.pass.new.work.core in
+    let new = c.hear.new.core in
+    let is_open = subst (IsReached old c.pass.new.node) c.in-Open.is c.in_ok-found.ensures.reached in
+    subst (λ (r : Option Reached). IsReachedIf new c.hear.new.node r) (sym c.reached_by.ensures)
+    (decided old new c.pass.new.node c.hear.new.node c.in-Open.found c.in-Ok.said c.hear.ensures.come.later is_open.0 is_open.1 c.in-Ok.ensures.said)
 
 pub returns-in-Empty-clause-reached : goal.returns-in-Empty-clause-reached
 returns-in-Empty-clause-reached g c = subst (IsReached c.pass.new.work.core c.pass.new.node) c.in-Empty.is c.in_ok-found.ensures.reached

@@ -18,3 +18,6 @@ returns-in-Err-ask-clause-err g c = c.in-Err-ask.ensures.err
 
 pub returns-in-Err-clause-err : goal.returns-in-Err-clause-err
 returns-in-Err-clause-err g c = refl
+
+pub ask-requires : goal.ask-requires
+ask-requires g c = record { few = c.requires.few }

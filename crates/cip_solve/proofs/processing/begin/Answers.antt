@@ -96,3 +96,6 @@ returns-clause-kept g c =
       run = come.run;
       rows = subst (λ (k : CoreState). HasMoreRows k.pool c.focus_and_turn.new.work.core.pool) frame come.rows;
     }
+
+pub enter-requires : goal.enter-requires
+enter-requires g c = c.age.ensures.up c.args.node.now c.requires.up

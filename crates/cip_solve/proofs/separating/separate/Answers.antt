@@ -1,8 +1,10 @@
-use Rattle.std.proofs.Common.{◌∷◌, [], ◌∙◌, subst}
+use Rattle.std.proofs.Common.{◌∷◌, [], ◌∙◌, sym, subst}
 use Rattle.cip_plugin.specs.Calls.{Separate}
 use Rattle.cip_node.specs.Bounding.{IsBounded}
 use Rattle.cip_calls.proofs.PassedOn.{come_further}
-use Rattle.std.proofs.lemmas.Result.{IfOk-weaker}
+use Rattle.cip_node.specs.declared.bounding.Bounded.{Bounded}
+use Rattle.cip_solve.specs.NodesReached.{IsOpenBounded}
+use Rattle.cip_solve.proofs.Standing.{bounded_by, open_by}
 use Rattle.cip_solve.proofs.Using.{used_behind}
 use Rattle.cip_solve.proofs.separating.separate.Goals as goal
 
@@ -12,18 +14,28 @@ returns-in-Empty-clause-used g c = λ bad. absurd bad
 pub returns-in-Empty-clause-bounded : goal.returns-in-Empty-clause-bounded
 returns-in-Empty-clause-bounded g c = subst (IsBounded c.solve_lp.new.work.core c.solve_lp.new.node) c.in-Empty.is c.in_ok-solve_lp.ensures.bounded
 
-pub cut-requires-clause-found : goal.cut-requires-clause-found
-cut-requires-clause-found g c = subst (IsBounded c.solve_lp.new.work.core c.solve_lp.new.node) c.in-Open.is c.in_ok-solve_lp.ensures.bounded
+pub cut_in_rounds-requires-clause-found : goal.cut_in_rounds-requires-clause-found
+cut_in_rounds-requires-clause-found g c = subst (IsBounded c.solve_lp.new.work.core c.solve_lp.new.node) c.in-Open.is c.in_ok-solve_lp.ensures.bounded
 
-pub returns-in-Open-clause-come : goal.returns-in-Open-clause-come
-returns-in-Open-clause-come g c = come_further _ _ _ _ _ _ _ _ _ _ _ _ _ c.solve_lp.ensures.come c.cut.ensures.come
+pub returns-in-Err-clause-come : goal.returns-in-Err-clause-come
+returns-in-Err-clause-come g c = come_further _ _ _ _ _ _ _ _ _ _ _ _ _ c.solve_lp.ensures.come c.cut_in_rounds.ensures.come
 
-pub returns-in-Open-clause-region : goal.returns-in-Open-clause-region
-returns-in-Open-clause-region g c = c.cut.ensures.region ∙ c.solve_lp.ensures.region
+pub returns-in-Err-clause-region : goal.returns-in-Err-clause-region
+returns-in-Err-clause-region g c = c.cut_in_rounds.ensures.region ∙ c.solve_lp.ensures.region
 
-pub returns-in-Open-clause-used : goal.returns-in-Open-clause-used
-returns-in-Open-clause-used g c =
-    IfOk-weaker c.cut.result _ _
-    (λ bounded used still.
-    used_behind (λ r. g.R.Seated.state r) (λ v. v.items) _ _ _ _ (Separate ∷ []) _ _ c.solve_lp.ensures.silent.0 c.solve_lp.ensures.silent.1 (used still))
-    c.cut.ensures.used
+pub returns-in-Ok-clause-come : goal.returns-in-Ok-clause-come
+returns-in-Ok-clause-come g c = come_further _ _ _ _ _ _ _ _ _ _ _ _ _ c.solve_lp.ensures.come c.cut_in_rounds.ensures.come
+
+pub returns-in-Ok-clause-region : goal.returns-in-Ok-clause-region
+returns-in-Ok-clause-region g c = c.cut_in_rounds.ensures.region ∙ c.solve_lp.ensures.region
+
+pub returns-in-Ok-clause-used : goal.returns-in-Ok-clause-used
+returns-in-Ok-clause-used g c = λ still.
+    used_behind (λ r. g.R.Seated.state r) (λ v. v.items) _ _ _ _ (Separate ∷ []) _ _ c.solve_lp.ensures.silent.0 c.solve_lp.ensures.silent.1
+    (c.in-Ok.ensures.used (open_by c.in-Ok.came c.cut_in_rounds.new.found (subst (λ (b : Bounded). IsOpenBounded b) c.left_by.ensures still)))
+
+pub returns-in-Ok-clause-bounded : goal.returns-in-Ok-clause-bounded
+returns-in-Ok-clause-bounded g c =
+    let core = c.cut_in_rounds.new.work.core in
+    let node = c.cut_in_rounds.new.node in
+    subst (λ (b : Bounded). IsBounded core node b) (sym c.left_by.ensures) (bounded_by c.in-Ok.came core node c.cut_in_rounds.new.found c.in-Ok.ensures.found)

@@ -17,22 +17,22 @@ offered_kind-offered-requires-clause-bounded g c = c.in_ok-bounded.ensures.bound
 
 pub returns-in-Err-clause-come : goal.returns-in-Err-clause-come
 returns-in-Err-clause-come g c =
-    come_silent (λ r. g.R.Seated.state r) (λ r. g.R.Seated.room r) _ _ c.args.work.now.core c.bound.new.self.core c.args.node.now c.bound.new.node _ _ c.queue_known.ensures.roster c.queue_known.ensures.rest.0
+    come_silent (λ r. g.R.Seated.state r) (λ r. g.R.Seated.room r) _ _ c.args.work.now.core c.bound.new.self.core c.args.node.now c.bound.new.node _ _ c.queue_both.ensures.roster c.queue_both.ensures.rest.0
     c.bound.ensures.later (ap (λ (rows : Pool × Bool). rows.0) c.bound.ensures.rows) c.requires.ready.0 c.requires.ready.1
 
 pub returns-in-Ok-clause-come : goal.returns-in-Ok-clause-come
 returns-in-Ok-clause-come g c =
-    come_silent (λ r. g.R.Seated.state r) (λ r. g.R.Seated.room r) _ _ c.args.work.now.core c.bound.new.self.core c.args.node.now c.bound.new.node _ _ c.queue_known.ensures.roster c.queue_known.ensures.rest.0
+    come_silent (λ r. g.R.Seated.state r) (λ r. g.R.Seated.room r) _ _ c.args.work.now.core c.bound.new.self.core c.args.node.now c.bound.new.node _ _ c.queue_both.ensures.roster c.queue_both.ensures.rest.0
     c.bound.ensures.later (ap (λ (rows : Pool × Bool). rows.0) c.bound.ensures.rows) c.requires.ready.0 c.requires.ready.1
 
 pub returns-in_err-bounded-clause-silent : goal.returns-in_err-bounded-clause-silent
 returns-in_err-bounded-clause-silent g c = (refl, refl)
 
 pub returns-in-Err-clause-silent : goal.returns-in-Err-clause-silent
-returns-in-Err-clause-silent g c = (c.queue_known.ensures.roster, c.queue_known.ensures.rest.1)
+returns-in-Err-clause-silent g c = (c.queue_both.ensures.roster, c.queue_both.ensures.rest.1)
 
 pub returns-in-Ok-clause-silent : goal.returns-in-Ok-clause-silent
-returns-in-Ok-clause-silent g c = (c.queue_known.ensures.roster, c.queue_known.ensures.rest.1)
+returns-in-Ok-clause-silent g c = (c.queue_both.ensures.roster, c.queue_both.ensures.rest.1)
 
 pub returns-in_err-bounded-clause-region : goal.returns-in_err-bounded-clause-region
 returns-in_err-bounded-clause-region g c = c.bound.ensures.region

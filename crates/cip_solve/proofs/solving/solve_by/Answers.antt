@@ -1,4 +1,6 @@
-use Rattle.std.proofs.Common.{◌∙◌, ap, sym, subst}
+use Rattle.cip_solve.proofs.Serving.{served_none}
+use Rattle.cip_solve.specs.SplitsServed.{splits_in, HasServed}
+use Rattle.std.proofs.Common.{◌∙◌, ap, sym, subst, length}
 use Rattle.cip_problem.specs.Program.{Program}
 use Rattle.cip_problem.specs.WellFormed.{columns}
 use Rattle.cip_tree.specs.Entries as tree
@@ -43,3 +45,14 @@ pub returns-in-Err-clause-solved : goal.returns-in-Err-clause-solved
 returns-in-Err-clause-solved g c = λ presolve alone p q.
     unsearched_by c.args.program.now c.args.options.now.nodes c.args.options.now.gap presolve alone _ _ _ (ap tree.entries_of c.clear.ensures.items) c.clear-2.ensures.items
     (c.unsearched.ensures.solved c.args.options.now.nodes c.args.options.now.gap)
+
+pub returns-in-Err-clause-asked : goal.returns-in-Err-clause-asked
+returns-in-Err-clause-asked g c =
+    let a = g.W.Works.state c.args.works.now in
+    (c.requires.ready, subst (λ l. HasServed (splits_in l) a a) (sym (ap tree.entries_of c.clear.ensures.items)) (served_none a))
+
+pub returns-in-Err-clause-first : goal.returns-in-Err-clause-first
+returns-in-Err-clause-first g c = subst (StopsFirst c.args.program.now c.args.options.now.gap) (sym (ap tree.entries_of c.clear.ensures.items)) (c.unsearched.ensures.first c.args.options.now.gap)
+
+pub returns-in-Err-clause-nodes : goal.returns-in-Err-clause-nodes
+returns-in-Err-clause-nodes g c = c.unsearched.ensures.nodes ∙ sym (ap length (ap tree.entries_of c.clear.ensures.items))

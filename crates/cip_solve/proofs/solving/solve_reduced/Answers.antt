@@ -21,3 +21,6 @@ returns-clause-solved g c =
 pub returns-clause-kit : goal.returns-clause-kit
 returns-clause-kit g c =
     kit_same c.args.options.now.trace (entries_of c.solve_with.new.log) _ _ c.solve_with.result.trace _ _ (sym c.if-goes_alone.false ∙ c.goes_alone.ensures) c.solve_with.ensures.kit
+
+pub solve_by-requires-clause-some : goal.solve_by-requires-clause-some
+solve_by-requires-clause-some g c = c.requires.some

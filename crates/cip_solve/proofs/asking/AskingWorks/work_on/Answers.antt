@@ -1,4 +1,5 @@
-use Rattle.std.proofs.Common.{subst}
+use Rattle.cip_solve.specs.Turns.{IsSound}
+use Rattle.std.proofs.Common.{subst, sym, ◌∙◌}
 use Rattle.cip_solve.specs.Wished.{Ran}
 use Rattle.cip_solve.specs.SplitsServed.{splits_by}
 use Rattle.cip_solve.proofs.Working.{done_worked}
@@ -18,3 +19,9 @@ returns-clause-served g c =
     served_then (splits_by done.end) a b e kept.sound.settled
     (used_served c.args.node.number done.proposed done.end a b _ _ c.in_ok-done.ensures.used kept.run)
     (subst (λ r. Ran (g.R.Seated.state r) e) c.take_judged-judged.ensures.frame.0 c.tell_end-told.ensures.run)
+
+pub tell_end-told-requires : goal.tell_end-told-requires
+tell_end-told-requires g c = record { sound = subst (λ r. IsSound (g.R.Seated.state r) (g.R.Seated.room r)) (sym c.take_judged-judged.ensures.frame.0) c.process.ensures.kept.sound }
+
+pub go_back-requires-clause-given : goal.go_back-requires-clause-given
+go_back-requires-clause-given g c = λ given at. c.bound-given.ensures ∙ c.requires.can.given given at

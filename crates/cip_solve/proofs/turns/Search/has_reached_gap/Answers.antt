@@ -1,4 +1,4 @@
-use Rattle.std.proofs.Common.{◌≡◌, ◌∙◌, [], MatchOption, ap, sym, subst}
+use Rattle.std.proofs.Common.{◌≡◌, ◌∙◌, [], MatchOption, ap, sym, subst, true≢false}
 use Rattle.cip_tree.specs.Moves.{IsLeastBound}
 use Rattle.cip_tree.specs.Nodes.{Nodes}
 use Rattle.cip_solve.specs.CoreStates.{reduced_of, way_of}
@@ -29,3 +29,6 @@ returns-clause-short c = λ e.
 
 pub returns-then-is_none-clause-short : goal.returns-then-is_none-clause-short
 returns-then-is_none-clause-short c = λ e. none_asked c.args.asked.now c.is_none.result c.args.self.now.work.core.tree c.args.self.now.work.core.incumbent c.is_none.ensures c.if-is_none.true
+
+pub returns-then-is_none-clause-reached : goal.returns-then-is_none-clause-reached
+returns-then-is_none-clause-reached c = λ e. absurd (true≢false (sym e))

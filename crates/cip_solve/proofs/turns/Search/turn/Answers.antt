@@ -1,4 +1,5 @@
-use Rattle.std.proofs.Common.{◌≡◌, ◌+◌, ◌≤◌, ◌∙◌, ◌++◌, [], MatchOption, refl, add-zero, ap, sym, subst, arith, length}
+use Rattle.std.specs.Prelude.{OnOk, is_err}
+use Rattle.std.proofs.Common.{◌≡◌, ◌+◌, ◌≤◌, ◌∙◌, ◌++◌, [], MatchOption, refl, add-zero, ap, sym, subst, arith, length, true≢false, false, Result, Ok, Err}
 use Rattle.cip_endings.specs.LeastBounds.{least_of, bound_held, flat}
 use Rattle.cip_endings.specs.Worst.{worst_bound}
 use Rattle.cip_tree.specs.Moves.{IsLeastBound}
@@ -214,3 +215,12 @@ returns-then-is_none-clause-asked g c = (c.requires.ready, λ first s. s)
 
 pub returns-then-is_err-clause-asked : goal.returns-then-is_err-clause-asked
 returns-then-is_err-clause-asked g c = (c.requires.ready, λ first s. s)
+
+when_ok : {A E : Type 0} (r : Result A E) (P : Type 0) → is_err r ≡ false → OnOk r P → P
+when_ok (Ok x) P e h = h
+when_ok (Err x) P e h = absurd (true≢false e)
+
+pub settle-requires : goal.settle-requires
+settle-requires g c =
+    let room = when_ok c.reserve.result _ (sym c.is_err.ensures.value ∙ c.if-is_err.false) c.reserve.ensures.ok in
+    omega (arith, c.reserve.ensures.len, room)
