@@ -1,10 +1,8 @@
 //! Sides that are proposed.
-ghost use Rattle.std.specs.Prelude.{◌≡◌, ◌<◌, ◌^◌, nat_lt, unsigned_abs, length, None, IsOk, IfOk, MatchResult};
+ghost use Rattle.std.specs.Prelude.{◌≡◌, length, None, IfOk, MatchResult};
 ghost use Rattle.cip_problem.specs.WellFormed.{columns};
-ghost use Rattle.cip_problem.specs.Improving.{HoldsInBox, HasNoImproving};
+ghost use Rattle.cip_problem.specs.Improving.{HasNoImproving};
 ghost use Rattle.cip_cert.specs.Lent.{multiples_of};
-ghost use Rattle.cip_domain.specs.Changes.{side_change};
-ghost use Rattle.cip_domain.specs.Narrowing.{Meets};
 ghost use Rattle.cip_tree.specs.Nodes.{box_of};
 ghost use Rattle.cip_core.specs.CoreStates.{reduced_of, held_of, IsAtWork};
 ghost use Rattle.cip_core.specs.Later.{IsLaterAt};
@@ -14,7 +12,7 @@ ghost use Rattle.cip_calls.specs.ReductionsJudged.{unless_faulty, by_check, judg
 ghost use Rattle.cip_calls.specs.declared.judged.Judged.TheVariants.{Emptied};
 
 use crate::judged::{JudgeFault, Judged, NodeFault};
-use cip_cert::{CutFault, Scratch, reduction};
+use cip_cert::{Scratch, reduction};
 use cip_core::{Core, Program};
 use cip_domain::Tightened;
 use cip_frac::Frac;

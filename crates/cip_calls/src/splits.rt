@@ -1,11 +1,11 @@
 //! Splits that are proposed.
-ghost use Rattle.std.specs.Prelude.{◌≡◌, ◌<◌, ◌≤◌, ◌^◌, ◌↔◌, unsigned_abs, length, IsTrue, MatchOption, MatchResult};
+ghost use Rattle.std.specs.Prelude.{◌≡◌, ◌<◌, ◌^◌, length, MatchOption, MatchResult};
 ghost use Rattle.cip_problem.specs.WellFormed.{columns};
 ghost use Rattle.cip_problem.specs.Wholes.{AllHaveWholes};
 ghost use Rattle.cip_tree.specs.Nodes.{box_of};
 ghost use Rattle.cip_core.specs.CoreStates.{reduced_of, IsAtWork, IsGivenBound};
 ghost use Rattle.cip_core.specs.Steps.{IsBack};
-ghost use Rattle.cip_calls.specs.SplitsJudged.{IsNamed, IsMisnamed, IsNoPlace, IsPlace, IsSplitRefused, IsSplitJudged};
+ghost use Rattle.cip_calls.specs.SplitsJudged.{IsNamed, IsNoPlace, IsPlace, IsSplitRefused, IsSplitJudged};
 
 use crate::judged::{JudgeFault, NodeFault};
 use cip_core::Core;

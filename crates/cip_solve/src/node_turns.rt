@@ -4,11 +4,10 @@ ghost use Rattle.cip_events.specs.Events.{event_at};
 ghost use Rattle.cip_events.specs.declared.events.EventKind.TheVariants.{NodeFocused};
 ghost use Rattle.cip_plugin.specs.Calls.{OnEvent};
 ghost use Rattle.cip_roster.specs.Turns.{IsSound};
-ghost use Rattle.cip_node.specs.Looking.{IsOpenNode};
 ghost use Rattle.cip_calls.specs.Noted.{IsReady, HasCome};
 ghost use Rattle.cip_calls.specs.Served.{Used};
 ghost use Rattle.cip_calls.specs.Enforcing.{IsVerdict};
-ghost use Rattle.cip_solve.specs.NodesReached.{IsFoundAt, IsReached, IsReachedIf, reached_by};
+ghost use Rattle.cip_solve.specs.NodesReached.{IsReached, IsReachedIf, reached_by};
 ghost use Rattle.cip_solve.specs.NodesReached.{IsUsedIn, IsUsedIf, asks_in_pass};
 
 use crate::passes::pass;

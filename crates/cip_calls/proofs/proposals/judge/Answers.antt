@@ -16,7 +16,7 @@ returns-in-Whole-clause-ruled c =
     )
 
 pub go_back-requires-clause-given : goal.go_back-requires-clause-given
-go_back-requires-clause-given c = 
+go_back-requires-clause-given c =
     let core = c.args.core.now in
     let kept = subst (λ (n : TakenNode). IsGivenBound core n.number c.args.given) (sym c.in-Err.ensures.err.1) c.requires.given in
     subst (λ (k : CoreState). IsGivenBound k c.judge_in_work.new.node.number c.args.given) (sym c.in-Err.ensures.err.0) kept

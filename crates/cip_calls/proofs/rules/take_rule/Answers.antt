@@ -8,7 +8,7 @@ pub returns-then-is_none-clause-place : goal.returns-then-is_none-clause-place
 returns-then-is_none-clause-place g c = place_there c.split_refusal-refusal.result c.is_none.result _ _ c.is_none.ensures c.split_refusal-refusal.ensures c.if-is_none.true
 
 pub returns-then-is_none-clause-judged : goal.returns-then-is_none-clause-judged
-returns-then-is_none-clause-judged g c = 
+returns-then-is_none-clause-judged g c =
     one_judged _ c.args.id c.args.given c.in-Some.split _ _ refl c.in-Some.is
     (subst (λ (l : List (ℕ × Judged)). HasJudged c.args.id 1 l c.finish.new.self.judged.items) c.reserve.ensures.items c.finish.ensures.judged)
 

@@ -80,5 +80,5 @@ pub sides-requires : goal.sides-requires
 sides-requires c = subst (λ n. c.args.split.col < n) (sym (ap length c.bounds.ensures ∙ c.requires.long)) c.requires.named.inside
 
 pub bounds-whole-split : goal.bounds-whole-split
-bounds-whole-split c = 
+bounds-whole-split c =
     subst (λ n. c.args.split.col < n) (sym (ap length c.whole.ensures.whole ∙ c.whole.ensures.formed.integral ∙ ap columns c.reduced.ensures)) c.requires.named.inside

@@ -58,5 +58,5 @@ pub returns-clause-rows : goal.returns-clause-rows
 returns-clause-rows g c = λ e. c.loop-id.invariant.rows (c.came_of.ensures.quiet e)
 
 pub take_given-requires-clause-seat : goal.take_given-requires-clause-seat
-take_given-requires-clause-seat g c = 
+take_given-requires-clause-seat g c =
     subst (λ (e : ℕ × Given). IsSome (slice_get (g.R.Seated.state c.loop-id.self.roster).seats e.0)) (sym c.loop-id-item.is) (c.loop-id.invariant.seated c.loop-id.id-index c.loop-id-item.result c.loop-id-test.true)
