@@ -1,3 +1,4 @@
+use Rattle.std.proofs.lemmas.Grind.{common_steps}
 use Rattle.std.proofs.Common.{length, sym, ap, ◌∙◌, subst, arith}
 use Rattle.cip_problem.specs.Improving.{HasNoImproving}
 use Rattle.cip_cert.specs.Follows.{EmptinessFollows}
@@ -26,3 +27,15 @@ returns-in-Ok-clause-emptied c = λ _.
     let core = c.args.core.now in
     let follows = subst (λ b. EmptinessFollows (all_lent core) b) c.bounds.ensures (subst (λ l. EmptinessFollows l c.bounds.result.now) c.rows.ensures.lent c.in-Ok.ensures.follows) in
     subst (λ (r : Region). HasNoImproving (reduced_of core) (held_of core) r.box) c.requires.at_work.region (none_there core c.is_sound.ensures.sound follows)
+
+pub returns-in-Err-clause-scratch : goal.returns-in-Err-clause-scratch
+returns-in-Err-clause-scratch c = omega arith
+
+pub returns-in-Ok-clause-scratch : goal.returns-in-Ok-clause-scratch
+returns-in-Ok-clause-scratch c = omega arith
+
+pub returns-in-Err-clause-answer : goal.returns-in-Err-clause-answer
+returns-in-Err-clause-answer c = grind (arith, common_steps)
+
+pub returns-in-Err-clause-emptied : goal.returns-in-Err-clause-emptied
+returns-in-Err-clause-emptied c = grind (arith, common_steps)

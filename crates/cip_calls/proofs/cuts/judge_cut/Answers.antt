@@ -1,3 +1,5 @@
+use Rattle.std.proofs.lemmas.Grind.{common_steps}
+use Rattle.std.proofs.Common.{arith}
 use Rattle.cip_calls.proofs.cuts.judge_cut.Goals as goal
 
 pub judge_split_cut-requires-clause-at_work : goal.judge_split_cut-requires-clause-at_work
@@ -5,3 +7,9 @@ judge_split_cut-requires-clause-at_work c = c.requires.at_work
 
 pub judge_split_cut-requires-clause-room : goal.judge_split_cut-requires-clause-room
 judge_split_cut-requires-clause-room c = (c.requires.room.first, c.requires.room.second)
+
+pub returns-in-Some-clause-judged : goal.returns-in-Some-clause-judged
+returns-in-Some-clause-judged c = grind (arith, common_steps)
+
+pub returns-in-None-clause-judged : goal.returns-in-None-clause-judged
+returns-in-None-clause-judged c = grind (arith, common_steps)

@@ -1,4 +1,5 @@
-use Rattle.std.proofs.Common.{◌≡◌, sym, ap, ◌∙◌}
+use Rattle.std.proofs.lemmas.Grind.{common_steps}
+use Rattle.std.proofs.Common.{◌≡◌, sym, ap, ◌∙◌, arith}
 use Rattle.cip_tree.specs.Nodes.{Nodes}
 use Rattle.cip_core.specs.CoreStates.{held_of}
 use Rattle.cip_core.proofs.CoreSteps.{trimmed_is}
@@ -23,3 +24,9 @@ offer_at-taken-requires-clause-at_work c = c.requires.at_work
 
 pub offer_at-taken-requires-clause-found : goal.offer_at-taken-requires-clause-found
 offer_at-taken-requires-clause-found c = c.requires.found
+
+pub returns-then-not-is_cheaper-clause-answer : goal.returns-then-not-is_cheaper-clause-answer
+returns-then-not-is_cheaper-clause-answer c = grind (arith, common_steps)
+
+pub returns-clause-answer : goal.returns-clause-answer
+returns-clause-answer c = grind (arith, common_steps)

@@ -1,4 +1,5 @@
-use Rattle.std.proofs.Common.{◌≡◌, ◌∙◌, List, length, refl, ap, subst}
+use Rattle.std.proofs.lemmas.Grind.{common_steps}
+use Rattle.std.proofs.Common.{◌≡◌, ◌∙◌, List, length, refl, ap, subst, arith}
 use Rattle.cip_rational.specs.Rational.{ℚ}
 use Rattle.cip_problem.specs.WellFormed.{columns}
 use Rattle.cip_core.specs.StepsBack.{StepsTaken, point_back, FitsBack}
@@ -89,3 +90,9 @@ returns-in-Ok-clause-region c = c.judge_point.ensures.region
 
 pub returns-in-Ok-clause-frame : goal.returns-in-Ok-clause-frame
 returns-in-Ok-clause-frame c = c.judge_point.ensures.frame
+
+pub returns-in-Err-clause-judged : goal.returns-in-Err-clause-judged
+returns-in-Err-clause-judged c = grind (arith, common_steps)
+
+pub returns-then-values-columns-clause-judged : goal.returns-then-values-columns-clause-judged
+returns-then-values-columns-clause-judged c = grind (arith, common_steps)

@@ -1,7 +1,8 @@
+use Rattle.std.proofs.lemmas.Grind.{common_steps}
 use Rattle.cip_core.specs.Verdicts.{verdict_of}
 use Rattle.cip_problem.specs.WellFormed.{columns}
 use Rattle.cip_problem.specs.Program.{Program}
-use Rattle.std.proofs.Common.{rules, refl, sym, ap, ◌∙◌}
+use Rattle.std.proofs.Common.{rules, refl, sym, ap, ◌∙◌, arith}
 use Rattle.cip_core.proofs.Relations.{later_at_itself}
 use Rattle.cip_calls.proofs.guesses.judge_point.Goals as goal
 
@@ -25,3 +26,6 @@ hold-requires-clause-values c = c.requires.values
 
 pub hold-requires-clause-at_work : goal.hold-requires-clause-at_work
 hold-requires-clause-at_work c = c.requires.at_work
+
+pub returns-in-Feasible-clause-answer : goal.returns-in-Feasible-clause-answer
+returns-in-Feasible-clause-answer c = grind (arith, common_steps)

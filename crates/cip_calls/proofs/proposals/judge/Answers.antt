@@ -1,6 +1,7 @@
+use Rattle.std.proofs.lemmas.Grind.{common_steps}
 use Rattle.cip_tree.specs.Nodes.{TakenNode}
 use Rattle.cip_core.specs.CoreStates.{CoreState, IsGivenBound}
-use Rattle.std.proofs.Common.{◌∙◌, sym, subst}
+use Rattle.std.proofs.Common.{◌∙◌, sym, subst, arith}
 use Rattle.cip_calls.specs.SplitsJudged.{IsSplitJudged}
 use Rattle.cip_calls.proofs.Going.{whole_goes_on, whole_judged}
 use Rattle.cip_calls.proofs.proposals.judge.Goals as goal
@@ -35,3 +36,21 @@ judge_in_work-requires-clause-no_split c = sym c.split_proposed.ensures ∙ c.in
 
 pub judge_in_work-requires-clause-room : goal.judge_in_work-requires-clause-room
 judge_in_work-requires-clause-room c = c.requires.room
+
+pub returns-in-Err-clause-scratches : goal.returns-in-Err-clause-scratches
+returns-in-Err-clause-scratches c = omega arith
+
+pub returns-in-Ok-clause-scratches : goal.returns-in-Ok-clause-scratches
+returns-in-Ok-clause-scratches c = omega arith
+
+pub returns-in-Err-clause-ruled : goal.returns-in-Err-clause-ruled
+returns-in-Err-clause-ruled c = grind (arith, common_steps)
+
+pub returns-in-Halves-clause-ruled : goal.returns-in-Halves-clause-ruled
+returns-in-Halves-clause-ruled c = grind (arith, common_steps)
+
+pub returns-in-Ok-clause-ruled : goal.returns-in-Ok-clause-ruled
+returns-in-Ok-clause-ruled c = grind (arith, common_steps)
+
+pub go_back-requires-clause-up : goal.go_back-requires-clause-up
+go_back-requires-clause-up c = grind (arith, common_steps)

@@ -1,4 +1,5 @@
-use Rattle.std.proofs.Common.{◌≡◌, ◌∙◌, None, refl, sym, ap, subst}
+use Rattle.std.proofs.lemmas.Grind.{common_steps}
+use Rattle.std.proofs.Common.{◌≡◌, ◌∙◌, None, refl, sym, ap, subst, arith}
 use Rattle.cip_problem.specs.Box.{sides_at}
 use Rattle.cip_problem.specs.Improving.{HoldsInBox, HasNoImproving}
 use Rattle.cip_domain.specs.Changes.{Region, side_change}
@@ -82,3 +83,6 @@ tighten-requires-clause-at_work c = c.requires.at_work
 
 pub refusal-requires-clause-room : goal.refusal-requires-clause-room
 refusal-requires-clause-room c = c.requires.room
+
+pub returns-in-Some-clause-emptied : goal.returns-in-Some-clause-emptied
+returns-in-Some-clause-emptied c = grind (arith, common_steps)

@@ -1,3 +1,4 @@
+use Rattle.std.proofs.lemmas.Grind.{common_steps}
 use Rattle.std.proofs.Common.{◌≡◌, ◌∙◌, ◌<◌, List, Bool, ℕ, None, length, refl, sym, ap, subst, arith}
 use Rattle.std.specs.Prelude.{IsOk, OnOk}
 use Rattle.cip_cert.specs.Lent.{Lent, Fits, multiples_of}
@@ -74,3 +75,15 @@ returns-in-Ok-clause-shown c = λ none.
       named = ap (λ p. side_fault p told.col told.value) (sym c.reduced.ensures) ∙ sym c.side_fault.ensures ∙ c.in_default.is;
       follows = side_holds core told.col told.side told.value c.reduction.result c.is_sound.ensures.sound flagged (subst IsOk (sym c.in-Ok.is) refl);
     }
+
+pub returns-in-Err-clause-room : goal.returns-in-Err-clause-room
+returns-in-Err-clause-room c = omega arith
+
+pub returns-in-Ok-clause-room : goal.returns-in-Ok-clause-room
+returns-in-Ok-clause-room c = omega arith
+
+pub returns-in-Err-clause-shown : goal.returns-in-Err-clause-shown
+returns-in-Err-clause-shown c = grind (arith, common_steps)
+
+pub returns-in-Some-clause-shown : goal.returns-in-Some-clause-shown
+returns-in-Some-clause-shown c = grind (arith, common_steps)

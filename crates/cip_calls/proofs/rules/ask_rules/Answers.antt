@@ -1,5 +1,6 @@
+use Rattle.std.proofs.lemmas.Grind.{common_steps}
 use Rattle.cip_calls.specs.Asked.{IsSeatedNext}
-use Rattle.std.proofs.Common.{refl, ◌∙◌, subst}
+use Rattle.std.proofs.Common.{refl, ◌∙◌, subst, arith}
 use Rattle.cip_plugin.specs.Calls.{Branch}
 use Rattle.cip_calls.specs.Waiting.{HasAskedNext}
 use Rattle.cip_calls.proofs.Noting.{noted_run, run_further}
@@ -70,3 +71,18 @@ take_rule-requires-clause-seat g c = subst (IsSeatedNext (g.R.Seated.state c.ask
 
 pub take_rule-requires-clause-at_work : goal.take_rule-requires-clause-at_work
 take_rule-requires-clause-at_work g c = c.requires.at_work
+
+pub returns-clause-place : goal.returns-clause-place
+returns-clause-place g c = omega arith
+
+pub returns-in-Some-found-clause-place : goal.returns-in-Some-found-clause-place
+returns-in-Some-found-clause-place g c = grind (arith, common_steps)
+
+pub returns-in-Some-found-clause-sound : goal.returns-in-Some-found-clause-sound
+returns-in-Some-found-clause-sound g c = grind (arith, common_steps)
+
+pub returns-clause-scratches : goal.returns-clause-scratches
+returns-clause-scratches g c = grind (arith, common_steps)
+
+pub returns-clause-sound : goal.returns-clause-sound
+returns-clause-sound g c = grind (arith, common_steps)

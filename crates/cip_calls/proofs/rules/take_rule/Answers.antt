@@ -1,3 +1,4 @@
+use Rattle.std.proofs.lemmas.Grind.{common_steps}
 use Rattle.std.proofs.Common.{ℕ, List, refl, subst, arith}
 use Rattle.cip_calls.specs.declared.judged.Judged.{Judged}
 use Rattle.cip_calls.specs.Noted.{HasJudged}
@@ -17,3 +18,39 @@ finish-requires-clause-room g c = omega (arith, c.reserve.ensures.len, c.in_ok-r
 
 pub split_refusal-refusal-requires : goal.split_refusal-refusal-requires
 split_refusal-refusal-requires g c = record { at_work = c.requires.at_work }
+
+pub returns-clause-judged : goal.returns-clause-judged
+returns-clause-judged g c = grind (arith, common_steps)
+
+pub returns-in_default-clause-noted : goal.returns-in_default-clause-noted
+returns-in_default-clause-noted g c = grind (arith, common_steps)
+
+pub returns-clause-scratches : goal.returns-clause-scratches
+returns-clause-scratches g c = grind (arith, common_steps)
+
+pub returns-then-is_none-clause-scratches : goal.returns-then-is_none-clause-scratches
+returns-then-is_none-clause-scratches g c = grind (arith, common_steps)
+
+pub returns-clause-sound : goal.returns-clause-sound
+returns-clause-sound g c = grind (arith, common_steps)
+
+pub returns-then-is_none-clause-sound : goal.returns-then-is_none-clause-sound
+returns-then-is_none-clause-sound g c = grind (arith, common_steps)
+
+pub returns-clause-noted : goal.returns-clause-noted
+returns-clause-noted g c = grind (arith, common_steps)
+
+pub returns-then-is_none-clause-noted : goal.returns-then-is_none-clause-noted
+returns-then-is_none-clause-noted g c = grind (arith, common_steps)
+
+pub returns-in_err-finish-clause-scratches : goal.returns-in_err-finish-clause-scratches
+returns-in_err-finish-clause-scratches g c = grind (arith, common_steps)
+
+pub returns-in_err-finish-clause-noted : goal.returns-in_err-finish-clause-noted
+returns-in_err-finish-clause-noted g c = grind (arith, common_steps)
+
+pub returns-in_default-clause-judged : goal.returns-in_default-clause-judged
+returns-in_default-clause-judged g c = grind (arith, common_steps)
+
+pub finish-requires-clause-seat : goal.finish-requires-clause-seat
+finish-requires-clause-seat g c = grind (arith, common_steps)

@@ -1,4 +1,5 @@
-use Rattle.std.proofs.Common.{◌<◌, sym, subst, rules}
+use Rattle.std.proofs.lemmas.Grind.{common_steps}
+use Rattle.std.proofs.Common.{◌<◌, sym, subst, rules, arith}
 use Rattle.cip_calls.specs.SplitsJudged.{IsPlace}
 use Rattle.cip_calls.proofs.splits.judge_split.Goals as goal
 
@@ -22,3 +23,9 @@ split-requires-clause-wholes c = c.requires.wholes
 
 pub split_refusal-requires : goal.split_refusal-requires
 split_refusal-requires c = record { at_work = c.requires.at_work.0 }
+
+pub returns-in-Some-clause-judged : goal.returns-in-Some-clause-judged
+returns-in-Some-clause-judged c = grind (arith, common_steps)
+
+pub returns-clause-frame : goal.returns-clause-frame
+returns-clause-frame c = grind (arith, common_steps)

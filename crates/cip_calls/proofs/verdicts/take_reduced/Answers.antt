@@ -1,3 +1,5 @@
+use Rattle.std.proofs.lemmas.Grind.{common_steps}
+use Rattle.std.proofs.Common.{arith}
 use Rattle.cip_calls.proofs.verdicts.take_reduced.Goals as goal
 
 pub returns-in-Emptied-clause-verdict : goal.returns-in-Emptied-clause-verdict
@@ -5,3 +7,21 @@ returns-in-Emptied-clause-verdict g c = c.in_ok-take_side.ensures.emptied c.in-E
 
 pub returns-in_default-clause-verdict : goal.returns-in_default-clause-verdict
 returns-in_default-clause-verdict g c = record { same = c.in_ok-take_side.ensures.node c.in_default.not-Accepted; pool = c.take_side.ensures.pool }
+
+pub returns-in_default-clause-judged : goal.returns-in_default-clause-judged
+returns-in_default-clause-judged g c = grind (arith, common_steps)
+
+pub returns-in-Emptied-clause-judged : goal.returns-in-Emptied-clause-judged
+returns-in-Emptied-clause-judged g c = grind (arith, common_steps)
+
+pub returns-in-Accepted-clause-judged : goal.returns-in-Accepted-clause-judged
+returns-in-Accepted-clause-judged g c = grind (arith, common_steps)
+
+pub returns-in_default-clause-gone : goal.returns-in_default-clause-gone
+returns-in_default-clause-gone g c = grind (arith, common_steps)
+
+pub returns-in-Emptied-clause-gone : goal.returns-in-Emptied-clause-gone
+returns-in-Emptied-clause-gone g c = grind (arith, common_steps)
+
+pub returns-in-Accepted-clause-gone : goal.returns-in-Accepted-clause-gone
+returns-in-Accepted-clause-gone g c = grind (arith, common_steps)

@@ -1,3 +1,5 @@
+use Rattle.std.proofs.lemmas.Grind.{common_steps}
+use Rattle.std.proofs.Common.{arith}
 use Rattle.cip_calls.proofs.verdicts.take_said.Goals as goal
 
 pub take_reduced-requires-clause-ready : goal.take_reduced-requires-clause-ready
@@ -26,3 +28,15 @@ take_word-requires-clause-sound g c = c.requires.sound
 
 pub take_word-requires-clause-seat : goal.take_word-requires-clause-seat
 take_word-requires-clause-seat g c = c.requires.seat
+
+pub returns-in_default : goal.returns-in_default
+returns-in_default g c = grind (arith, common_steps)
+
+pub returns-in-Separated-clause-verdict : goal.returns-in-Separated-clause-verdict
+returns-in-Separated-clause-verdict g c = grind (arith, common_steps)
+
+pub returns-in-Separated-clause-judged : goal.returns-in-Separated-clause-judged
+returns-in-Separated-clause-judged g c = grind (arith, common_steps)
+
+pub returns-in-Reduced-clause-verdict : goal.returns-in-Reduced-clause-verdict
+returns-in-Reduced-clause-verdict g c = grind (arith, common_steps)

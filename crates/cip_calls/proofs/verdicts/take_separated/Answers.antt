@@ -1,6 +1,19 @@
-use Rattle.std.proofs.Common.{refl}
+use Rattle.std.proofs.lemmas.Grind.{common_steps}
+use Rattle.std.proofs.Common.{refl, arith}
 use Rattle.cip_calls.proofs.verdicts.take_separated.Goals as goal
 
 pub returns-in_default-clause-verdict : goal.returns-in_default-clause-verdict
 returns-in_default-clause-verdict g c =
     record { same = record { node = refl; region = c.take_cut.ensures.region }; pool = c.in_ok-take_cut.ensures.rows c.in_default.not-Accepted }
+
+pub returns-in_default-clause-judged : goal.returns-in_default-clause-judged
+returns-in_default-clause-judged g c = grind (arith, common_steps)
+
+pub returns-in_default-clause-gone : goal.returns-in_default-clause-gone
+returns-in_default-clause-gone g c = grind (arith, common_steps)
+
+pub returns-in-Accepted-clause-judged : goal.returns-in-Accepted-clause-judged
+returns-in-Accepted-clause-judged g c = grind (arith, common_steps)
+
+pub returns-in-Accepted-clause-gone : goal.returns-in-Accepted-clause-gone
+returns-in-Accepted-clause-gone g c = grind (arith, common_steps)

@@ -1,4 +1,5 @@
-use Rattle.std.proofs.Common.{refl}
+use Rattle.std.proofs.lemmas.Grind.{common_steps}
+use Rattle.std.proofs.Common.{refl, arith}
 use Rattle.cip_calls.proofs.Noting.{gone_none}
 use Rattle.cip_calls.proofs.Said.{alone_none, none_judged, one_judged_on}
 use Rattle.cip_calls.proofs.verdicts.take_verdict.Goals as goal
@@ -16,3 +17,9 @@ returns-in-None-clause-judged g c = none_judged _ c.args.id c.args.given _ refl 
 pub returns-in-Some-clause-judged : goal.returns-in-Some-clause-judged
 returns-in-Some-clause-judged g c =
     one_judged_on c.take_said-verdict.result _ c.args.id c.args.given c.in-Some.said _ _ refl c.in-Some.is c.take_said-verdict.ensures.judged
+
+pub returns-in-Some-clause-verdict : goal.returns-in-Some-clause-verdict
+returns-in-Some-clause-verdict g c = grind (arith, common_steps)
+
+pub returns-in-Some-clause-gone : goal.returns-in-Some-clause-gone
+returns-in-Some-clause-gone g c = grind (arith, common_steps)

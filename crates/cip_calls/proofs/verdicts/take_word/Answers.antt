@@ -1,3 +1,4 @@
+use Rattle.std.proofs.lemmas.Grind.{common_steps}
 use Rattle.std.proofs.Common.{refl, arith}
 use Rattle.cip_calls.proofs.Noting.{gone_none}
 use Rattle.cip_calls.proofs.Said.{gone_noted, ready_again, ready_same}
@@ -25,3 +26,9 @@ returns-clause-gone g c =
 
 pub finish-requires-clause-room : goal.finish-requires-clause-room
 finish-requires-clause-room g c = omega (arith, c.reserve.ensures.len, c.in_ok-reserve.ensures.ok)
+
+pub returns-clause-judged : goal.returns-clause-judged
+returns-clause-judged g c = grind (arith, common_steps)
+
+pub returns-clause-verdict : goal.returns-clause-verdict
+returns-clause-verdict g c = grind (arith, common_steps)

@@ -1,4 +1,5 @@
-use Rattle.std.proofs.Common.{◌≡◌, ◌≢◌, ◌∷◌, [], ◌++◌, ℕ, List, refl, sym, ap, ◌∙◌, subst}
+use Rattle.std.proofs.lemmas.Grind.{common_steps}
+use Rattle.std.proofs.Common.{◌≡◌, ◌≢◌, ◌∷◌, [], ◌++◌, ℕ, List, refl, sym, ap, ◌∙◌, subst, arith}
 use Rattle.std.proofs.lemmas.Result.{IfOk-weaker}
 use Rattle.cip_plugin.specs.declared.asking.Given.{Given}
 use Rattle.cip_calls.specs.Asked.{ask_in, told, proposers, AreSeated}
@@ -77,3 +78,9 @@ returns-clause-sides g c = c.take_all-came.ensures.sides
 
 pub ask_all-requires : goal.ask_all-requires
 ask_all-requires g c = record { sound = c.requires.sound }
+
+pub returns-then-has_none-clause-emptied : goal.returns-then-has_none-clause-emptied
+returns-then-has_none-clause-emptied g c = grind (arith, common_steps)
+
+pub returns-then-has_none-clause-sides : goal.returns-then-has_none-clause-sides
+returns-then-has_none-clause-sides g c = grind (arith, common_steps)

@@ -1,4 +1,5 @@
-use Rattle.std.proofs.Common.{◌≡◌, ◌∷◌, [], ◌++◌, ap, ◌∙◌}
+use Rattle.std.proofs.lemmas.Grind.{common_steps}
+use Rattle.std.proofs.Common.{◌≡◌, ◌∷◌, [], ◌++◌, ap, ◌∙◌, arith}
 use Rattle.cip_events.specs.Events.{event_at}
 use Rattle.cip_events.specs.declared.events.Event.{Event}
 use Rattle.cip_events.specs.declared.events.EventKind.TheVariants.{NodeFocused}
@@ -14,3 +15,12 @@ returns-clause-used g c =
 
 pub tell-requires : goal.tell-requires
 tell-requires g c = record { sound = c.requires.sound }
+
+pub returns-clause-sound : goal.returns-clause-sound
+returns-clause-sound g c = grind (arith, common_steps)
+
+pub returns-clause-frame : goal.returns-clause-frame
+returns-clause-frame g c = grind (arith, common_steps)
+
+pub returns-clause-run : goal.returns-clause-run
+returns-clause-run g c = grind (arith, common_steps)

@@ -1,4 +1,5 @@
-use Rattle.std.proofs.Common.{◌∷◌, [], sym, ◌∙◌}
+use Rattle.std.proofs.lemmas.Grind.{common_steps}
+use Rattle.std.proofs.Common.{◌∷◌, [], sym, ◌∙◌, arith}
 use Rattle.cip_plugin.specs.Calls.{Propagate}
 use Rattle.cip_calls.proofs.Noting.{come_further}
 use Rattle.cip_calls.proofs.Pools.{sides_not_cuts}
@@ -42,3 +43,18 @@ ask_round-requires-clause-ready g c = c.requires.ready
 
 pub ask_round-requires-clause-sound : goal.ask_round-requires-clause-sound
 ask_round-requires-clause-sound g c = c.requires.sound
+
+pub returns-clause-come : goal.returns-clause-come
+returns-clause-come g c = grind (arith, common_steps)
+
+pub returns-clause-pool : goal.returns-clause-pool
+returns-clause-pool g c = grind (arith, common_steps)
+
+pub ask_round-requires-in-loop-clause-ready : goal.ask_round-requires-in-loop-clause-ready
+ask_round-requires-in-loop-clause-ready g c = grind (arith, common_steps)
+
+pub ask_round-requires-in-loop-clause-sound : goal.ask_round-requires-in-loop-clause-sound
+ask_round-requires-in-loop-clause-sound g c = grind (arith, common_steps)
+
+pub returns-in_err-first-clause-come : goal.returns-in_err-first-clause-come
+returns-in_err-first-clause-come g c = grind (arith, common_steps)

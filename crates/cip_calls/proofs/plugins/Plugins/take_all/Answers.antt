@@ -1,6 +1,7 @@
+use Rattle.std.proofs.lemmas.Grind.{common_steps}
 use Rattle.cip_plugin.specs.declared.asking.Given.{Given}
 use Rattle.std.specs.Prelude.{IsSome, slice_get}
-use Rattle.std.proofs.Common.{refl, sym, ◌∙◌, append-nil, ℕ, subst}
+use Rattle.std.proofs.Common.{refl, sym, ◌∙◌, append-nil, ℕ, subst, arith}
 use Rattle.cip_calls.specs.Asked.{ask_in}
 use Rattle.cip_calls.specs.Noted.{makers}
 use Rattle.cip_calls.proofs.Noting.{gone_none, gone_further, seat_noted, all_more}
@@ -60,3 +61,24 @@ returns-clause-rows g c = λ e. c.loop-id.invariant.rows (c.came_of.ensures.quie
 pub take_given-requires-clause-seat : goal.take_given-requires-clause-seat
 take_given-requires-clause-seat g c =
     subst (λ (e : ℕ × Given). IsSome (slice_get (g.R.Seated.state c.loop-id.self.roster).seats e.0)) (sym c.loop-id-item.is) (c.loop-id.invariant.seated c.loop-id.id-index c.loop-id-item.result c.loop-id-test.true)
+
+pub returns-clause-emptied : goal.returns-clause-emptied
+returns-clause-emptied g c = omega arith
+
+pub returns-in-Emptied-clause-rows : goal.returns-in-Emptied-clause-rows
+returns-in-Emptied-clause-rows g c = grind (arith, common_steps)
+
+pub returns-clause-judged : goal.returns-clause-judged
+returns-clause-judged g c = grind (arith, common_steps)
+
+pub returns-in-Emptied-clause-judged : goal.returns-in-Emptied-clause-judged
+returns-in-Emptied-clause-judged g c = grind (arith, common_steps)
+
+pub returns-clause-sides : goal.returns-clause-sides
+returns-clause-sides g c = grind (arith, common_steps)
+
+pub take_given-requires-clause-ready : goal.take_given-requires-clause-ready
+take_given-requires-clause-ready g c = grind (arith, common_steps)
+
+pub returns-clause-gone : goal.returns-clause-gone
+returns-clause-gone g c = grind (arith, common_steps)

@@ -1,3 +1,4 @@
+use Rattle.std.proofs.lemmas.Grind.{common_steps}
 use Rattle.std.proofs.Common.{refl, sym, ap, subst, arith}
 use Rattle.cip_problem.specs.WellFormed.{columns}
 use Rattle.cip_tree.specs.Nodes.{region_of}
@@ -52,3 +53,6 @@ judge_cut-requires-clause-at_work g c = c.requires.ready.at_work
 
 pub judge_cut-requires-clause-room : goal.judge_cut-requires-clause-room
 judge_cut-requires-clause-room g c = c.requires.ready.room
+
+pub returns-clause-judged : goal.returns-clause-judged
+returns-clause-judged g c = grind (arith, common_steps)

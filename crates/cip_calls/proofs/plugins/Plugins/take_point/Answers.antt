@@ -1,3 +1,4 @@
+use Rattle.std.proofs.lemmas.Grind.{common_steps}
 use Rattle.std.proofs.Common.{sym, ap, subst, arith}
 use Rattle.cip_problem.specs.WellFormed.{columns}
 use Rattle.cip_calls.specs.CoreStates.{CoreState, reduced_of}
@@ -51,3 +52,15 @@ finish-requires-clause-room g c = omega (arith, c.reserve.ensures.len, c.in_ok-r
 
 pub judge_guess-requires : goal.judge_guess-requires
 judge_guess-requires g c = record { at_work = c.requires.ready.at_work }
+
+pub returns-clause-judged : goal.returns-clause-judged
+returns-clause-judged g c = grind (arith, common_steps)
+
+pub returns-clause-region : goal.returns-clause-region
+returns-clause-region g c = grind (arith, common_steps)
+
+pub returns-in_err-finish-clause-region : goal.returns-in_err-finish-clause-region
+returns-in_err-finish-clause-region g c = grind (arith, common_steps)
+
+pub returns-in_err-came-clause-region : goal.returns-in_err-came-clause-region
+returns-in_err-came-clause-region g c = grind (arith, common_steps)

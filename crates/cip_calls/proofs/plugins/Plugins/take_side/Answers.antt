@@ -1,3 +1,4 @@
+use Rattle.std.proofs.lemmas.Grind.{common_steps}
 use Rattle.std.proofs.Common.{◌∙◌, sym, subst, arith}
 use Rattle.cip_problem.specs.WellFormed.{columns}
 use Rattle.cip_calls.specs.CoreStates.{reduced_of}
@@ -67,3 +68,6 @@ finish-requires-clause-room g c = omega (arith, c.reserve.ensures.len, c.in_ok-r
 
 pub judge_reduction-requires-clause-at_work : goal.judge_reduction-requires-clause-at_work
 judge_reduction-requires-clause-at_work g c = c.requires.ready.at_work
+
+pub returns-clause-judged : goal.returns-clause-judged
+returns-clause-judged g c = grind (arith, common_steps)

@@ -1,4 +1,5 @@
-use Rattle.std.proofs.Common.{refl, ◌∙◌}
+use Rattle.std.proofs.lemmas.Grind.{common_steps}
+use Rattle.std.proofs.Common.{refl, ◌∙◌, arith}
 use Rattle.cip_calls.proofs.Noting.{gone_none, gone_further, judged_none, judged_more, seat_noted}
 use Rattle.cip_calls.proofs.plugins.Plugins.take_sides.Goals as goal
 
@@ -32,3 +33,9 @@ returns-in-Emptied-clause-emptied g c = λ _. c.in_ok-came.ensures.emptied c.in-
 
 pub returns-in-Emptied-clause-pool : goal.returns-in-Emptied-clause-pool
 returns-in-Emptied-clause-pool g c = c.take_side.ensures.pool ∙ c.loop-told.invariant.pool
+
+pub returns-clause-emptied : goal.returns-clause-emptied
+returns-clause-emptied g c = omega arith
+
+pub returns-in-Emptied-clause-judged : goal.returns-in-Emptied-clause-judged
+returns-in-Emptied-clause-judged g c = grind (arith, common_steps)

@@ -1,4 +1,5 @@
-use Rattle.std.proofs.Common.{ℕ, [], Vec, Global}
+use Rattle.std.proofs.lemmas.Grind.{common_steps}
+use Rattle.std.proofs.Common.{ℕ, [], Vec, Global, arith}
 use Rattle.std.specs.declared.alloc.AllocError.{AllocError}
 use Rattle.cip_plugin.specs.declared.asking.Given.{Given}
 use Rattle.cip_plugin.specs.Calls.{Separate, Propagate, Search}
@@ -38,3 +39,12 @@ returns-in-Points-clause-seated g c = then_ok {A = Vec (ℕ × Given) Global} {E
 
 pub returns-in-Points-clause-run : goal.returns-in-Points-clause-run
 returns-in-Points-clause-run g c = either {A = Vec (ℕ × Given) Global} {E = AllocError} c.call_heuristics.result _ _ _ c.call_heuristics.ensures.called c.call_heuristics.ensures.err (λ (gave : Vec (ℕ × Given) Global) h. kind_run kinds.Heuristic Search _ _ [] gave.items h) (λ same. ran_same _ _ same)
+
+pub returns-in-Points-clause-sound : goal.returns-in-Points-clause-sound
+returns-in-Points-clause-sound g c = grind (arith, common_steps)
+
+pub returns-in-Sides-clause-sound : goal.returns-in-Sides-clause-sound
+returns-in-Sides-clause-sound g c = grind (arith, common_steps)
+
+pub returns-in-Cuts-clause-sound : goal.returns-in-Cuts-clause-sound
+returns-in-Cuts-clause-sound g c = grind (arith, common_steps)

@@ -1,3 +1,5 @@
+use Rattle.std.proofs.lemmas.Grind.{common_steps}
+use Rattle.std.proofs.Common.{arith}
 use Rattle.std.proofs.lemmas.Result.{IfOk-weaker}
 use Rattle.cip_plugin.specs.Calls.{Branch, Enforce}
 use Rattle.cip_plugin.specs.declared.kinds.Kind.TheVariants as kinds
@@ -18,3 +20,15 @@ returns-in-Verdict-clause-asked g c =
 
 pub returns-in-Verdict-clause-seated : goal.returns-in-Verdict-clause-seated
 returns-in-Verdict-clause-seated g c = IfOk-weaker _ _ _ (λ gave h. next_seated kinds.ConsHandler Enforce _ _ _ gave h) c.call_enforcers.ensures.called
+
+pub returns-in-Verdict-clause-sound : goal.returns-in-Verdict-clause-sound
+returns-in-Verdict-clause-sound g c = grind (arith, common_steps)
+
+pub returns-in-Split-clause-sound : goal.returns-in-Split-clause-sound
+returns-in-Split-clause-sound g c = grind (arith, common_steps)
+
+pub returns-in-Verdict-clause-err : goal.returns-in-Verdict-clause-err
+returns-in-Verdict-clause-err g c = grind (arith, common_steps)
+
+pub returns-in-Split-clause-err : goal.returns-in-Split-clause-err
+returns-in-Split-clause-err g c = grind (arith, common_steps)
