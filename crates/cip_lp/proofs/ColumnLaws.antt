@@ -1,6 +1,7 @@
 -- Columns that are named, and programs of facts.
-use Rattle.std.proofs.Common.{◌≡◌, ℕ, zero, suc, ◌≤◌, Bool, true, List, [], ◌∷◌, length, set, Option, None, Some, refl, sym, ap, subst, ◌∙◌, arith}
+use Rattle.std.proofs.Common.{◌≡◌, ℕ, ◌≤◌, Bool, true, List, [], length, set, Option, None, Some, refl, sym, ap, subst, ◌∙◌, arith}
 use Rattle.std.specs.Prelude.{All, slice_get}
+use Rattle.std.proofs.lemmas.List.{set_past}
 use Rattle.cip_problem.specs.Limits.{most_columns}
 use Rattle.cip_problem.specs.Activity.{StandsBelow}
 use Rattle.cip_problem.specs.Choices.{choice_at}
@@ -16,11 +17,6 @@ use Rattle.cip_lp.specs.LpDrafts.{IsKeptLp}
 use Rattle.cip_lp.proofs.KeptLaws.{kept_with}
 
 -- ---- a column that was not named
-
-set_past : {X : Type 0} (xs : List X) (k : ℕ) (v : X) → length xs ≤ k → set xs k v ≡ xs
-set_past [] k v l = refl
-set_past (x ∷ xs) zero v l = absurd (omega (arith, l))
-set_past {X} (x ∷ xs) (suc k) v l = ap (λ (ys : List X). x ∷ ys) (set_past xs k v (omega (arith, l)))
 
 past : (f : LpFacts) (name : List ℕ) → number_in f.column_names name ≡ None → column_number f name ≡ length f.column_names
 past f name e = ap (λ (o : Option ℕ). number_or o (length f.column_names)) e

@@ -8,6 +8,7 @@ use Rattle.cip_problem.specs.Program.{Row, Sides}
 use Rattle.cip_rational.specs.Rational.{ℚ, zeroℚ}
 use Rattle.cip_text_rules.specs.MpsWords.{number_in, is_in}
 use Rattle.cip_text_rules.specs.MpsRules.{rule, least}
+use Rattle.cip_text_rules.proofs.ByLine.{or_nothing}
 use Rattle.cip_text_rules.proofs.Quiet.{right_false}
 use Rattle.cip_text_rules.specs.LpWords.{LpPart, Costs, Constraints}
 use Rattle.cip_text_rules.specs.LpPlaces.{Amount, Event, Fails, Opens, NamesObjective, Begins, AddsCost, AddsConstant, Adds, Ends, Mentions, SetsLow, SetsHigh, SetsBoth, MakesWhole, MakesBinary}
@@ -62,14 +63,10 @@ kept_with facts event h e = record {
 
 -- ---- terms
 
-or_none : (b : Bool) → (b || false) ≡ b
-or_none true = refl
-or_none false = refl
-
 -- the fault of a term of the objective, or of a row
 pub cost_fault : (facts : LpFacts) (amount : Amount) (name : List ℕ) (kind : Option ℕ) → kind ≡ least (rule 7 (is_again facts name) ∷ rule 9 (is_column_too_many facts name || false) ∷ rule 10 (is_long name) ∷ []) → kind ≡ event_fault facts (AddsCost amount name)
 cost_fault facts amount name kind e =
-    e ∙ ap (λ (b : Bool). least (rule 7 (is_again facts name) ∷ rule 9 b ∷ rule 10 (is_long name) ∷ [])) (or_none (is_column_too_many facts name))
+    e ∙ ap (λ (b : Bool). least (rule 7 (is_again facts name) ∷ rule 9 b ∷ rule 10 (is_long name) ∷ [])) (or_nothing (is_column_too_many facts name))
 
 pub term_fault : (facts : LpFacts) (amount : Amount) (name : List ℕ) (full : Bool) (kind : Option ℕ) → full ≡ is_entry_too_many facts amount → kind ≡ least (rule 7 (is_again facts name) ∷ rule 9 (is_column_too_many facts name || full) ∷ rule 10 (is_long name) ∷ []) → kind ≡ event_fault facts (Adds amount name)
 term_fault facts amount name full kind f e =

@@ -1,11 +1,9 @@
 -- Where a token stands, as the code keeps it.
 --     where_of statements      the section and the place of the next token
 use Rattle.std.specs.Prelude.{Bool, not, ◌&&◌, ◌||◌, if◌then◌else◌, Option, None, Some}
-use Rattle.cip_rational.specs.Rational.{ℚ}
 use Rattle.cip_text_rules.specs.LpTokens.{Token}
 use Rattle.cip_text_rules.specs.LpPlaces as places
-use Rattle.cip_text_rules.specs.LpWords.{Relation, AtMost}
-use Rattle.cip_text_rules.specs.LpGrammar.{is_name, goes_behind, low_side, high_side}
+use Rattle.cip_text_rules.specs.LpGrammar.{is_name, goes_behind}
 use Rattle.cip_text_rules.specs.LpOutcome.{LpContext}
 use Rattle.cip_lp.specs.LpKinds.{part_shown, relation_shown}
 use Rattle.cip_lp.specs.LpLimits.{limit_shown}
@@ -21,17 +19,6 @@ first_of place = record { amount = place.first; relation = relation_shown place.
 -- they stand there, or not
 abbrev pub given_of : Place → Option places.Given
 given_of place = if place.given then Some (first_of place) else None
-
--- the sides of a row whose form has this relation to a value, behind another value and relation or none
-abbrev pub row_low : Option places.Given → Relation → ℚ → Option ℚ
-row_low None relation value = low_side relation value
-row_low (Some given) AtMost value = Some given.amount.value
-row_low (Some given) other value = Some value
-
-abbrev pub row_high : Option places.Given → Relation → ℚ → Option ℚ
-row_high None relation value = high_side relation value
-row_high (Some given) AtMost value = Some value
-row_high (Some given) other value = Some given.amount.value
 
 -- a token goes on with a row that begins with a value, a relation and a number
 abbrev pub goes_on_with : places.Given → places.Amount → Token → Bool

@@ -1,18 +1,18 @@
 -- The state behind each kind of line, by the fields that it changes.
-use Rattle.std.proofs.Common.{◌≡◌, ℕ, suc, ◌+◌, Bool, true, false, not, ◌&&◌, ◌||◌, cond, List, [], ◌∷◌, ◌++◌, length, Option, None, Some, refl, ap, add-zero}
+use Rattle.std.proofs.Common.{◌≡◌, ℕ, suc, ◌+◌, Bool, true, false, not, ◌&&◌, ◌||◌, cond, List, [], ◌∷◌, length, Option, None, Some, refl, ap, add-zero}
 use Rattle.std.specs.Prelude.{nat_lt, nat_le, is_some}
 use Rattle.std.specs.List.{filter, list_any}
 use Rattle.std.proofs.lemmas.List.{append-nil}
 use Rattle.cip_rational.specs.Numeral.{Numeral}
 use Rattle.cip_problem.specs.Limits.{most_columns, most_entries, longest_name}
-use Rattle.cip_text_rules.specs.MpsWords.{Part, NoPart, Title, Sense, Rows, Columns, RightSides, Ranges, Bounds, End, RowKind, BoundKind, sense_of, is_zero, is_no_number, is_too_fine, number_in, is_in}
+use Rattle.cip_text_rules.specs.MpsWords.{Part, NoPart, Title, Sense, Rows, Columns, RightSides, Ranges, Bounds, End, BoundKind, is_zero, is_no_number, is_too_fine, number_in, is_in}
 use Rattle.cip_text_rules.specs.MpsSayings.{LinePlace, Value, Saying, UnknownSection, Opens, Misplaced, Miscounted, Skipped, SenseLine, RowLine, ColumnLine, Marker, BadMarker, RightSideLine, RangeLine, BoundLine, BadBound, no_place, place_after}
-use Rattle.cip_text_rules.specs.MpsFacts.{coefficients_in, sense_if, senses_in}
+use Rattle.cip_text_rules.specs.MpsFacts.{coefficients_in}
 use Rattle.cip_text_rules.specs.MpsRules.{Rule, rule, least, entry_count, has_twins, is_before_last}
-use Rattle.cip_text_rules.specs.MpsState.{State, row_at, first_of}
+use Rattle.cip_text_rules.specs.MpsState.{State, row_at}
 use Rattle.cip_text_rules.specs.MpsSteps.{or_else, holds, put, taken, tests}
 use Rattle.cip_text_rules.specs.MpsLineTests.{column_tests, numbers_of, has_huge, has_unknown}
-use Rattle.cip_mps.specs.DraftLines.{entries_in, column_rules, sense_said_on, section_tests}
+use Rattle.cip_mps.specs.DraftLines.{entries_in, column_rules, section_tests}
 use Rattle.cip_text_rules.specs.MpsStepStatements.{LinesHaveTests}
 use Rattle.cip_mps.specs.DraftStates.{at_place}
 use Rattle.cip_mps.specs.DraftSteps.{PlacesJoin, IsStep}
@@ -61,30 +61,6 @@ taken_marker s begins = λ i. record s { place = no_place; opened = append-nil s
 pub taken_column : (state : State) (column : List ℕ) (whole : Bool) (values : List Value) → at_place no_place (taken state (ColumnLine column whole values)) ≡ record (at_place no_place (put state (ColumnLine column whole values))) { entries = state.entries + entries_in values }
 taken_column s column whole values = λ i. record (put s (ColumnLine column whole values)) { place = no_place; opened = append-nil s.opened i; sense = or_none s.sense i; entries = s.entries + entries_are column whole values i }
 
--- the sense of a section line
-first_if : (o : Option Bool) → first_of (sense_if o) ≡ o
-first_if None = refl
-first_if (Some b) = refl
-
-said_first : (part : Part) (words : List (List ℕ)) → first_of (senses_in (Opens part words)) ≡ sense_said_on part words
-said_first NoPart words = refl
-said_first Title words = refl
-said_first Sense [] = refl
-said_first Sense (word ∷ words) = first_if (sense_of word)
-said_first Rows words = refl
-said_first Columns words = refl
-said_first RightSides words = refl
-said_first Ranges words = refl
-said_first Bounds words = refl
-said_first End words = refl
-
-pub taken_opens : (state : State) (part : Part) (words : List (List ℕ))
-    → at_place no_place (taken state (Opens part words)) ≡ record (at_place no_place state) { opened = state.opened ++ part ∷ []; sense = or_else state.sense (sense_said_on part words) }
-taken_opens s part words = λ i. record s { place = no_place; opened = s.opened ++ part ∷ []; sense = or_else s.sense (said_first part words i); entries = add-zero s.entries i }
-
-pub taken_sense : (state : State) (word : List ℕ) → at_place no_place (taken state (SenseLine word)) ≡ record (at_place no_place state) { sense = or_else state.sense (sense_of word) }
-taken_sense s word = λ i. record s { place = no_place; opened = append-nil s.opened i; sense = or_else s.sense (first_if (sense_of word) i); entries = add-zero s.entries i }
-
 -- lines that put values
 pub taken_right_side : (state : State) (set_name : List ℕ) (values : List Value) → at_place no_place (taken state (RightSideLine set_name values)) ≡ at_place no_place (put state (RightSideLine set_name values))
 taken_right_side s set_name values = λ i. record (put s (RightSideLine set_name values)) { place = no_place; opened = append-nil s.opened i; sense = or_none s.sense i; entries = add-zero s.entries i }
@@ -96,9 +72,6 @@ pub taken_bound : (state : State) (kind : BoundKind) (set_name column : List ℕ
     → at_place no_place (taken state (BoundLine kind set_name column value)) ≡ at_place no_place (put state (BoundLine kind set_name column value))
 taken_bound s kind set_name column value =
     λ i. record (put s (BoundLine kind set_name column value)) { place = no_place; opened = append-nil s.opened i; sense = or_none s.sense i; entries = add-zero s.entries i }
-
-pub taken_row : (state : State) (kind : RowKind) (name : List ℕ) → at_place no_place (taken state (RowLine (Some kind) name)) ≡ at_place no_place (put state (RowLine (Some kind) name))
-taken_row s kind name = λ i. record (put s (RowLine (Some kind) name)) { place = no_place; opened = append-nil s.opened i; sense = or_none s.sense i; entries = add-zero s.entries i }
 
 -- ---- places
 

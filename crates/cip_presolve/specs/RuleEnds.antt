@@ -1,7 +1,6 @@
 -- What rules come to.
 use Rattle.std.specs.Prelude.{◌≡◌, ℕ, ◌<◌, true, false, length, ⊤}
-use Rattle.cip_problem.specs.Program.{Sides, Row, Program}
-use Rattle.cip_problem.specs.Activity.{StandsBelow}
+use Rattle.cip_problem.specs.Program.{Sides, Program}
 use Rattle.cip_problem.specs.Choices.{choice_at, is_open}
 use Rattle.cip_presolve.specs.MetSides.{is_past}
 use Rattle.cip_presolve.specs.NarrowedPrograms.{IsExactStep, IsInfeasible, with_row, with_sides}
@@ -22,8 +21,3 @@ pub record IsSingled (program : Program) (number column : ℕ) (sides : Sides) :
   pub plain : is_open (choice_at program.choices column) ≡ false
   pub step : IsExactStep program (with_row (with_sides program column sides) number no_row)
   pub none : is_past sides.low sides.high ≡ true → IsInfeasible program
-
--- a row that may take the place of another
-pub record IsCleaned (program : Program) (number : ℕ) (row : Row) : Type 0 where
-  pub step : IsExactStep program (with_row program number row)
-  pub stands : StandsBelow (length program.bounds) row.terms

@@ -11,11 +11,6 @@ abbrev pub IsEnclosed : Program → ℕ → Sides → Type 0
 IsEnclosed program number extent =
     (row : Row) → slice_get program.rows number ≡ Some row → Encloses program.bounds row.terms extent
 
--- a column is whole, and not semi-continuous
-pub record IsPlainWhole (program : Program) (column : ℕ) : Type 0 where
-  pub plain : is_open (choice_at program.choices column) ≡ false
-  pub whole : slice_get program.integral column ≡ Some true
-
 -- a column, and sides that it may take: where they leave no value, no point is feasible
 pub record IsImplied (program : Program) (column : ℕ) (sides : Sides) : Type 0 where
   pub inside : column < length program.bounds

@@ -272,8 +272,8 @@ fn with_start(
     }
 }
 
-/// Solves the linear program of a node, over the rows of the pool that may be used in its box, with room for what checks
-/// work in. `Err` comes where memory was refused.
+/// Solves the linear program of a node, over the rows of the pool that may be used in its box, with room for what
+/// checks work in. `Err` comes where memory was refused.
 fn relaxed_in(
     alloc: Global,
     program: &Program,

@@ -14,7 +14,7 @@ use Rattle.cip_text_rules.specs.MpsState.{State, row_at, column_at}
 use Rattle.cip_text_rules.specs.MpsSteps.{holds, tests}
 use Rattle.cip_text_rules.specs.MpsLineTests.{opening_tests, end_tests, sense_tests, row_tests, column_tests, bound_tests, numbers_of, has_huge, has_unknown, is_full}
 
-or_nothing : (b : Bool) → (b || false) ≡ b
+pub or_nothing : (b : Bool) → (b || false) ≡ b
 or_nothing true = refl
 or_nothing false = refl
 

@@ -1,4 +1,5 @@
-use Rattle.std.proofs.Common.{length, Ok}
+use Rattle.std.proofs.lemmas.Grind.{common_steps}
+use Rattle.std.proofs.Common.{length, Ok, arith}
 use Rattle.cip_cert.specs.Lent.{lent_of, multiples_of}
 use Rattle.cip_cert.proofs.Meaning.{empties_follows}
 use Rattle.cip_cert.proofs.calls.empties_over.Goals as goal
@@ -6,3 +7,6 @@ use Rattle.cip_cert.proofs.calls.empties_over.Goals as goal
 pub returns-in-Ok-clause-follows : goal.returns-in-Ok-clause-follows
 returns-in-Ok-clause-follows c =
     empties_follows (lent_of c.args.rows.now) c.args.bounds.now (length c.args.row.now.entries) (multiples_of c.args.combo.now) c.requires.fits c.requires.room (Ok c.in-Ok.field-0) c.in-Ok.ensures.steps
+
+pub returns-in-Err-clause-steps : goal.returns-in-Err-clause-steps
+returns-in-Err-clause-steps c = grind (arith, common_steps)

@@ -1,4 +1,5 @@
-use Rattle.std.proofs.Common.{◌≡◌, length, None, Some, Result, Ok, sym, ap, ap₂, ◌∙◌}
+use Rattle.std.proofs.lemmas.Grind.{common_steps}
+use Rattle.std.proofs.Common.{◌≡◌, length, None, Some, Result, Ok, sym, ap, ap₂, ◌∙◌, arith}
 use Rattle.cip_problem.specs.Aggregate.{Inequality}
 use Rattle.cip_cert.specs.Checks.{chain, first_stop, round_unless, round_if}
 use Rattle.cip_cert.specs.declared.faults.CutFault.{CutFault}
@@ -62,3 +63,9 @@ returns-in-None-clause-steps c =
 
 pub returns-in-None-clause-columns : goal.returns-in-None-clause-columns
 returns-in-None-clause-columns c = ap length c.sort.ensures.entries ∙ c.in-Ok.ensures.columns
+
+pub first_stop-requires-clause-room : goal.first_stop-requires-clause-room
+first_stop-requires-clause-room c = grind (arith, common_steps)
+
+pub first_stop-requires-clause-tells : goal.first_stop-requires-clause-tells
+first_stop-requires-clause-tells c = grind (arith, common_steps)

@@ -1,4 +1,5 @@
-use Rattle.std.proofs.Common.{List, Result, sym, ap, ◌∙◌}
+use Rattle.std.proofs.lemmas.Grind.{common_steps}
+use Rattle.std.proofs.Common.{List, Result, sym, ap, ◌∙◌, arith}
 use Rattle.cip_rational.specs.Rational.{ℚ}
 use Rattle.cip_problem.specs.Program.{Sides}
 use Rattle.cip_problem.specs.Aggregate.{Inequality}
@@ -17,3 +18,18 @@ returns-clause-next c = λ more.
     (sym (c.rests.ensures
     ∙ ap (λ (ds : List ℚ). rests_from c.args.named 0 c.in-Ok.least ds c.as_slice.result.now) c.entries.ensures.entries
     ∙ ap (λ (box : List Sides). rests_from c.args.named 0 c.in-Ok.least c.sort.new.self.entries box) c.as_slice.ensures))
+
+pub rests-requires-clause-room : goal.rests-requires-clause-room
+rests-requires-clause-room c = grind (arith, common_steps)
+
+pub rests-requires-clause-tells : goal.rests-requires-clause-tells
+rests-requires-clause-tells c = grind (arith, common_steps)
+
+pub returns-clause-columns : goal.returns-clause-columns
+returns-clause-columns c = grind (arith, common_steps)
+
+pub returns-clause-steps : goal.returns-clause-steps
+returns-clause-steps c = grind (arith, common_steps)
+
+pub returns-in-Err-clause-steps : goal.returns-in-Err-clause-steps
+returns-in-Err-clause-steps c = grind (arith, common_steps)

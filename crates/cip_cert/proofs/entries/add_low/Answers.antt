@@ -1,3 +1,4 @@
+use Rattle.std.proofs.lemmas.Grind.{common_steps}
 use Rattle.std.proofs.Common.{refl, arith}
 use Rattle.std.proofs.lemmas.Bool.{false≢true}
 use Rattle.cip_cert.proofs.EntryParts.{low_unknown, low_sign}
@@ -23,3 +24,12 @@ sides-requires c = omega (arith, c.if-multiple-len.false, c.len.ensures)
 
 pub returns-clause-columns : goal.returns-clause-columns
 returns-clause-columns c = c.add_part.ensures.columns
+
+pub add_part-requires : goal.add_part-requires
+add_part-requires c = grind (arith, common_steps)
+
+pub overflow_cast-multiple : goal.overflow_cast-multiple
+overflow_cast-multiple c = omega arith
+
+pub returns-clause-steps : goal.returns-clause-steps
+returns-clause-steps c = grind (arith, common_steps)

@@ -1,4 +1,5 @@
-use Rattle.std.proofs.Common.{◌≡◌, cond, length, Some, Result, Ok, Err, refl, sym, ap, ◌∙◌}
+use Rattle.std.proofs.lemmas.Grind.{common_steps}
+use Rattle.std.proofs.Common.{◌≡◌, cond, length, Some, Result, Ok, Err, refl, sym, ap, ◌∙◌, arith}
 use Rattle.std.proofs.lemmas.Option.{slice_get_read}
 use Rattle.cip_problem.specs.Program.{Row}
 use Rattle.cip_cert.specs.Pool.{pool_row}
@@ -35,3 +36,6 @@ returns c =
           (c.index-pool-place.is) ((c.requires.fits c.in-Some.place c.index-pool-place.result
           c.in-Some.ensures.0).stands),
     )
+
+pub inside-requires : goal.inside-requires
+inside-requires c = grind (arith, common_steps)

@@ -1,4 +1,5 @@
-use Rattle.std.proofs.Common.{refl}
+use Rattle.std.proofs.lemmas.Grind.{common_steps}
+use Rattle.std.proofs.Common.{refl, arith}
 use Rattle.cip_cert.proofs.entries.named_row.Goals as goal
 
 pub kept_row-requires-clause-rising : goal.kept_row-requires-clause-rising
@@ -12,3 +13,6 @@ returns-in-Pool c = rw (c.in-Pool.is) c.kept_row.ensures
 
 pub returns-in-None-cutoff : goal.returns-in-None-cutoff
 returns-in-None-cutoff c = rw (c.in-Cutoff.is, c.in-None-cutoff.is) refl
+
+pub returns-in-Some-cutoff : goal.returns-in-Some-cutoff
+returns-in-Some-cutoff c = grind (arith, common_steps)

@@ -1,3 +1,4 @@
+use Rattle.std.proofs.lemmas.Grind.{common_steps}
 use Rattle.std.proofs.Common.{◌≡◌, ◌<◌, ◌∙◌, length, get_or, List, refl, ap, arith}
 use Rattle.std.proofs.lemmas.List.{length-set}
 use Rattle.cip_rational.specs.Rational.{ℚ}
@@ -59,3 +60,12 @@ returns-clause-steps c = terms_added c.args.entry c.args.factor c.loop-term.term
 
 pub returns-clause-columns : goal.returns-clause-columns
 returns-clause-columns c = c.loop-term.invariant.columns
+
+pub bounds-entries-term-inside : goal.bounds-entries-term-inside
+bounds-entries-term-inside c = grind (arith, common_steps)
+
+pub offset_bounds-entries-term-inside : goal.offset_bounds-entries-term-inside
+offset_bounds-entries-term-inside c = omega arith
+
+pub set-requires : goal.set-requires
+set-requires c = grind (arith, common_steps)

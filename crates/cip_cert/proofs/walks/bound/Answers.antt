@@ -58,3 +58,12 @@ returns-then-not-step c =
 pub returns : goal.returns
 returns c = columns_added c.loop-at.at c.loop-at.sum c.args.costs.now c.args.entries.now c.args.sides.now _
     c.loop-at.invariant (omega (arith, c.loop-at-test.false, c.requires.costs))
+
+pub offset_bounds-costs-at-then-not-step : goal.offset_bounds-costs-at-then-not-step
+offset_bounds-costs-at-then-not-step c = omega arith
+
+pub offset_bounds-entries-at-then-not-step : goal.offset_bounds-entries-at-then-not-step
+offset_bounds-entries-at-then-not-step c = omega arith
+
+pub offset_bounds-sides-at-then-not-step : goal.offset_bounds-sides-at-then-not-step
+offset_bounds-sides-at-then-not-step c = omega arith

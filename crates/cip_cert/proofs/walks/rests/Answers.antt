@@ -1,3 +1,4 @@
+use Rattle.std.proofs.lemmas.Grind.{common_steps}
 use Rattle.std.proofs.Common.{◌<◌, ◌≤◌, ◌+◌, ◌∙◌, arith, length, get_or, sym}
 use Rattle.std.proofs.lemmas.List.{get_or_default}
 use Rattle.cip_rational.specs.Rational.{zeroℚ}
@@ -60,3 +61,18 @@ pub returns : goal.returns
 returns c =
     rests_end c.args.named c.loop-column.next c.loop-column.sum c.args.entries.now c.args.sides.now _ c.loop-column.invariant.steps c.loop-column.invariant.within
     (λ k a b. untouched c.args.entries.now c.args.touched.now c.loop-column.next c.loop-column.column-index (length c.args.sides.now) (length c.args.sides.now) c.requires.tells c.loop-column.invariant.passed (λ j h l. absurd (omega (arith, h, l, c.loop-column-test.false))) k a b b)
+
+pub bounds-entries-column : goal.bounds-entries-column
+bounds-entries-column c = omega arith
+
+pub bounds-sides-column : goal.bounds-sides-column
+bounds-sides-column c = omega arith
+
+pub loop-column-init : goal.loop-column-init
+loop-column-init c = grind (arith, common_steps)
+
+pub offset_bounds-entries-column : goal.offset_bounds-entries-column
+offset_bounds-entries-column c = omega arith
+
+pub offset_bounds-sides-column : goal.offset_bounds-sides-column
+offset_bounds-sides-column c = omega arith

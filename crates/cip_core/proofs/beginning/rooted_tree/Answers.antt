@@ -1,4 +1,5 @@
-use Rattle.std.proofs.Common.{[], None, sym, subst}
+use Rattle.std.proofs.lemmas.Grind.{common_steps}
+use Rattle.std.proofs.Common.{[], None, sym, subst, arith}
 use Rattle.cip_search.specs.SearchState.{HasGivenBoxes}
 use Rattle.cip_presolve.specs.StepsBack.{way_back}
 use Rattle.cip_tree.specs.Moves.{IsNew}
@@ -34,3 +35,6 @@ returns-clause-boxes c =
     (subst (λ b. IsNew tree b reduced.integral c.root_bound-bound.result) c.in_ok-root.ensures
     (subst (λ i. IsNew tree c.in_ok-root.root i c.root_bound-bound.result) c.whole.ensures.whole n)))
     c.new.ensures
+
+pub new-requires-clause-columns : goal.new-requires-clause-columns
+new-requires-clause-columns c = grind (arith, common_steps)

@@ -1,4 +1,5 @@
-use Rattle.std.proofs.Common.{None, IfSome, ◌∙◌, sym, ap, subst}
+use Rattle.std.proofs.lemmas.Grind.{common_steps}
+use Rattle.std.proofs.Common.{None, IfSome, ◌∙◌, sym, ap, subst, arith}
 use Rattle.cip_problem.specs.BoxBound.{box_bound}
 use Rattle.cip_problem.specs.Improving.{IsBoundIn}
 use Rattle.cip_model.specs.Meaning.{BoundHolds}
@@ -17,3 +18,6 @@ returns-clause-holds c =
     subst (λ b. IfSome b (IsBoundIn c.args.program.now None c.args.program.now.bounds)) (sym c.rounded_least.ensures)
     (value_holds c.args.program.now c.box_bound.result c.args.whole_costs c.columns-columns.ensures.formed (when_true c.args.whole_costs c.requires)
     (subst (λ b. BoundHolds (box_bound c.args.program.now b) c.box_bound.result) c.bounds.ensures.bounds c.box_bound.ensures.meaning))
+
+pub box_bound-requires : goal.box_bound-requires
+box_bound-requires c = grind (arith, common_steps)

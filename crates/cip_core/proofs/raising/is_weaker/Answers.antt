@@ -1,4 +1,5 @@
-use Rattle.std.proofs.Common.{◌≡◌, ◌∙◌, Bool, true, false, Some, sym, subst}
+use Rattle.std.proofs.lemmas.Grind.{common_steps}
+use Rattle.std.proofs.Common.{◌≡◌, ◌∙◌, Bool, true, false, Some, sym, subst, arith}
 use Rattle.std.specs.Prelude.{MatchBool}
 use Rattle.cip_rational.specs.Rational.{ℚ, le_test}
 use Rattle.cip_rational.proofs.Comparisons.{is_le-compare}
@@ -14,3 +15,6 @@ pub returns-in-Some : goal.returns-in-Some
 returns-in-Some c =
     subst (λ o. MatchBool c.le.result (NoMore o (Some c.args.bound)) (NoMore (Some c.args.bound) o)) (sym c.in-Some.is)
     (told c.le.result c.in-Some.own c.args.bound (c.le.ensures ∙ is_le-compare _ _))
+
+pub returns-in-None : goal.returns-in-None
+returns-in-None c = grind (arith, common_steps)

@@ -1,4 +1,5 @@
-use Rattle.std.proofs.Common.{◌≡◌, ◌∙◌, ap, sym, length}
+use Rattle.std.proofs.lemmas.Grind.{common_steps}
+use Rattle.std.proofs.Common.{◌≡◌, ◌∙◌, ap, sym, length, arith}
 use Rattle.cip_rational.specs.Rational.{inverse}
 use Rattle.cip_problem.specs.Activity.{value_at}
 use Rattle.cip_dict.specs.Row.{row_in}
@@ -23,3 +24,9 @@ pub returns-in-Ok-count_room-clause-written : goal.returns-in-Ok-count_room-clau
 returns-in-Ok-count_room-clause-written c =
     let r : c.index-rows-pivot.result ≡ row_in c.args.rows.now c.args.pivot.now.leaving = row_read c.args.rows.now c.args.pivot.now.leaving c.index-rows-pivot.result c.requires.within c.index-rows-pivot.is in
     rw r at c.in-Ok.ensures.written
+
+pub returns-in-Err-count_room-clause-spelled : goal.returns-in-Err-count_room-clause-spelled
+returns-in-Err-count_room-clause-spelled c = grind (arith, common_steps)
+
+pub returns-in-Ok-count_room-clause-spelled : goal.returns-in-Ok-count_room-clause-spelled
+returns-in-Ok-count_room-clause-spelled c = grind (arith, common_steps)

@@ -1,3 +1,4 @@
+use Rattle.std.proofs.lemmas.Grind.{common_steps}
 use Rattle.std.proofs.Common.{◌≡◌, ◌∙◌, ap, length, refl, arith}
 use Rattle.cip_rational.specs.Rational.{◌+ℚ◌, ◌*ℚ◌}
 use Rattle.cip_problem.specs.Activity.{value_at}
@@ -49,3 +50,6 @@ returns-clause-written c =
       values = ap (λ xs. table (length c.args.pivot.now.standing.now) (taken_value c.args.pivot.now.standing.now c.args.pivot.now.entering c.args.lists.now.values.items xs)) (written_back c.args.room.now.values.len _ c.write_moved.new.out c.args.room.now.values.items (omega (arith, c.args.room.now.values.ok.0, c.in-Ok.ensures.long, ap length c.as_mut_slice.ensures.value))) ∙ h.1;
       cost_is = p;
     })
+
+pub write_moved-requires-clause-rows_long : goal.write_moved-requires-clause-rows_long
+write_moved-requires-clause-rows_long c = grind (arith, common_steps)

@@ -68,3 +68,9 @@ returns-clause-written c =
 pub write_costs-requires-clause-is_leaving : goal.write_costs-requires-clause-is_leaving
 write_costs-requires-clause-is_leaving c =
     leaving_entry (length c.args.pivot.now.standing.now) (basic_in c.args.pivot.now.standing.now) c.args.pivot.now.leaving c.args.pivot.now.entering c.args.pivot.now.inverse (entry_in c.args.lists.now.rows.items c.args.pivot.now.leaving) c.args.room.now.entering c.requires.is_entering c.requires.leaving
+
+pub write_costs-requires-clause-costs_long : goal.write_costs-requires-clause-costs_long
+write_costs-requires-clause-costs_long c = omega arith
+
+pub write_costs-requires-clause-new_long : goal.write_costs-requires-clause-new_long
+write_costs-requires-clause-new_long c = omega arith

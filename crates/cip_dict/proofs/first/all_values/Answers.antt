@@ -1,3 +1,4 @@
+use Rattle.std.proofs.lemmas.Grind.{common_steps}
 use Rattle.std.proofs.Common.{◌≡◌, ◌∙◌, ◌++◌, length, ap, arith}
 use Rattle.cip_bland.specs.Tables.{table}
 use Rattle.cip_bland.proofs.Tables.{length-table}
@@ -15,3 +16,9 @@ returns-in-Ok c =
     let at : c.as_slice-begun.result.now ≡ column_values_of c.args.columns.now = c.as_slice-begun.ensures.value ∙ c.in_ok-at.ensures in
     let e = rw at at c.in-Ok.ensures in
     (e.0, e.1 ∙ ap (λ xs. xs ++ table c.args.m (row_form (length c.args.columns.now) c.args.rows.now (column_values_of c.args.columns.now))) (c.in_ok-values.ensures ∙ at), e.2)
+
+pub returns-in-Err : goal.returns-in-Err
+returns-in-Err c = grind (arith, common_steps)
+
+pub rows_and_cost-found-requires-clause-long : goal.rows_and_cost-found-requires-clause-long
+rows_and_cost-found-requires-clause-long c = omega arith

@@ -21,3 +21,6 @@ returns c =
     let z : c.as_mut_slice.result.now ≡ table (length c.args.standing.now) (λ v. replicate (row_length c.args.standing.now v) zeroℚ) = c.as_mut_slice.ensures.value ∙ c.in_ok-rows.ensures in
     written_back c.in_ok-rows.rows.len _ c.put_entries.new.rows c.in_ok-rows.rows.items (omega (arith, c.in_ok-rows.rows.ok.0, c.put_entries.ensures.count, ap length c.as_mut_slice.ensures.value))
     ∙ filled c.args.columns.now c.args.m c.args.standing.now c.requires.stands c.as_mut_slice.result.now z c.args.entries.now c.put_entries.new.rows c.requires.within c.put_entries.ensures.count c.in_ok-put_entries.ensures.put c.in_ok-put_entries.ensures.rest c.in_ok-put_entries.ensures.long
+
+pub put_entries-requires-clause-within : goal.put_entries-requires-clause-within
+put_entries-requires-clause-within c = omega arith

@@ -1,3 +1,4 @@
+use Rattle.std.proofs.lemmas.Grind.{common_steps}
 use Rattle.std.proofs.Common.{◌≡◌, ◌∙◌, ap, length, refl, arith}
 use Rattle.cip_rational.specs.Rational.{◌+ℚ◌, ◌*ℚ◌}
 use Rattle.cip_problem.specs.Activity.{value_at}
@@ -49,3 +50,6 @@ returns-clause-long c =
       costs = c.requires.room_long.costs;
       values = rw (written_back c.args.room.now.values.len _ c.write_flipped.new.out c.args.room.now.values.items (omega (arith, c.args.room.now.values.ok.0, values))) (values ∙ c.requires.room_long.values);
     }
+
+pub write_flipped-requires-clause-arrives : goal.write_flipped-requires-clause-arrives
+write_flipped-requires-clause-arrives c = grind (arith, common_steps)

@@ -1,3 +1,4 @@
+use Rattle.std.proofs.lemmas.Grind.{common_steps}
 use Rattle.std.proofs.Common.{◌≡◌, ◌<◌, refl, length, get_or, arith, add-one, suc}
 use Rattle.cip_problem.specs.Activity.{value_at}
 use Rattle.cip_dict.specs.SparseLines.{Kept, entry_on}
@@ -33,3 +34,12 @@ returns c =
     let s = c.places.invariant in
     form_gap c.args.line s.0 c.args.n (entry_on c.args.entries.now) (value_at c.args.values.now) c.places.total s.1 s.3 s.4
     (λ k a b. entry_between s.0 k c.args.entries.now c.places.place 0 c.requires.kept.0 c.requires.kept.1 s.2 a (λ d w. let r = c.is_within.ensures.past c.places-test.false d w in omega (arith, b, r)))
+
+pub entry_step-requires : goal.entry_step-requires
+entry_step-requires c = grind (arith, common_steps)
+
+pub overflow_add-place : goal.overflow_add-place
+overflow_add-place c = omega arith
+
+pub places-smaller : goal.places-smaller
+places-smaller c = omega arith

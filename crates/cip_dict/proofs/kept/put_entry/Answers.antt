@@ -1,4 +1,5 @@
-use Rattle.std.proofs.Common.{◌≡◌, sym}
+use Rattle.std.proofs.lemmas.Grind.{common_steps}
+use Rattle.std.proofs.Common.{◌≡◌, sym, arith}
 use Rattle.cip_rational.specs.Rational.{zeroℚ}
 use Rattle.cip_dict.proofs.PutBehind.{end_entry, end_kept}
 use Rattle.cip_dict.proofs.Places.{rising_kept}
@@ -25,3 +26,12 @@ is_past-requires c = rw c.as_slice.ensures.value (rising_kept c.args.entries.now
 
 pub place_from-place-requires : goal.place_from-place-requires
 place_from-place-requires c = rw c.as_slice-2.ensures.value (rising_kept c.args.entries.now.items 0 c.requires.0 c.requires.2)
+
+pub let_go_at-requires-clause-at : goal.let_go_at-requires-clause-at
+let_go_at-requires-clause-at c = grind (arith, common_steps)
+
+pub put_at-requires-clause-at : goal.put_at-requires-clause-at
+put_at-requires-clause-at c = grind (arith, common_steps)
+
+pub returns-then-vanishes-clause-kept : goal.returns-then-vanishes-clause-kept
+returns-then-vanishes-clause-kept c = grind (arith, common_steps)

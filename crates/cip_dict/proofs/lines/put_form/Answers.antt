@@ -1,4 +1,5 @@
-use Rattle.std.proofs.Common.{length}
+use Rattle.std.proofs.lemmas.Grind.{common_steps}
+use Rattle.std.proofs.Common.{length, arith}
 use Rattle.cip_dict.specs.Lists.{basic_in}
 use Rattle.cip_dict.specs.WholeLines.{over}
 use Rattle.cip_dict.proofs.Dense.{dense_long}
@@ -44,3 +45,18 @@ put_whole-requires-clause-row_whole c = rw c.as_slice.ensures.value (c.row.invar
 
 pub put_whole-requires-clause-new_whole : goal.put_whole-requires-clause-new_whole
 put_whole-requires-clause-new_whole c = rw c.as_slice-2.ensures.value (c.new.invariant.whole c.if-not-new.false)
+
+pub invariant_of-out : goal.invariant_of-out
+invariant_of-out c = grind (arith, common_steps)
+
+pub invariant_of-out-in-Err : goal.invariant_of-out-in-Err
+invariant_of-out-in-Err c = grind (arith, common_steps)
+
+pub invariant_of-out-in-Ok-None : goal.invariant_of-out-in-Ok-None
+invariant_of-out-in-Ok-None c = grind (arith, common_steps)
+
+pub returns-in-Ok-None-clause-written : goal.returns-in-Ok-None-clause-written
+returns-in-Ok-None-clause-written c = grind (arith, common_steps)
+
+pub returns-then-not-row-clause-written : goal.returns-then-not-row-clause-written
+returns-then-not-row-clause-written c = grind (arith, common_steps)

@@ -1,3 +1,4 @@
+use Rattle.std.proofs.lemmas.Grind.{common_steps}
 use Rattle.std.proofs.Common.{◌∙◌, refl, length, arith, suc}
 use Rattle.cip_bland.specs.Exchange.{solved}
 use Rattle.cip_bland.specs.MoveOperations.{solved_operations}
@@ -71,3 +72,6 @@ next_variable-k-requires-in-loop-k-clause-new_kept c = c.requires.leaving_kept
 
 pub place_past-there-requires-clause-at : goal.place_past-there-requires-clause-at
 place_past-there-requires-clause-at c = c.loop-k.invariant.leaving_place
+
+pub loop-k-smaller : goal.loop-k-smaller
+loop-k-smaller c = grind (arith, common_steps)

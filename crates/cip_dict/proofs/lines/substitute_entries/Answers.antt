@@ -1,3 +1,4 @@
+use Rattle.std.proofs.lemmas.Grind.{common_steps}
 use Rattle.std.proofs.Common.{◌∙◌, refl, length, arith, suc}
 use Rattle.cip_bland.specs.Exchange.{substituted}
 use Rattle.cip_bland.specs.MoveOperations.{substituted_operations}
@@ -76,3 +77,9 @@ next_variable-k-requires-in-loop-k-clause-row_kept c = c.requires.row_kept
 
 pub next_variable-k-requires-in-loop-k-clause-new_kept : goal.next_variable-k-requires-in-loop-k-clause-new_kept
 next_variable-k-requires-in-loop-k-clause-new_kept c = c.requires.new_kept
+
+pub loop-k-smaller : goal.loop-k-smaller
+loop-k-smaller c = grind (arith, common_steps)
+
+pub returns-clause-written : goal.returns-clause-written
+returns-clause-written c = grind (arith, common_steps)

@@ -1,4 +1,5 @@
-use Rattle.std.proofs.Common.{length, refl}
+use Rattle.std.proofs.lemmas.Grind.{common_steps}
+use Rattle.std.proofs.Common.{length, refl, arith}
 use Rattle.cip_problem.specs.Activity.{value_at}
 use Rattle.cip_bland.specs.Exchange.{substituted}
 use Rattle.cip_bland.specs.MoveOperations.{substituted_operations}
@@ -18,3 +19,6 @@ returns-clause-written c =
 
 pub returns-clause-long : goal.returns-clause-long
 returns-clause-long c = dense_long _ _
+
+pub invariant_of-out : goal.invariant_of-out
+invariant_of-out c = grind (arith, common_steps)

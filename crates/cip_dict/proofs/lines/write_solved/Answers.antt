@@ -1,3 +1,4 @@
+use Rattle.std.proofs.lemmas.Grind.{common_steps}
 use Rattle.std.proofs.Common.{length, arith, sym, ap, ◌∙◌}
 use Rattle.cip_rational.specs.Rational.{inverse}
 use Rattle.cip_bland.specs.declared.places.Line.TheVariants.{Row}
@@ -48,3 +49,12 @@ returns-clause-written c =
 
 pub returns-clause-long : goal.returns-clause-long
 returns-clause-long c = dense_long _ _
+
+pub invariant_of-out-2 : goal.invariant_of-out-2
+invariant_of-out-2 c = grind (arith, common_steps)
+
+pub invariant_of-out-in-Err : goal.invariant_of-out-in-Err
+invariant_of-out-in-Err c = grind (arith, common_steps)
+
+pub turn_whole-requires-clause-row_whole : goal.turn_whole-requires-clause-row_whole
+turn_whole-requires-clause-row_whole c = grind (arith, common_steps)

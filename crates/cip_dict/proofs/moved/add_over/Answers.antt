@@ -1,3 +1,4 @@
+use Rattle.std.proofs.lemmas.Grind.{common_steps}
 use Rattle.std.proofs.Common.{◌≡◌, ◌∙◌, pos, ap, arith}
 use Rattle.std.proofs.lemmas.Int.{ints}
 use Rattle.cip_rational.specs.Rational.{ratio}
@@ -10,3 +11,9 @@ pub returns-then-n-eq0 : goal.returns-then-n-eq0
 returns-then-n-eq0 c =
     let n : c.args.n ≡ pos 0 = omega (arith, ints, c.if-n-eq0.true, c.ranges.n) in
     zero_left c.args.value.now (ratio c.args.n c.args.below) c.args.t (is_zero_of _ (ap (λ m. ratio m c.args.below) n ∙ ratio_zero c.args.below c.requires.positive))
+
+pub returns-in-None : goal.returns-in-None
+returns-in-None c = grind (arith, common_steps)
+
+pub returns-in-Some : goal.returns-in-Some
+returns-in-Some c = grind (arith, common_steps)

@@ -1,3 +1,4 @@
+use Rattle.std.proofs.lemmas.Grind.{common_steps}
 use Rattle.std.proofs.Common.{◌<◌, ◌^◌, ◌∙◌, ap, arith}
 use Rattle.std.proofs.lemmas.Int.{ints}
 use Rattle.cip_rational.specs.Rational.{ratio}
@@ -21,3 +22,15 @@ returns-in-Some-quotient c =
     let over = rw (own, n, factor, c.in-Some.ensures.0, c.in-Some.ensures.1, c.in-Some-short_terms.ensures.0, c.in-Some-short_terms.ensures.1) at c.terms_of_sum-over.ensures.over in
     let under = rw (c.in-Some.ensures.1, c.in-Some-short_terms.ensures.1) at c.terms_of_sum-over.ensures.under in
     short_added c.args.value c.args.t c.args.n c.args.below c.in-Some-quotient.sum c.terms_of_sum-over.result.0 c.terms_of_sum-over.result.1 c.requires hn hb c.in-Some.ensures.2 c.in-Some-short_terms.ensures.2 over under (c.in-Some-quotient.ensures ∙ ap (λ z. ratio z c.terms_of_sum-over.result.1) total)
+
+pub terms_of_sum-over-requires-clause-entry : goal.terms_of_sum-over-requires-clause-entry
+terms_of_sum-over-requires-clause-entry c = omega arith
+
+pub terms_of_sum-over-requires-clause-entry_below : goal.terms_of_sum-over-requires-clause-entry_below
+terms_of_sum-over-requires-clause-entry_below c = omega arith
+
+pub terms_of_sum-over-requires-clause-own : goal.terms_of_sum-over-requires-clause-own
+terms_of_sum-over-requires-clause-own c = grind (arith, common_steps)
+
+pub terms_of_sum-over-requires-clause-own_below : goal.terms_of_sum-over-requires-clause-own_below
+terms_of_sum-over-requires-clause-own_below c = grind (arith, common_steps)

@@ -1,3 +1,4 @@
+use Rattle.std.proofs.lemmas.Grind.{common_steps}
 use Rattle.std.proofs.Common.{◌≡◌, pos, suc, ◌+◌, to_z, of_z, ◌*ℤ◌, ◌^◌, ◌<◌, length, get_or, refl, ap, sym, arith, ◌∙◌}
 use Rattle.std.specs.Int.{w64, w128}
 use Rattle.std.proofs.lemmas.Int.{ints}
@@ -32,3 +33,6 @@ pub returns-clause-small : goal.returns-clause-small
 returns-clause-small c =
     let end : length c.args.numbers.now ≡ c.loop-at.at = omega arith in
     λ _. divided_small c.args.g c.loop-at.at c.loop-at.numbers c.args.numbers.now end c.loop-at.invariant
+
+pub returns-in-None-clause-small : goal.returns-in-None-clause-small
+returns-in-None-clause-small c = grind (arith, common_steps)

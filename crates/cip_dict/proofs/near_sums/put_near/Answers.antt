@@ -1,3 +1,5 @@
+use Rattle.std.proofs.lemmas.Grind.{common_steps}
+use Rattle.std.proofs.Common.{arith}
 use Rattle.cip_dict.proofs.near_sums.put_near.Goals as goal
 
 pub sum_near-requires-clause-few : goal.sum_near-requires-clause-few
@@ -26,3 +28,18 @@ sum_near-requires-clause-positive c = c.requires.positive
 
 pub reduce_near-requires-clause-positive : goal.reduce_near-requires-clause-positive
 reduce_near-requires-clause-positive c = c.requires.positive
+
+pub returns-else-near-lt-SMALL : goal.returns-else-near-lt-SMALL
+returns-else-near-lt-SMALL c = grind (arith, common_steps)
+
+pub returns-in-None : goal.returns-in-None
+returns-in-None c = grind (arith, common_steps)
+
+pub returns-in-Ok-None : goal.returns-in-Ok-None
+returns-in-Ok-None c = grind (arith, common_steps)
+
+pub returns-in-Some : goal.returns-in-Some
+returns-in-Some c = grind (arith, common_steps)
+
+pub returns-then-near-lt-SMALL : goal.returns-then-near-lt-SMALL
+returns-then-near-lt-SMALL c = grind (arith, common_steps)

@@ -1,4 +1,5 @@
-use Rattle.std.proofs.Common.{sym}
+use Rattle.std.proofs.lemmas.Grind.{common_steps}
+use Rattle.std.proofs.Common.{sym, arith}
 use Rattle.cip_problem.specs.Activity.{value_at}
 use Rattle.cip_dict.proofs.Unchanged.{unchanged_fits, unchanged_stays}
 use Rattle.cip_dict.proofs.rows.write_row.Goals as goal
@@ -44,3 +45,12 @@ returns-in-Ok-count_room-clause-spelled c = c.in-Ok.ensures.spelled
 
 pub returns-in-Err-count_room-clause-spelled : goal.returns-in-Err-count_room-clause-spelled
 returns-in-Err-count_room-clause-spelled c = c.in-Ok.ensures.spelled
+
+pub returns-in-Err-clause-written : goal.returns-in-Err-clause-written
+returns-in-Err-clause-written c = grind (arith, common_steps)
+
+pub returns-in-Ok-count_room-clause-written : goal.returns-in-Ok-count_room-clause-written
+returns-in-Ok-count_room-clause-written c = grind (arith, common_steps)
+
+pub write_substituted-requires-clause-row_long : goal.write_substituted-requires-clause-row_long
+write_substituted-requires-clause-row_long c = grind (arith, common_steps)

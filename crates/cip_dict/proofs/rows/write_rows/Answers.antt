@@ -1,3 +1,4 @@
+use Rattle.std.proofs.lemmas.Grind.{common_steps}
 use Rattle.std.proofs.Common.{arith, length, ◌<◌, ◌≡◌, [], get_or, false, length-set, ◌∙◌, ap, sym}
 use Rattle.std.proofs.lemmas.List.{get_or-set_other}
 use Rattle.cip_bland.proofs.Overflow.{first_more}
@@ -51,3 +52,12 @@ write_row-requires-clause-new_long c = c.requires.new_long
 
 pub write_row-requires-clause-is_leaving : goal.write_row-requires-clause-is_leaving
 write_row-requires-clause-is_leaving c = c.requires.is_leaving
+
+pub bounds-changed-v : goal.bounds-changed-v
+bounds-changed-v c = omega arith
+
+pub write_row-requires-clause-out_long : goal.write_row-requires-clause-out_long
+write_row-requires-clause-out_long c = grind (arith, common_steps)
+
+pub write_row-requires-clause-row_long : goal.write_row-requires-clause-row_long
+write_row-requires-clause-row_long c = grind (arith, common_steps)

@@ -1,4 +1,5 @@
-use Rattle.std.proofs.Common.{◌≡◌, to_z, of_z, sym, subst, ◌^◌}
+use Rattle.std.proofs.lemmas.Grind.{common_steps}
+use Rattle.std.proofs.Common.{◌≡◌, to_z, of_z, sym, subst, ◌^◌, arith}
 use Rattle.std.specs.Int.{w64}
 use Rattle.cip_rational.specs.Rational.{zeroℚ}
 use Rattle.cip_dict.specs.WholeLines.{AreBelow}
@@ -14,3 +15,9 @@ loop-at-preserved c =
       written = settled_more c.args.entries.now c.loop-at.at c.args.below c.loop-at.out.items c.push.new.self.items c.entry_at-entry.result c.in-Some.number c.loop-at-test.true c.loop-at.invariant.written is (c.entry_at-entry.ensures (0, zeroℚ)) c.in-Some.ensures.0;
       small = subst (AreBelow (2 ^ 42)) (sym is) (append_below (2 ^ 42) c.loop-at.out.items _ c.in-Some.number c.loop-at.invariant.small c.in-Some.ensures.1);
     }
+
+pub returns : goal.returns
+returns c = grind (arith, common_steps)
+
+pub returns-in-None : goal.returns-in-None
+returns-in-None c = grind (arith, common_steps)

@@ -1,3 +1,4 @@
+use Rattle.std.proofs.lemmas.Grind.{common_steps}
 use Rattle.std.proofs.Common.{arith, length, length-set, Some, ap, sym, ◌∙◌}
 use Rattle.cip_bland.proofs.Overflow.{first_more, first_at}
 use Rattle.cip_dict.proofs.TakenValues.{taken_more, taken_end}
@@ -15,3 +16,6 @@ loop-v-preserved c = record {
 
 pub returns-clause-written : goal.returns-clause-written
 returns-clause-written c = taken_end (length c.args.pivot.now.standing.now) c.loop-v.v _ c.args.pivot.now.standing.now c.args.pivot.now.entering c.args.shift.now.values.now c.loop-v.out _ (omega arith) (omega arith) c.loop-v.invariant.fits c.loop-v.invariant.written
+
+pub returns-then-not-move_on-clause-long : goal.returns-then-not-move_on-clause-long
+returns-then-not-move_on-clause-long c = grind (arith, common_steps)

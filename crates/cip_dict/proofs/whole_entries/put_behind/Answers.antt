@@ -1,3 +1,4 @@
+use Rattle.std.proofs.lemmas.Grind.{common_steps}
 use Rattle.std.proofs.Common.{◌≡◌, to_z, of_z, arith}
 use Rattle.std.specs.Int.{w64}
 use Rattle.std.proofs.lemmas.Int.{ints}
@@ -36,3 +37,6 @@ returns-else-number-ne0-clause-put c =
 
 pub is_past-requires : goal.is_past-requires
 is_past-requires c = rw c.as_slice.ensures.value (rising_over c.args.below 0 c.requires.kept.0 c.args.wholes.now.items c.requires.kept.1)
+
+pub returns-in_default-clause-put : goal.returns-in_default-clause-put
+returns-in_default-clause-put c = grind (arith, common_steps)

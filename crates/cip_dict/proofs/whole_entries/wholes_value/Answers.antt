@@ -1,3 +1,4 @@
+use Rattle.std.proofs.lemmas.Grind.{common_steps}
 use Rattle.std.proofs.Common.{◌≡◌, ◌<◌, pos, to_z, of_z, refl, sym, ap, length, get_or, arith, add-one, suc, ◌^◌}
 use Rattle.std.specs.Int.{w64}
 use Rattle.cip_rational.specs.Rational.{ratio}
@@ -51,3 +52,21 @@ returns c =
     let r = c.is_within.ensures.past c.places-test.false (0, pos 0) l in
     let q : (get_or es c.places.place d).0 ≡ (get_or c.args.wholes.now c.places.place (0, pos 0)).0 = ap (λ (x : Kept). x.0) (at_over c.args.below c.args.wholes.now c.places.place d (0, pos 0) l) in
     omega (arith, b, r, q)))
+
+pub bounds-wholes-place : goal.bounds-wholes-place
+bounds-wholes-place c = omega arith
+
+pub bounds-wholes-place-in-places : goal.bounds-wholes-place-in-places
+bounds-wholes-place-in-places c = omega arith
+
+pub offset_bounds-wholes-place : goal.offset_bounds-wholes-place
+offset_bounds-wholes-place c = omega arith
+
+pub overflow_add-place : goal.overflow_add-place
+overflow_add-place c = omega arith
+
+pub places-smaller : goal.places-smaller
+places-smaller c = omega arith
+
+pub whole_step-requires-clause-there : goal.whole_step-requires-clause-there
+whole_step-requires-clause-there c = grind (arith, common_steps)

@@ -1,3 +1,4 @@
+use Rattle.std.proofs.lemmas.Grind.{common_steps}
 use Rattle.std.proofs.Common.{◌≡◌, pos, to_z, of_z, length, get_or, take, ap, subst, sym, arith, ◌∙◌, ◌*◌, ◌^◌}
 use Rattle.std.specs.Int.{w64, w128}
 use Rattle.std.proofs.lemmas.Int.{ints}
@@ -31,3 +32,6 @@ returns c =
       divided = λ _ d h. c.loop-at.invariant.divided d h ∙ ap (λ n. over (d * c.args.g) (take n c.args.sums.now)) end ∙ ap (over (d * c.args.g)) (take-length c.args.sums.now);
       small = c.loop-at.invariant.small;
     }
+
+pub returns-in-None-clause-divided : goal.returns-in-None-clause-divided
+returns-in-None-clause-divided c = grind (arith, common_steps)

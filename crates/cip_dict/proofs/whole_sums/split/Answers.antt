@@ -1,3 +1,4 @@
+use Rattle.std.proofs.lemmas.Grind.{common_steps}
 use Rattle.std.proofs.Common.{◌≡◌, ◌*ℤ◌, ◌^◌, pos, to_z, of_z, sym, ap, ◌∙◌, lit<, arith}
 use Rattle.std.specs.Int.{w128}
 use Rattle.std.proofs.lemmas.Int.{ints}
@@ -26,3 +27,6 @@ returns-in-Some-clause-below_small c =
 
 pub returns-in-None-clause-parts : goal.returns-in-None-clause-parts
 returns-in-None-clause-parts c = (1, lit< tt, omega (arith, ints, c.requires.own_small), omega arith)
+
+pub returns-in-Some-clause-own_small : goal.returns-in-Some-clause-own_small
+returns-in-Some-clause-own_small c = grind (arith, common_steps)

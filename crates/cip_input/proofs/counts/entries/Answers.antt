@@ -1,3 +1,4 @@
+use Rattle.std.proofs.lemmas.Grind.{common_steps}
 use Rattle.std.proofs.Common.{◌≡◌, ℕ, ◌+◌, ◌<◌, ◌≤◌, List, length, get_or, sym, ap, ap₂, ◌∙◌, subst, arith}
 use Rattle.std.proofs.lemmas.List.Sums.{sum_by_more}
 use Rattle.cip_problem.specs.Program.{Row, Program}
@@ -24,3 +25,9 @@ loop-row-preserved c =
           ∙ sym (sum_by_more (λ (r : Row). length r.terms) c.rows-rows.result.now k row c.loop-row-test.true);
       small = omega (arith, long, few, most);
     }
+
+pub overflow_add-entries : goal.overflow_add-entries
+overflow_add-entries c = grind (arith, common_steps)
+
+pub returns : goal.returns
+returns c = grind (arith, common_steps)

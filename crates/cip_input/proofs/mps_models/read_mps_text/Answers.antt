@@ -1,4 +1,5 @@
-use Rattle.std.proofs.Common.{◌≡◌, false, refl, ap, inl, inr}
+use Rattle.std.proofs.lemmas.Grind.{common_steps}
+use Rattle.std.proofs.Common.{◌≡◌, false, refl, ap, inl, inr, arith}
 use Rattle.cip_blocks.proofs.PassedOn.{begun}
 use Rattle.cip_text_rules.specs.MpsOutcome.{HasProgram, HasFault}
 use Rattle.cip_mps.specs.MpsKindTexts.{kind_number}
@@ -31,3 +32,9 @@ returns-clause-answer g c = λ name e.
       | inr spent ↦ absurd (let e = c.in_ok-finish.ensures.spent spent in cc e)
     ] in
     model_read false name e _ (g.S.Store.tells c.args.store.now) (g.S.Store.tells c.read_pieces.new.store) all c.in_ok-finish.field-0 has
+
+pub returns-clause-holds : goal.returns-clause-holds
+returns-clause-holds g c = grind (arith, common_steps)
+
+pub returns-in-Err-clause-answer : goal.returns-in-Err-clause-answer
+returns-in-Err-clause-answer g c = grind (arith, common_steps)

@@ -1,4 +1,4 @@
-use Rattle.std.proofs.Common.{◌≡◌, ◌∙◌, ap, rules}
+use Rattle.std.proofs.Common.{◌≡◌, ◌∙◌, ap, rules, arith}
 use Rattle.std.specs.Prelude.{decimal}
 use Rattle.cip_search.specs.Figures.{refusal_text}
 use Rattle.cip_rational.specs.NumberText.{natural_text}
@@ -13,3 +13,6 @@ returns-clause-text c =
     ∙ ap (λ text. refusal_text text c.as_bytes.result.now c.kind.result.now) c.text.ensures.text
     ∙ ap (λ number. refusal_text (text_name c.args.fault) number c.kind.result.now) (digits ∙ line_text c.line.result (search rules) ∙ ap natural_text c.line.ensures)
     ∙ ap (refusal_text (text_name c.args.fault) (natural_text (line_of c.args.fault))) c.kind.ensures.text
+
+pub returns-clause-within : goal.returns-clause-within
+returns-clause-within c = omega arith

@@ -1,4 +1,5 @@
-use Rattle.std.proofs.Common.{refl, inl, inr}
+use Rattle.std.proofs.lemmas.Grind.{common_steps}
+use Rattle.std.proofs.Common.{refl, inl, inr, arith}
 use Rattle.cip_text_rules.specs.LineTexts.{HasResult, HasFault}
 use Rattle.cip_input.specs.PointRules.{point_reading}
 use Rattle.cip_input.specs.PointKindTexts.{kind_number}
@@ -28,3 +29,12 @@ returns-clause-answer g c = λ program fresh.
       | inr spent ↦ absurd (let e = c.in_ok-finish.ensures.spent spent in cc e)
     ] in
     reads_text (point_reading program) _ _ (g.S.Store.tells c.args.store.now) (g.S.Store.tells c.args.store.now) (g.S.Store.tells c.read_pieces.new.store) value all refl refl has
+
+pub returns-clause-holds : goal.returns-clause-holds
+returns-clause-holds g c = grind (arith, common_steps)
+
+pub returns-in-Err-clause-answer : goal.returns-in-Err-clause-answer
+returns-in-Err-clause-answer g c = grind (arith, common_steps)
+
+pub returns-in-Err-clause-holds : goal.returns-in-Err-clause-holds
+returns-in-Err-clause-holds g c = grind (arith, common_steps)

@@ -1,4 +1,5 @@
-use Rattle.std.proofs.Common.{◌≡◌, true, sym, subst}
+use Rattle.std.proofs.lemmas.Grind.{common_steps}
+use Rattle.std.proofs.Common.{◌≡◌, true, sym, subst, arith}
 use Rattle.cip_problem.specs.Program.{Program}
 use Rattle.cip_problem.specs.WellFormed.{IsWellFormed}
 use Rattle.cip_input.specs.Generated.{generated}
@@ -31,3 +32,6 @@ new-requires-2 c =
     }) in
     subst IsWellFormed (sym same)
     (generated_are_formed c.args.seed c.args.cols c.args.rows c.requires.few_columns c.requires.few_rows)
+
+pub returns : goal.returns
+returns c = grind (arith, common_steps)

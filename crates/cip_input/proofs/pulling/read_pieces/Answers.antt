@@ -1,3 +1,4 @@
+use Rattle.std.proofs.lemmas.Grind.{common_steps}
 use Rattle.std.proofs.Common.{◌≡◌, ◌≤◌, ◌+◌, ◌-◌, length, take, drop, min, rules, arith, length-append, length-drop, length-take, ◌∙◌}
 use Rattle.cip_problem.specs.Limits.{longest_text}
 use Rattle.cip_blocks.specs.PieceReaders.{HasTaken}
@@ -43,3 +44,27 @@ returns-clause-read g c = λ subject fresh.
     let so_far = c.loop-pulled.invariant in
     let all : c.loop-pulled.pulled ≡ most_pulled = omega (arith, so_far.in_range, c.loop-pulled-test.false) in
     too_long _ (g.S.Store.tells c.args.store.now) _ c.loop-pulled.pulled all (so_far.reading subject fresh)
+
+pub loop-pulled-smaller : goal.loop-pulled-smaller
+loop-pulled-smaller g c = omega arith
+
+pub overflow_add-pulled : goal.overflow_add-pulled
+overflow_add-pulled g c = grind (arith, common_steps)
+
+pub read_piece-requires : goal.read_piece-requires
+read_piece-requires g c = grind (arith, common_steps)
+
+pub returns-in_err-count-clause-cause : goal.returns-in_err-count-clause-cause
+returns-in_err-count-clause-cause g c = grind (arith, common_steps)
+
+pub returns-in_err-count-clause-holds : goal.returns-in_err-count-clause-holds
+returns-in_err-count-clause-holds g c = grind (arith, common_steps)
+
+pub returns-then-count-eq0-clause-cause : goal.returns-then-count-eq0-clause-cause
+returns-then-count-eq0-clause-cause g c = omega arith
+
+pub returns-then-count-eq0-clause-holds : goal.returns-then-count-eq0-clause-holds
+returns-then-count-eq0-clause-holds g c = grind (arith, common_steps)
+
+pub slice_bounds-read_piece-end-in-loop-pulled : goal.slice_bounds-read_piece-end-in-loop-pulled
+slice_bounds-read_piece-end-in-loop-pulled g c = grind (arith, common_steps)

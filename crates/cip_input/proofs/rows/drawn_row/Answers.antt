@@ -1,3 +1,4 @@
+use Rattle.std.proofs.lemmas.Grind.{common_steps}
 use Rattle.std.proofs.Common.{◌≡◌, ℕ, ◌+◌, ◌%◌, ◌++◌, List, None, sym, ap, ap₂, ◌∙◌, subst, arith}
 use Rattle.cip_problem.specs.Program.{Term, Row}
 use Rattle.cip_problem.specs.Activity.{StandsBelow}
@@ -33,3 +34,9 @@ pub returns-clause-state : goal.returns-clause-state
 returns-clause-state c =
     let all : c.loop-column.column ≡ c.args.columns = omega (arith, c.loop-column-test.false, c.loop-column.auto.column-end) in
     c.loop-column.invariant.state ∙ ap (λ (n : ℕ). state_after n c.args.draws.now.state) all
+
+pub overflow_add-total : goal.overflow_add-total
+overflow_add-total c = omega arith
+
+pub returns-clause-row : goal.returns-clause-row
+returns-clause-row c = grind (arith, common_steps)

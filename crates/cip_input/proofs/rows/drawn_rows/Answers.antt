@@ -1,4 +1,5 @@
-use Rattle.std.proofs.Common.{◌≡◌, ℕ, ◌*◌, List, [], ◌∷◌, ◌++◌, sym, ap, ap₂, ◌∙◌, zero-add}
+use Rattle.std.proofs.lemmas.Grind.{common_steps}
+use Rattle.std.proofs.Common.{◌≡◌, ℕ, ◌*◌, List, [], ◌∷◌, ◌++◌, sym, ap, ap₂, ◌∙◌, zero-add, arith}
 use Rattle.std.proofs.lemmas.List.FromFn.{map-range_with_len_more}
 use Rattle.cip_problem.specs.Program.{Row}
 use Rattle.cip_input.specs.Generated.{row_from, state_after}
@@ -20,3 +21,9 @@ loop-number-preserved c =
           c.in_ok-drawn_row.ensures.state ∙ ap (state_after c.args.columns) c.loop-number.invariant.state
           ∙ state_after_row c.args.columns k start;
     }
+
+pub loop-number-init : goal.loop-number-init
+loop-number-init c = grind (arith, common_steps)
+
+pub returns : goal.returns
+returns c = grind (arith, common_steps)

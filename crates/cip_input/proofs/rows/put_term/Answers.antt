@@ -1,3 +1,4 @@
+use Rattle.std.proofs.lemmas.Grind.{common_steps}
 use Rattle.std.proofs.Common.{◌≡◌, ◌<◌, pos, to_z, w64, sym, ap, ◌∙◌, arith}
 use Rattle.std.proofs.lemmas.Int.{ints}
 use Rattle.cip_rational.specs.Rational.{integer}
@@ -10,3 +11,12 @@ unreachable-requires-in-Err-ZeroTerm c =
     let same : to_z w64 c.args.coefficient ≡ pos c.args.coefficient = omega (arith, ints) in
     let some : 0 < c.args.coefficient = omega arith in
     integer_not_zero c.args.coefficient some (ap integer (sym same) ∙ sym c.from.ensures ∙ fault.1.2)
+
+pub returns-in-Ok : goal.returns-in-Ok
+returns-in-Ok c = grind (arith, common_steps)
+
+pub returns-then-coefficient-eq0 : goal.returns-then-coefficient-eq0
+returns-then-coefficient-eq0 c = grind (arith, common_steps)
+
+pub unreachable-requires : goal.unreachable-requires
+unreachable-requires c = grind (arith, common_steps)

@@ -1,4 +1,5 @@
-use Rattle.std.proofs.Common.{◌∙◌, ap, Some}
+use Rattle.std.proofs.lemmas.Grind.{common_steps}
+use Rattle.std.proofs.Common.{◌∙◌, ap, Some, arith}
 use Rattle.cip_input.specs.WordsRead.{meant}
 use Rattle.cip_input.proofs.TasksRead.{some_asked, few_columns, few_rows}
 use Rattle.cip_input.proofs.tasks.read_task.Goals as goal
@@ -22,3 +23,9 @@ draw-requires-clause-few_rows g c = few_rows _ _ _ _ c.in-Ok-Generate.ensures.ra
 
 pub returns-in-Ok-Generate : goal.returns-in-Ok-Generate
 returns-in-Ok-Generate g c = c.draw.ensures _ _ (c.in-Ok-Generate.ensures.job ∙ ap Some (ap meant c.in-Ok-Generate.field-0-is))
+
+pub read_solve-requires-text-model : goal.read_solve-requires-text-model
+read_solve-requires-text-model g c = grind (arith, common_steps)
+
+pub returns-in-Err : goal.returns-in-Err
+returns-in-Err g c = grind (arith, common_steps)

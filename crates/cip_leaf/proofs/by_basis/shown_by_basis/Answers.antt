@@ -1,4 +1,5 @@
-use Rattle.std.proofs.Common.{sym, subst}
+use Rattle.std.proofs.lemmas.Grind.{common_steps}
+use Rattle.std.proofs.Common.{sym, subst, arith}
 use Rattle.cip_problem.specs.LinearProgram.{LinearProgram, HasNoPoint}
 use Rattle.cip_simplex.specs.LpShape.{IsSolvable}
 use Rattle.cip_search.specs.LeafProgram.{at_continuous, program_of_leaf}
@@ -15,3 +16,6 @@ returns-in-Some-Empty c point k =
     let empty = rw c.in-Some-Empty.field-0-is at found in
     let none : HasNoPoint (program_of_leaf c.args.program.now c.args.leaf.now) = subst (λ (p : LinearProgram). HasNoPoint p) c.requires.parts empty in
     none (at_continuous c.args.program.now.integral point) (point_on c.args.program.now c.args.leaf.now point c.requires.formed k).is_point
+
+pub best_of-requires-clause-optimal : goal.best_of-requires-clause-optimal
+best_of-requires-clause-optimal c = grind (arith, common_steps)

@@ -1,4 +1,5 @@
-use Rattle.std.proofs.Common.{◌∙◌, length, All, IfOk, IfSome, List, ap, sym, subst}
+use Rattle.std.proofs.lemmas.Grind.{common_steps}
+use Rattle.std.proofs.Common.{◌∙◌, length, All, IfOk, IfSome, List, ap, sym, subst, arith}
 use Rattle.cip_problem.specs.Program.{Row}
 use Rattle.cip_problem.specs.Activity.{StandsBelow}
 use Rattle.cip_problem.specs.LinearProgram.{LinearProgram}
@@ -16,3 +17,6 @@ pub returns : goal.returns
 returns c =
     let made = rw (c.as_slice-rows.ensures.value, c.as_slice-costs.ensures.value) at c.of_rows-problem.ensures.program in
     subst (λ (p : LinearProgram). IfOk c.show-found.result (λ found. IfSome found (IsShown p))) made c.show-found.ensures.shown
+
+pub show-found-requires-clause-room : goal.show-found-requires-clause-room
+show-found-requires-clause-room c = grind (arith, common_steps)

@@ -1,4 +1,5 @@
-use Rattle.std.proofs.Common.{◌≡◌, sym, subst, rules}
+use Rattle.std.proofs.lemmas.Grind.{common_steps}
+use Rattle.std.proofs.Common.{◌≡◌, sym, subst, rules, arith}
 use Rattle.cip_search.specs.LeafProgram.{merged}
 use Rattle.cip_model.specs.declared.verdicts.Verdict.TheVariants.{Feasible}
 use Rattle.cip_model.specs.Meaning.{VerdictHolds}
@@ -21,3 +22,6 @@ returns-in-Feasible c =
     let v : verdict_of program c.in_ok-point.point.items ≡ Feasible c.in-Feasible.cost = search rules in
     let m : VerdictHolds program c.in_ok-point.point.items (Feasible c.in-Feasible.cost) = search rules in
     best_on program c.args.leaf.now c.whole.ensures.formed c.whole.ensures.none c.requires.leaf c.args.others.now c.in_ok-point.point.items c.requires.optimal.cost c.in-Feasible.cost c.requires.optimal.optimal p v m.1
+
+pub check-requires-clause-long : goal.check-requires-clause-long
+check-requires-clause-long c = grind (arith, common_steps)

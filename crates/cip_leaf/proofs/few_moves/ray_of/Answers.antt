@@ -1,4 +1,5 @@
-use Rattle.std.proofs.Common.{◌≡◌, sym, subst, rules}
+use Rattle.std.proofs.lemmas.Grind.{common_steps}
+use Rattle.std.proofs.Common.{◌≡◌, sym, subst, rules, arith}
 use Rattle.cip_search.specs.LeafProgram.{merged}
 use Rattle.cip_model.specs.Rays.{IsShownRay}
 use Rattle.cip_leaf.proofs.Rays.{ray_on}
@@ -18,3 +19,9 @@ returns-then-check_ray c =
     let p : c.in_ok-point.point.items ≡ merged program.integral c.args.leaf.now c.args.others.now = search rules in
     let s : IsShownRay program c.in_ok-point.point.items c.in_ok-ray.ray.items = search rules in
     ray_on program c.args.leaf.now c.whole.ensures.formed c.whole.ensures.none c.requires.leaf c.args.others.now c.in_ok-point.point.items c.in_ok-ray.ray.items c.requires.point p s
+
+pub check_ray-requires-clause-point : goal.check_ray-requires-clause-point
+check_ray-requires-clause-point c = grind (arith, common_steps)
+
+pub check_ray-requires-clause-ray : goal.check_ray-requires-clause-ray
+check_ray-requires-clause-ray c = grind (arith, common_steps)

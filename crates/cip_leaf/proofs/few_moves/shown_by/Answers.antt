@@ -1,3 +1,5 @@
+use Rattle.std.proofs.lemmas.Grind.{common_steps}
+use Rattle.std.proofs.Common.{arith}
 use Rattle.cip_problem.specs.LinearProgram.{HasNoPoint}
 use Rattle.cip_simplex.specs.Reached.{Holds}
 use Rattle.cip_simplex.specs.declared.answers.LpAnswer.TheVariants.{Infeasible}
@@ -11,3 +13,9 @@ returns-in-Infeasible c point k =
     let e : Holds linear (Infeasible c.in-Infeasible.combo) = rw c.in-Infeasible.is at c.requires.found in
     let none : HasNoPoint linear = e.right.no_point in
     none (at_continuous c.args.program.now.integral point) (point_on c.args.program.now c.args.leaf.now point c.requires.formed k).is_point
+
+pub best_of-requires-clause-optimal : goal.best_of-requires-clause-optimal
+best_of-requires-clause-optimal c = grind (arith, common_steps)
+
+pub ray_of-requires-clause-point : goal.ray_of-requires-clause-point
+ray_of-requires-clause-point c = grind (arith, common_steps)

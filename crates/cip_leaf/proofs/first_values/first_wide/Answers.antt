@@ -1,3 +1,4 @@
+use Rattle.std.proofs.lemmas.Grind.{common_steps}
 use Rattle.std.proofs.Common.{◌≡◌, ◌+◌, ◌<◌, ◌^◌, length, map, None, Some, ap, ◌∙◌, subst, arith}
 use Rattle.std.proofs.lemmas.List.{length-map}
 use Rattle.cip_problem.specs.LinearProgram.{LinearProgram}
@@ -54,3 +55,9 @@ returns-in-OutOfRange c =
     let same : system_in c.as_slice.result.now c.as_slice-2.result.now c.as_slice-3.result.now c.args.costs.now ≡ system_of linear = rw (e, s, b) (same_system linear c.in_ok-entries.ensures.1) in
     let at = rw c.in-OutOfRange.is at c.in-Err.ensures in
     overflows_there linear c.in-OutOfRange.place c.place_in.result (subst (λ (p : System). first_overflow (first_operations p) ≡ Some c.in-OutOfRange.place) same at) (rw c.len.ensures at c.place_in.ensures)
+
+pub first-first-requires-clause-costs_long : goal.first-first-requires-clause-costs_long
+first-first-requires-clause-costs_long c = grind (arith, common_steps)
+
+pub overflow_cast-len : goal.overflow_cast-len
+overflow_cast-len c = omega arith

@@ -1,3 +1,4 @@
+use Rattle.std.proofs.lemmas.Grind.{common_steps}
 use Rattle.std.proofs.Common.{◌≡◌, length, refl, sym, subst, arith}
 use Rattle.cip_problem.specs.LinearProgram.{LinearProgram}
 use Rattle.cip_bland.specs.NoRepeat.{whole_answer}
@@ -47,3 +48,6 @@ unreachable-requires c =
     let wholes = c.args.wholes.now in
     let linear = program_of_leaf program wholes in
     never_limit linear (whole_answer linear) refl (answers_end linear (leaf_proper program wholes c.requires.formed)).ends (subst (IsAnswer (whole_answer linear)) c.in-Limit.is c.requires.end)
+
+pub returns-in-Wide : goal.returns-in-Wide
+returns-in-Wide c = grind (arith, common_steps)

@@ -1,4 +1,5 @@
-use Rattle.std.proofs.Common.{◌≡◌, ◌∙◌, sym, subst}
+use Rattle.std.proofs.lemmas.Grind.{common_steps}
+use Rattle.std.proofs.Common.{◌≡◌, ◌∙◌, sym, subst, arith}
 use Rattle.cip_problem.specs.LinearProgram.{LinearProgram}
 use Rattle.cip_bland.specs.NoRepeat.{whole_answer}
 use Rattle.cip_simplex.specs.LpAnswers.{IsAnswer}
@@ -21,3 +22,12 @@ answer_at-requires-clause-end c =
     let made = rw (c.as_slice.ensures.value, c.as_slice-2.ensures.value) at c.new-lp.ensures in
     let linear : c.new-lp.result ≡ program_of_leaf c.args.program.now c.args.wholes.now = made ∙ c.requires.parts in
     subst (λ (p : LinearProgram). IsAnswer (whole_answer p) c.in-Ok.end) linear c.in-Ok.ensures.answer
+
+pub answer_at-requires-clause-formed : goal.answer_at-requires-clause-formed
+answer_at-requires-clause-formed c = grind (arith, common_steps)
+
+pub returns-in-Ok : goal.returns-in-Ok
+returns-in-Ok c = grind (arith, common_steps)
+
+pub returns-in-Some : goal.returns-in-Some
+returns-in-Some c = grind (arith, common_steps)

@@ -1,4 +1,5 @@
-use Rattle.std.proofs.Common.{◌≡◌, [], sym, ap, ◌∙◌, subst, rules}
+use Rattle.std.proofs.lemmas.Grind.{common_steps}
+use Rattle.std.proofs.Common.{◌≡◌, [], sym, ap, ◌∙◌, subst, rules, arith}
 use Rattle.cip_search.specs.LeafProgram.{merged}
 use Rattle.cip_model.specs.declared.verdicts.Place.{Place}
 use Rattle.cip_model.specs.declared.verdicts.Verdict.TheVariants.{Wide}
@@ -46,3 +47,15 @@ returns c =
     let s : ¬ IsShownRay program c.in_ok-point.point.items c.in_ok-ray.ray.items = λ k. (let t = c.if-check_ray.ensures.shown.1 (subst (λ x. IsShownRay program x c.as_slice-3.result.now) (sym c.as_slice-2.ensures.value) (subst (IsShownRay program c.in_ok-point.point.items) (sym c.as_slice-3.ensures.value) k)) in absurd (cc)) in
     let h : IsFirstAlong program.rows c.in_ok-ray.ray.items c.first_along.result = subst (λ r. IsFirstAlong program.rows r c.first_along.result) c.as_slice-4.ensures.value (subst (λ rows. IsFirstAlong rows c.as_slice-4.result.now c.first_along.result) c.rows.ensures.rows c.first_along.ensures) in
     ray_wide program c.args.leaf.now c.whole.ensures.formed c.whole.ensures.none c.requires.leaf c.args.others.now c.args.direction.now c.in_ok-point.point.items c.in_ok-ray.ray.items c.first_along.result c.requires.end p q n s h
+
+pub check-requires-clause-long : goal.check-requires-clause-long
+check-requires-clause-long c = grind (arith, common_steps)
+
+pub check_ray-requires-clause-point : goal.check_ray-requires-clause-point
+check_ray-requires-clause-point c = grind (arith, common_steps)
+
+pub check_ray-requires-clause-ray : goal.check_ray-requires-clause-ray
+check_ray-requires-clause-ray c = grind (arith, common_steps)
+
+pub first_along-requires : goal.first_along-requires
+first_along-requires c = grind (arith, common_steps)

@@ -1,3 +1,4 @@
+use Rattle.std.proofs.lemmas.Grind.{common_steps}
 use Rattle.std.proofs.Common.{◌∙◌, ◌≤◌, sym, length, arith}
 use Rattle.cip_leaf.proofs.Along.{fits_more, all_fit}
 use Rattle.cip_leaf.proofs.leaves.first_along.Goals as goal
@@ -10,3 +11,9 @@ pub returns : goal.returns
 returns c =
     let l : length c.args.rows.now ≤ c.loop-at.at = omega arith in
     all_fit c.args.rows.now c.args.ray.now c.loop-at.at l c.loop-at.invariant
+
+pub activity-requires : goal.activity-requires
+activity-requires c = grind (arith, common_steps)
+
+pub overflow_cast-result : goal.overflow_cast-result
+overflow_cast-result c = omega arith

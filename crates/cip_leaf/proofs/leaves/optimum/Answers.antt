@@ -1,4 +1,5 @@
-use Rattle.std.proofs.Common.{◌≡◌, sym, subst, rules}
+use Rattle.std.proofs.lemmas.Grind.{common_steps}
+use Rattle.std.proofs.Common.{◌≡◌, sym, subst, rules, arith}
 use Rattle.cip_search.specs.LeafProgram.{merged}
 use Rattle.cip_search.specs.Leaf.{IsPointOf}
 use Rattle.cip_model.specs.declared.verdicts.Verdict.TheVariants.{Feasible}
@@ -36,3 +37,6 @@ returns-in-Wide c =
     let p : c.in_ok-point.point.items ≡ merged program.integral c.args.leaf.now c.args.others.now = search rules in
     let m : Overflows program c.in_ok-point.point.items c.in-Wide.place = search rules in
     optimum_wide program c.args.leaf.now c.whole.ensures.formed c.whole.ensures.none c.requires.leaf c.args.others.now c.in_ok-point.point.items c.in-Wide.place c.requires.end p m
+
+pub check-requires-clause-long : goal.check-requires-clause-long
+check-requires-clause-long c = grind (arith, common_steps)

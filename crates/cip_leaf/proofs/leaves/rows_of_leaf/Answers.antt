@@ -1,4 +1,5 @@
-use Rattle.std.proofs.Common.{◌≡◌, Bool, List, [], ap, ◌∙◌, subst}
+use Rattle.std.proofs.lemmas.Grind.{common_steps}
+use Rattle.std.proofs.Common.{◌≡◌, Bool, List, [], ap, ◌∙◌, subst, arith}
 use Rattle.std.specs.Prelude.{map, MatchResult}
 use Rattle.cip_rational.specs.Rational.{ℚ}
 use Rattle.cip_problem.specs.Program.{Row}
@@ -17,3 +18,18 @@ returns c =
     subst (λ (p : List ℚ). MatchResult result (λ rows. rows.items ≡ map (left_of program.integral p) program.rows) (IsRowsFault program.rows p)) point
     (subst (λ (w : List Bool). MatchResult result (λ rows. rows.items ≡ map (left_of w at) program.rows) (IsRowsFault program.rows at)) whole
     (subst (λ (rs : List Row). MatchResult result (λ rows. rows.items ≡ map (left_of c.whole-whole.result.now at) rs) (IsRowsFault rs at)) c.rows.ensures.rows c.rows_left.ensures))
+
+pub new_numbers-requires : goal.new_numbers-requires
+new_numbers-requires c = grind (arith, common_steps)
+
+pub rows_left-requires-clause-few : goal.rows_left-requires-clause-few
+rows_left-requires-clause-few c = grind (arith, common_steps)
+
+pub rows_left-requires-clause-long : goal.rows_left-requires-clause-long
+rows_left-requires-clause-long c = grind (arith, common_steps)
+
+pub rows_left-requires-clause-numbers : goal.rows_left-requires-clause-numbers
+rows_left-requires-clause-numbers c = grind (arith, common_steps)
+
+pub rows_left-requires-clause-stand : goal.rows_left-requires-clause-stand
+rows_left-requires-clause-stand c = grind (arith, common_steps)

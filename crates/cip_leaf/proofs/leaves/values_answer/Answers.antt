@@ -1,4 +1,5 @@
-use Rattle.std.proofs.Common.{inl}
+use Rattle.std.proofs.lemmas.Grind.{common_steps}
+use Rattle.std.proofs.Common.{inl, arith}
 use Rattle.cip_leaf.proofs.Sums.{part_overflows}
 use Rattle.cip_leaf.proofs.leaves.values_answer.Goals as goal
 
@@ -6,3 +7,6 @@ pub returns-in-Err-Wide : goal.returns-in-Err-Wide
 returns-in-Err-Wide c =
     let fault = rw c.in-Err-Wide.field-0-is at c.in-Err-Wide.ensures in
     rw c.in-Err-Wide.number-is (inl (part_overflows c.args.program.now c.args.wholes.now c.in-Err-Wide.number c.columns-columns.ensures.formed c.requires fault))
+
+pub tested-requires-clause-whole : goal.tested-requires-clause-whole
+tested-requires-clause-whole c = grind (arith, common_steps)

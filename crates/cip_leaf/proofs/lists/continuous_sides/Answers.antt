@@ -1,3 +1,4 @@
+use Rattle.std.proofs.lemmas.Grind.{common_steps}
 use Rattle.std.proofs.Common.{◌<◌, length, arith}
 use Rattle.cip_leaf.proofs.ListSteps.{kept_more, kept_end}
 use Rattle.cip_leaf.proofs.Steps.{skipped}
@@ -14,3 +15,9 @@ loop-at-preserved c =
 
 pub returns : goal.returns
 returns c = kept_end c.loop-at.at c.args.whole.now c.args.sides.now c.loop-at.bounds _ c.requires (omega arith) c.loop-at.invariant
+
+pub bounds-sides-at : goal.bounds-sides-at
+bounds-sides-at c = omega arith
+
+pub loop-at-init : goal.loop-at-init
+loop-at-init c = grind (arith, common_steps)

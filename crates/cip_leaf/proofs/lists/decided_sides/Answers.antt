@@ -1,3 +1,4 @@
+use Rattle.std.proofs.lemmas.Grind.{common_steps}
 use Rattle.std.proofs.Common.{◌≡◌, ◌+◌, ◌<◌, ◌≤◌, [], ◌∷◌, ◌++◌, length, slice_get, ap, ◌∙◌, arith, rules}
 use Rattle.cip_lin.specs.ChoiceParts.{own_if_open}
 use Rattle.cip_problem.specs.Box.{sides_at}
@@ -30,3 +31,9 @@ pub returns : goal.returns
 returns c =
     let l : length c.args.bounds.now ≤ c.loop-column.column = search rules in
     sides_end c.loop-column.column c.args.choices.now c.args.bounds.now c.loop-column.decided _ _ l c.loop-column.invariant.rest
+
+pub loop-column-init : goal.loop-column-init
+loop-column-init c = grind (arith, common_steps)
+
+pub sides-requires : goal.sides-requires
+sides-requires c = omega arith

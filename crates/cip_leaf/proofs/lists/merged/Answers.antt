@@ -1,3 +1,4 @@
+use Rattle.std.proofs.lemmas.Grind.{common_steps}
 use Rattle.std.proofs.Common.{◌<◌, length, arith}
 use Rattle.cip_leaf.proofs.ListSteps.{merged_whole, merged_other, merged_end, one_longer}
 use Rattle.cip_leaf.proofs.lists.merged.Goals as goal
@@ -24,3 +25,12 @@ loop-at-preserved c =
 
 pub returns-clause-merged : goal.returns-clause-merged
 returns-clause-merged c = merged_end c.loop-at.at c.args.whole.now _ _ c.loop-at.point.items _ (omega arith) c.loop-at.invariant.rest
+
+pub loop-at-init : goal.loop-at-init
+loop-at-init c = grind (arith, common_steps)
+
+pub overflow_add-put : goal.overflow_add-put
+overflow_add-put c = omega arith
+
+pub overflow_add-taken : goal.overflow_add-taken
+overflow_add-taken c = omega arith

@@ -20,3 +20,6 @@ loop-at-preserved c =
 
 pub returns : goal.returns
 returns c = numbered_end c.loop-at.count c.loop-at.at c.args.whole.now c.loop-at.numbers.items _ (omega arith) c.loop-at.invariant.rest
+
+pub overflow_add-count : goal.overflow_add-count
+overflow_add-count c = omega arith

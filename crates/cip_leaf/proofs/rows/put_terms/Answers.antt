@@ -1,3 +1,4 @@
+use Rattle.std.proofs.lemmas.Grind.{common_steps}
 use Rattle.std.proofs.Common.{◌≡◌, ◌<◌, ◌∷◌, ◌++◌, [], ℕ, true, false, length, take, sym, ap, ◌∙◌, arith}
 use Rattle.std.proofs.Math.ListN.{get_or}
 use Rattle.cip_problem.specs.Program.{Term, Row}
@@ -49,3 +50,12 @@ loop-term-preserved c =
     ∙ ap (λ (v : Term). record c.loop-term.row { terms = c.loop-term.row.terms ++ v ∷ [] }) same
     ∙ ap (λ (r : Row). record r { terms = r.terms ++ u ∷ [] }) c.loop-term.invariant
     ∙ ap (λ ts. record c.args.row.now { terms = ts }) (sym (continuous_term c.args.whole.now c.args.terms.now k t c.loop-term-test.true (sym c.term-item.is) test))
+
+pub bounds-whole-column : goal.bounds-whole-column
+bounds-whole-column c = grind (arith, common_steps)
+
+pub loop-term-init : goal.loop-term-init
+loop-term-init c = grind (arith, common_steps)
+
+pub returns : goal.returns
+returns c = grind (arith, common_steps)

@@ -1,3 +1,4 @@
+use Rattle.std.proofs.lemmas.Grind.{common_steps}
 use Rattle.std.proofs.Common.{arith}
 use Rattle.cip_lp.proofs.columns.put_column.Goals as goal
 
@@ -9,3 +10,21 @@ push_reserved-requires-2 c = omega (arith, c.in-Ok-reserve.ensures.ok)
 
 pub push_reserved-requires-3 : goal.push_reserved-requires-3
 push_reserved-requires-3 c = omega (arith, c.in-Ok-reserve-2.ensures.ok)
+
+pub add-requires : goal.add-requires
+add-requires c = grind (arith, common_steps)
+
+pub returns-clause-ok : goal.returns-clause-ok
+returns-clause-ok c = grind (arith, common_steps)
+
+pub returns-in_default-add-clause-err : goal.returns-in_default-add-clause-err
+returns-in_default-add-clause-err c = grind (arith, common_steps)
+
+pub returns-in_default-reserve-2-clause-err : goal.returns-in_default-reserve-2-clause-err
+returns-in_default-reserve-2-clause-err c = grind (arith, common_steps)
+
+pub returns-in_default-reserve-clause-err : goal.returns-in_default-reserve-clause-err
+returns-in_default-reserve-clause-err c = grind (arith, common_steps)
+
+pub returns-in_default-to_vec-clause-err : goal.returns-in_default-to_vec-clause-err
+returns-in_default-to_vec-clause-err c = grind (arith, common_steps)

@@ -1,4 +1,5 @@
-use Rattle.std.proofs.Common.{◌++◌, ◌∷◌, [], ap, sym, ◌∙◌, take, add-one}
+use Rattle.std.proofs.lemmas.Grind.{common_steps}
+use Rattle.std.proofs.Common.{◌++◌, ◌∷◌, [], ap, sym, ◌∙◌, take, add-one, arith}
 use Rattle.cip_problem.specs.Program.{Row}
 use Rattle.cip_text_rules.specs.LpFacts.{terms_of}
 use Rattle.cip_lp.proofs.FormLaws.{terms_before, terms_take, number_at}
@@ -18,3 +19,6 @@ loop-number-preserved c =
     let more = terms_take c.args.form.now c.loop-number.number-index item at in
     c.in_ok-append.ensures ∙ ap (λ (r : Row). record r { terms = r.terms ++ terms_of (item ∷ []) }) c.loop-number.invariant
     ∙ ap (λ ts. record { terms = ts; low = c.args.low; high = c.args.high }) (more ∙ ap (λ n. terms_of (take n c.args.form.now)) (sym (add-one c.loop-number.number-index)))
+
+pub returns : goal.returns
+returns c = grind (arith, common_steps)

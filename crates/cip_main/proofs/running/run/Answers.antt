@@ -1,4 +1,5 @@
-use Rattle.std.proofs.Common.{refl}
+use Rattle.std.proofs.lemmas.Grind.{common_steps}
+use Rattle.std.proofs.Common.{refl, arith}
 use Rattle.cip_main.proofs.Ways.{asked_of, answered, drawn_answered, verdict_told, plain_told}
 use Rattle.cip_main.proofs.running.run.Goals as goal
 
@@ -16,3 +17,6 @@ returns-in-Err g c = plain_told _ _ c.in-Err.answer (asked_of _ _ _ _ c.as_slice
 pub returns-in-Ok-Generate : goal.returns-in-Ok-Generate
 returns-in-Ok-Generate g c =
     drawn_answered _ _ _ _ _ _ _ (asked_of _ _ _ _ c.as_slice.ensures.value) (rw c.in-Ok-Generate.field-0-is at c.in-Ok-Generate.ensures) c.solve_drawn-status.ensures
+
+pub check_and_report-status-requires : goal.check_and_report-status-requires
+check_and_report-status-requires g c = grind (arith, common_steps)

@@ -1,4 +1,4 @@
-use Rattle.std.proofs.Common.{◌≡◌, ◌++◌, ◌∷◌, [], refl, rules}
+use Rattle.std.proofs.Common.{◌≡◌, ◌++◌, ◌∷◌, [], refl, rules, arith}
 use Rattle.cip_solve.proofs.PassedOn.{near_columns}
 use Rattle.cip_input.specs.WordsRead.{limits_of}
 use Rattle.cip_main.proofs.Searches.{few_less, not_searched_still, searched_less}
@@ -27,3 +27,6 @@ returns g c =
     let pushed : c.push.new.self.items ≡ c.args.logs.now.items ++ c.solve-answer.new.log ∷ [] = search rules in record {
       searched = searched_less c.args.program.now (limits_of c.args.limits.now) _ _ c.solve-answer.new.log _ _ _ c.solve-answer.result c.in-Ok.ensures.less pushed c.solve-answer.ensures.solved c.solve-answer.ensures.kit;
     }
+
+pub lessen-requires : goal.lessen-requires
+lessen-requires g c = omega arith

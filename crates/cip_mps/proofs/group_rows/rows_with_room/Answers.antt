@@ -17,3 +17,9 @@ loop-place-preserved c =
     let here : row ≡ empty_row c.index-heads-place.result = c.in-Ok-with_room.ensures ∙ ap (λ (sides : Sides). row_with [] sides) (c.sides.view_is ∙ c.sides-sides.ensures) in
     mapped_more empty_row c.args.heads.now c.loop-place.place c.index-heads-place.result row c.loop-place.rows.items c.push_reserved.new.self.items c.loop-place-test.true c.index-heads-place.is c.loop-place.invariant here
     (c.push_reserved.ensures.items ∙ ap (λ (rows : List _). rows ++ row ∷ []) c.in-Ok.ensures.items)
+
+pub bounds-counts-place : goal.bounds-counts-place
+bounds-counts-place c = omega arith
+
+pub offset_bounds-counts-place : goal.offset_bounds-counts-place
+offset_bounds-counts-place c = omega arith

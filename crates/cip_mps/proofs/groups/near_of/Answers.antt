@@ -1,3 +1,4 @@
+use Rattle.std.proofs.lemmas.Grind.{common_steps}
 use Rattle.std.proofs.Common.{◌≡◌, ℤ, to_z, of_z, w32, ap, ◌∙◌, arith}
 use Rattle.std.proofs.lemmas.Int.{ints}
 use mir.Syntax.{w128}
@@ -14,3 +15,6 @@ returns-then-value-2 c =
     let make : ℤ → Entry = λ (z : ℤ). record { row = c.args.row; held = record { column = c.held.inside.column; value = integer z } } in
     let held = whole_held c.held.inside.column c.held.inside.value n c.is_whole.result c.is_whole.ensures c.if-not-is_whole.false c.numerator-value.ensures.value ∙ c.held.view_is in
     ap make same ∙ ap (λ (h : Held). record { row = c.args.row; held = h }) held
+
+pub overflow_cast-result : goal.overflow_cast-result
+overflow_cast-result c = grind (arith, common_steps)

@@ -1,3 +1,4 @@
+use Rattle.std.proofs.lemmas.Grind.{common_steps}
 use Rattle.cip_mps.proofs.RowLaws.{last_pushed}
 use Rattle.cip_text_rules.specs.MpsState.{RowRead, no_row}
 use Rattle.std.specs.Prelude.{slice_index_or}
@@ -17,3 +18,18 @@ pop-requires-clause-empty c =
     let last : length c.push.new.self - 1 ≡ length before = omega (arith, ap length c.in_ok-push.ensures.ok, length_push before row) in
     ap (λ (rs : List RowRead). (slice_index_or rs (length c.push.new.self - 1) no_row).held) c.in_ok-push.ensures.ok
     ∙ ap (λ (k : ℕ). (slice_index_or (before ++ row ∷ []) k no_row).held) last ∙ ap (λ (r : RowRead). r.held) (last_pushed before row)
+
+pub add-added-requires : goal.add-added-requires
+add-added-requires c = grind (arith, common_steps)
+
+pub returns-else-is_err-clause-err : goal.returns-else-is_err-clause-err
+returns-else-is_err-clause-err c = grind (arith, common_steps)
+
+pub returns-else-is_err-clause-ok : goal.returns-else-is_err-clause-ok
+returns-else-is_err-clause-ok c = grind (arith, common_steps)
+
+pub returns-then-is_err-clause-err : goal.returns-then-is_err-clause-err
+returns-then-is_err-clause-err c = grind (arith, common_steps)
+
+pub returns-then-is_err-clause-ok : goal.returns-then-is_err-clause-ok
+returns-then-is_err-clause-ok c = grind (arith, common_steps)

@@ -1,4 +1,5 @@
-use Rattle.std.proofs.Common.{rules, ap, sym}
+use Rattle.std.proofs.lemmas.Grind.{common_steps}
+use Rattle.std.proofs.Common.{rules, ap, sym, arith}
 use Rattle.std.specs.Prelude.{not}
 use Rattle.std.specs.Vec.Iter.{into_iter_items}
 use Rattle.cip_mps.proofs.GroupedLaws.{kept_taken, kept_dropped}
@@ -19,3 +20,9 @@ loop-row-preserved c = record {
       c.in-Some-split_first.ensures.cases.0 c.in-Some.ensures.steps.0 (ap not (sym c.if-not-is_free.ensures)) c.loop-row.invariant.finished;
   left = search rules;
 }
+
+pub returns : goal.returns
+returns c = grind (arith, common_steps)
+
+pub returns-in_default : goal.returns-in_default
+returns-in_default c = grind (arith, common_steps)

@@ -1,4 +1,5 @@
-use Rattle.std.proofs.Common.{◌≢◌, Err, ◌∙◌, ap, subst}
+use Rattle.std.proofs.lemmas.Grind.{common_steps}
+use Rattle.std.proofs.Common.{◌≢◌, Err, ◌∙◌, ap, subst, arith}
 use Rattle.cip_problem.specs.Program.{Program}
 use Rattle.cip_problem.specs.Points.{AreWhole}
 use Rattle.cip_core.specs.PostsolveFault.TheVariants.{NoMemory}
@@ -30,3 +31,12 @@ returns-clause-region c =
 
 pub returns-clause-frame : goal.returns-clause-frame
 returns-clause-frame c = c.offer_back.ensures.frame
+
+pub are_whole-requires : goal.are_whole-requires
+are_whole-requires c = grind (arith, common_steps)
+
+pub offer_back-requires-clause-at_work : goal.offer_back-requires-clause-at_work
+offer_back-requires-clause-at_work c = grind (arith, common_steps)
+
+pub offer_back-requires-clause-values : goal.offer_back-requires-clause-values
+offer_back-requires-clause-values c = omega arith

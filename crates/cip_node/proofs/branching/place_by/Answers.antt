@@ -1,4 +1,5 @@
-use Rattle.std.proofs.Common.{◌≡◌, ◌∙◌, ℕ, ℤ, Option, None, Some, Vec, Global, length, sym, ap, subst}
+use Rattle.std.proofs.lemmas.Grind.{common_steps}
+use Rattle.std.proofs.Common.{◌≡◌, ◌∙◌, ℕ, ℤ, Option, None, Some, Vec, Global, length, sym, ap, subst, arith}
 use Rattle.std.specs.Prelude.{MatchOption, option_map}
 use Rattle.cip_rational.specs.Rational.{ℚ}
 use Rattle.cip_problem.specs.Program.{Program}
@@ -42,3 +43,12 @@ returns-in-None c =
     subst (λ (g : Option _). MatchOption c.chosen_place-in-None.result (IsSettledBox integral work.box work.choices) (λ place. IsSplitBy integral work g (col place) (at place))) (sym given)
     (placed_past col at c.chosen_place-in-None.result integral work _
     (placed col at c.chosen_place-in-None.result integral work c.whole-whole.result.now c.bounds-bounds.result.now c.choices-choices.result.now _ whole c.bounds-bounds.ensures c.choices-choices.ensures c.chosen_place-in-None.ensures))
+
+pub chosen_place-requires-clause-columns : goal.chosen_place-requires-clause-columns
+chosen_place-requires-clause-columns c = grind (arith, common_steps)
+
+pub chosen_place-requires-clause-values : goal.chosen_place-requires-clause-values
+chosen_place-requires-clause-values c = grind (arith, common_steps)
+
+pub chosen_place-requires-in-None-clause-columns : goal.chosen_place-requires-in-None-clause-columns
+chosen_place-requires-in-None-clause-columns c = grind (arith, common_steps)

@@ -1,4 +1,5 @@
-use Rattle.std.proofs.Common.{◌≡◌, length, sym, ap, ◌∙◌, subst}
+use Rattle.std.proofs.lemmas.Grind.{common_steps}
+use Rattle.std.proofs.Common.{◌≡◌, length, sym, ap, ◌∙◌, subst, arith}
 use Rattle.cip_problem.specs.Program.{Program}
 use Rattle.cip_problem.specs.WellFormed.{columns}
 use Rattle.cip_domain.specs.Changes.{Region}
@@ -48,3 +49,9 @@ settle-requires-clause-solved c =
           (c.in-Ok.ensures.there node (sym (c.bounds.ensures ∙ ap (λ (r : Region). r.box) c.requires.leaf.full.region)) (sym (c.choices.ensures ∙ ap (λ (r : Region). r.choices) c.requires.leaf.full.region)))));
       answer = subst (λ (p : Program). IsLeafAnswer p (leaf_of solved) solved.answer) c.program-program.ensures c.in-Ok.ensures.answer;
     }
+
+pub go_back-requires-clause-given : goal.go_back-requires-clause-given
+go_back-requires-clause-given c = grind (arith, common_steps)
+
+pub go_back-requires-clause-up : goal.go_back-requires-clause-up
+go_back-requires-clause-up c = grind (arith, common_steps)

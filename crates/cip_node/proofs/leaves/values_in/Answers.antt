@@ -1,3 +1,4 @@
+use Rattle.std.proofs.lemmas.Grind.{common_steps}
 use Rattle.std.proofs.Common.{◌≡◌, ◌<◌, ◌∙◌, ◌++◌, ◌∷◌, [], true, All, None, get_or, length, sym, ap, subst, arith}
 use Rattle.std.proofs.lemmas.List.{take_all}
 use Rattle.std.proofs.lemmas.List.Elements.{All-push}
@@ -38,3 +39,6 @@ returns-clause-least c =
 
 pub returns-clause-in_range : goal.returns-clause-in_range
 returns-clause-in_range c = c.loop-at.invariant.in_range
+
+pub loop-at-init : goal.loop-at-init
+loop-at-init c = grind (arith, common_steps)

@@ -1,4 +1,5 @@
-use Rattle.std.proofs.Common.{◌≡◌, None, length, ◌∙◌, sym, ap, subst}
+use Rattle.std.proofs.lemmas.Grind.{common_steps}
+use Rattle.std.proofs.Common.{◌≡◌, None, length, ◌∙◌, sym, ap, subst, arith}
 use Rattle.cip_problem.specs.Log.{Parked}
 use Rattle.cip_leaf.specs.LeafAnswers.{IsBest, IsLeafAnswer, shown_as}
 use Rattle.cip_problem.specs.Points.{IsFeasible}
@@ -101,3 +102,15 @@ returns-in-Unbounded-clause-ended c =
       shown_ray = subst (λ p. IsShownRay p point c.in-Unbounded.ray.items) (sym program) r.shown;
       tried = subst (λ (k : CoreState). IsTried k.program (held_of k) point) (sym c.park_endless.ensures.frame) tried;
     })
+
+pub close_empty-requires-in-NoPoint-clause-up : goal.close_empty-requires-in-NoPoint-clause-up
+close_empty-requires-in-NoPoint-clause-up c = grind (arith, common_steps)
+
+pub offer-answer-requires-clause-at_work : goal.offer-answer-requires-clause-at_work
+offer-answer-requires-clause-at_work c = grind (arith, common_steps)
+
+pub offer_at-answer-requires-clause-at_work : goal.offer_at-answer-requires-clause-at_work
+offer_at-answer-requires-clause-at_work c = grind (arith, common_steps)
+
+pub park-requires-clause-up : goal.park-requires-clause-up
+park-requires-clause-up c = grind (arith, common_steps)

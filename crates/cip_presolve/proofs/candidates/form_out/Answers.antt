@@ -1,4 +1,5 @@
-use Rattle.std.proofs.Common.{◌≡◌, List, sym, ap, ◌∙◌, subst, true≢false, ◌<◌, length}
+use Rattle.std.proofs.lemmas.Grind.{common_steps}
+use Rattle.std.proofs.Common.{◌≡◌, List, sym, ap, ◌∙◌, subst, true≢false, ◌<◌, length, arith}
 use Rattle.cip_problem.specs.Program.{Sides}
 use Rattle.cip_problem.specs.Box.{sides_at}
 use Rattle.cip_presolve.specs.Forms.{Form}
@@ -26,3 +27,6 @@ sides-own-requires c =
 
 pub sides-outer-requires : goal.sides-outer-requires
 sides-outer-requires c = subst (λ (box : List Sides). c.args.column < length box) (sym c.bounds-2.ensures.bounds) c.if-not-is_substitute.ensures.inside
+
+pub is_free-requires : goal.is_free-requires
+is_free-requires c = grind (arith, common_steps)

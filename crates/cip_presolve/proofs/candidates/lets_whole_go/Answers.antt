@@ -1,4 +1,5 @@
-use Rattle.std.proofs.Common.{◌≡◌, true, List, Some, slice_get, ap, ◌∙◌, subst}
+use Rattle.std.proofs.lemmas.Grind.{common_steps}
+use Rattle.std.proofs.Common.{◌≡◌, true, List, Some, slice_get, ap, ◌∙◌, subst, arith}
 use Rattle.std.proofs.lemmas.Bool.{OnTrue_at, OnTrue_from}
 use Rattle.cip_rational.specs.Rational.{ℚ}
 use Rattle.cip_rational.specs.Range.{fits_range}
@@ -23,3 +24,15 @@ returns-then-is_whole c =
       source = subst (λ n. slice_get c.args.draft.now.integral n ≡ Some true) source whole;
       assigns = subst (λ (s : Sides). FormAssigns c.args.form.now s) own (OnTrue_at t c.assigns.ensures);
     })
+
+pub is_whole-requires-2 : goal.is_whole-requires-2
+is_whole-requires-2 c = grind (arith, common_steps)
+
+pub returns-else-is_whole : goal.returns-else-is_whole
+returns-else-is_whole c = grind (arith, common_steps)
+
+pub returns-then-not-is_whole : goal.returns-then-not-is_whole
+returns-then-not-is_whole c = grind (arith, common_steps)
+
+pub sides-requires : goal.sides-requires
+sides-requires c = grind (arith, common_steps)

@@ -1,5 +1,6 @@
+use Rattle.std.proofs.lemmas.Grind.{common_steps}
 use Rattle.cip_presolve.proofs.MayLeave.{one_may, all_may, FirstMayGo, none_yet}
-use Rattle.std.proofs.Common.{◌≡◌, length, rules, List, Option, sym, subst}
+use Rattle.std.proofs.Common.{◌≡◌, length, rules, List, Option, sym, subst, arith}
 use Rattle.cip_presolve.specs.Forms.{Form}
 use Rattle.cip_presolve.proofs.candidates.values_out.Goals as goal
 
@@ -15,3 +16,6 @@ returns c =
 
 pub loop-column-init : goal.loop-column-init
 loop-column-init c = subst (λ (fs : List (Option Form)). FirstMayGo c.args.draft.now fs 0) (sym c.new-forms.ensures.items) (none_yet c.args.draft.now)
+
+pub value_out-requires : goal.value_out-requires
+value_out-requires c = grind (arith, common_steps)

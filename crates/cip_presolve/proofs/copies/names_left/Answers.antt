@@ -1,4 +1,4 @@
-use Rattle.std.proofs.Common.{◌<◌, length, rules}
+use Rattle.std.proofs.Common.{◌<◌, length, rules, arith}
 use Rattle.cip_presolve.proofs.CopiedParts.{names_skip, names_take, all_names}
 use Rattle.cip_presolve.proofs.copies.names_left.Goals as goal
 
@@ -12,3 +12,6 @@ loop-at-preserved c =
 
 pub returns : goal.returns
 returns c = all_names c.args.gone.now c.args.names.now c.loop-at.left c.loop-at.at c.loop-at.invariant c.loop-at-test.false c.requires
+
+pub name-requires : goal.name-requires
+name-requires c = omega arith

@@ -1,4 +1,5 @@
-use Rattle.std.proofs.Common.{◌≡◌, List, [], length, refl, sym, ap, ◌∙◌, subst}
+use Rattle.std.proofs.lemmas.Grind.{common_steps}
+use Rattle.std.proofs.Common.{◌≡◌, List, [], length, refl, sym, ap, ◌∙◌, subst, arith}
 use Rattle.cip_rational.specs.Rational.{zeroℚ}
 use Rattle.cip_problem.specs.Program.{Term, Row}
 use Rattle.cip_problem.specs.Activity.{StandsBelow}
@@ -17,3 +18,9 @@ returns-then-branch c =
     let high : c.append_free.new.row.high ≡ side_less c.args.row.now.high c.in-Some.shift = ap (λ (r : Row). r.high) k ∙ ap (λ (r : Row). r.high) c.empty-left.ensures ∙ rw (← c.high.ensures) c.in-Some-less-2.ensures in
     left_row c.args.bounds.now c.args.row.now c.append_free.new.row c.in-Some.shift shift terms low high
     (subst (λ (ts : List Term). StandsBelow (length c.args.bounds.now) ts) (sym terms) (free_stands (length c.args.bounds.now) c.args.row.now.terms c.args.bounds.now c.requires))
+
+pub append_free-requires : goal.append_free-requires
+append_free-requires c = grind (arith, common_steps)
+
+pub fixed_sum-requires : goal.fixed_sum-requires
+fixed_sum-requires c = grind (arith, common_steps)

@@ -1,4 +1,4 @@
-use Rattle.std.proofs.Common.{◌≡◌, IfSome, ap, subst}
+use Rattle.std.proofs.Common.{◌≡◌, IfSome, ap, subst, arith}
 use Rattle.cip_problem.specs.Program.{Sides}
 use Rattle.cip_presolve.specs.Rests.{IsDifference}
 use Rattle.cip_presolve.proofs.ImpliedSides.{implied_all}
@@ -12,3 +12,6 @@ returns c =
     let high : IfSome c.difference-high.result (IsDifference c.args.row.now.high c.args.rests.low) = subst (λ o. IfSome c.difference-high.result (IsDifference c.args.row.now.high o)) low_side (rw (← c.high.ensures) c.difference-high.ensures) in
     implied_all c.args.row.now c.empty.result c.args.at c.args.whole c.args.rests c.difference-low.result c.difference-high.result c.term_at-term.result c.single_sides-2.result
     c.term_at-term.ensures.term c.term_at-term.ensures.nonzero low high c.empty.ensures c.single_sides-2.ensures
+
+pub single_sides-requires : goal.single_sides-requires
+single_sides-requires c = omega arith

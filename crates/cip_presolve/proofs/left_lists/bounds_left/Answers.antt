@@ -1,3 +1,4 @@
+use Rattle.std.proofs.lemmas.Grind.{common_steps}
 use Rattle.std.proofs.Common.{◌<◌, ◌≤◌, min, length, arith}
 use Rattle.cip_presolve.proofs.Leftovers.{skipped, taken_item, left_end}
 use Rattle.cip_presolve.proofs.left_lists.bounds_left.Goals as goal
@@ -16,3 +17,9 @@ pub returns : goal.returns
 returns c =
     let past : min (length c.args.gone.now) (length c.args.sides.now) ≤ c.loop-at.at = omega arith in
     left_end c.loop-at.at c.args.gone.now c.args.sides.now c.loop-at.left _ past c.loop-at.invariant
+
+pub bounds-sides-at : goal.bounds-sides-at
+bounds-sides-at c = omega arith
+
+pub loop-at-init : goal.loop-at-init
+loop-at-init c = grind (arith, common_steps)

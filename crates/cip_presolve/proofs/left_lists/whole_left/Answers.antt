@@ -16,3 +16,6 @@ pub returns : goal.returns
 returns c =
     let past : min (length c.args.gone.now) (length c.args.whole.now) ≤ c.loop-at.at = omega arith in
     left_end c.loop-at.at c.args.gone.now c.args.whole.now c.loop-at.left.items _ past c.loop-at.invariant
+
+pub bounds-whole-at : goal.bounds-whole-at
+bounds-whole-at c = omega arith

@@ -1,4 +1,5 @@
-use Rattle.std.proofs.Common.{◌≡◌, rules, ℕ, List, length, sym, ap, ◌∙◌}
+use Rattle.std.proofs.lemmas.Grind.{common_steps}
+use Rattle.std.proofs.Common.{◌≡◌, rules, ℕ, List, length, sym, ap, ◌∙◌, arith}
 use Rattle.cip_problem.specs.Program.{Program}
 use Rattle.cip_presolve.specs.LeftProgram.{left_columns}
 use Rattle.cip_rational.specs.Rational.{ℚ}
@@ -30,3 +31,15 @@ returns c =
 
 pub names_left-requires : goal.names_left-requires
 names_left-requires c = c.requires.column_names ∙ sym (ap (λ (ns : List (List ℕ)). length ns) c.column_names.ensures.names)
+
+pub bounds_left-requires : goal.bounds_left-requires
+bounds_left-requires c = grind (arith, common_steps)
+
+pub costs_left-requires : goal.costs_left-requires
+costs_left-requires c = grind (arith, common_steps)
+
+pub row_names_left-requires : goal.row_names_left-requires
+row_names_left-requires c = omega arith
+
+pub whole_left-requires : goal.whole_left-requires
+whole_left-requires c = grind (arith, common_steps)

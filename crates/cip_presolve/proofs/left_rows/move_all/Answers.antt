@@ -1,4 +1,5 @@
-use Rattle.std.proofs.Common.{◌<◌, length, refl, rules}
+use Rattle.std.proofs.lemmas.Grind.{common_steps}
+use Rattle.std.proofs.Common.{◌<◌, length, refl, rules, arith}
 use Rattle.cip_presolve.proofs.MovedRows.{next_moved, can_move}
 use Rattle.cip_presolve.proofs.left_rows.move_all.Goals as goal
 
@@ -11,3 +12,6 @@ pub moved-requires : goal.moved-requires
 moved-requires c =
     let below : c.loop-at.at < length c.loop-at.rows.items = search rules in
     can_move c.args.numbers.now c.args.rows.now.items c.loop-at.rows.items c.loop-at.at c.index.result.now c.loop-at.invariant c.requires below c.index.ensures
+
+pub returns : goal.returns
+returns c = grind (arith, common_steps)

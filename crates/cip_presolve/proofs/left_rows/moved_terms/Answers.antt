@@ -1,4 +1,5 @@
-use Rattle.std.proofs.Common.{◌++◌, ◌∙◌, ap}
+use Rattle.std.proofs.lemmas.Grind.{common_steps}
+use Rattle.std.proofs.Common.{◌++◌, ◌∙◌, ap, arith}
 use Rattle.std.specs.Prelude.{map}
 use Rattle.cip_problem.specs.Program.{Term}
 use Rattle.cip_presolve.specs.LeftProgram.{moved_term}
@@ -15,3 +16,6 @@ loop-term-preserved c =
 
 pub returns : goal.returns
 returns c = map_end (moved_term c.args.numbers.now) c.loop-term.term-index c.args.terms.now c.loop-term.moved.items _ c.loop-term-test.false c.loop-term.invariant
+
+pub bounds-numbers-term-inside : goal.bounds-numbers-term-inside
+bounds-numbers-term-inside c = grind (arith, common_steps)

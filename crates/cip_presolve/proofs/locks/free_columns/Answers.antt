@@ -1,5 +1,6 @@
+use Rattle.std.proofs.lemmas.Grind.{common_steps}
 use Rattle.cip_presolve.proofs.Free.{row_locked, row_spent, row_stands}
-use Rattle.std.proofs.Common.{◌≡◌, length, rules, sym, ◌∙◌}
+use Rattle.std.proofs.Common.{◌≡◌, length, rules, sym, ◌∙◌, arith}
 use Rattle.cip_presolve.proofs.RowsSpent.{some_spent}
 use Rattle.cip_presolve.proofs.locks.free_columns.Goals as goal
 
@@ -18,3 +19,6 @@ lock_terms-requires c =
     let long : length c.in_ok-free.free.items ≡ c.args.columns = search rules in
     row_stands c.args.rising c.args.columns c.in_ok-free.free.items c.loop-row.free.items c.args.forms.now c.args.rows.now c.loop-row.row-index c.row-item.result c.terms.result.now
     c.loop-row.invariant long c.requires c.loop-row-test.true c.row-item.is c.terms.ensures.terms
+
+pub returns : goal.returns
+returns c = grind (arith, common_steps)

@@ -1,4 +1,5 @@
-use Rattle.std.proofs.Common.{◌≡◌, ◌∙◌, refl, ap}
+use Rattle.std.proofs.lemmas.Grind.{common_steps}
+use Rattle.std.proofs.Common.{◌≡◌, ◌∙◌, refl, ap, arith}
 use Rattle.cip_problem.specs.Program.{Term}
 use Rattle.cip_presolve.specs.FreeColumns.{turned}
 use Rattle.cip_presolve.proofs.Free.{term_lets, term_locks}
@@ -15,3 +16,9 @@ pub loop-term-preserved : goal.loop-term-preserved
 loop-term-preserved c =
     term_locks c.args.rising c.args.free.now.items c.loop-term.free.items _ c.args.low.now c.args.high.now c.args.terms.now c.loop-term.term-index _ c.term-item.result
     c.loop-term.invariant c.loop-term-test.true c.term-item.is (ap (λ (t : Term). t.column) c.term.view_is) refl
+
+pub index_mut-requires : goal.index_mut-requires
+index_mut-requires c = grind (arith, common_steps)
+
+pub returns-clause-terms : goal.returns-clause-terms
+returns-clause-terms c = grind (arith, common_steps)

@@ -1,4 +1,5 @@
-use Rattle.std.proofs.Common.{◌≡◌, sym, ap, ◌∙◌, ◌<◌, List, length, subst}
+use Rattle.std.proofs.lemmas.Grind.{common_steps}
+use Rattle.std.proofs.Common.{◌≡◌, sym, ap, ◌∙◌, ◌<◌, List, length, subst, arith}
 use Rattle.std.proofs.lemmas.Option.{same_Some}
 use Rattle.cip_problem.specs.Program.{Term, Sides, Row, Program}
 use Rattle.cip_problem.specs.Choices.{met}
@@ -58,3 +59,21 @@ pub returns-clause-rows : goal.returns-clause-rows
 returns-clause-rows c =
     ap (λ (p : Program). length p.rows) c.set_row-2.ensures ∙ count_same c.set_row.new.self.rows c.args.second c.empty.result
     ∙ ap (λ (p : Program). length p.rows) c.set_row.ensures ∙ count_same c.args.draft.now.rows c.args.first c.in_ok-row.row
+
+pub row-requires-2 : goal.row-requires-2
+row-requires-2 c = omega arith
+
+pub row-requires-3 : goal.row-requires-3
+row-requires-3 c = omega arith
+
+pub row-requires-4 : goal.row-requires-4
+row-requires-4 c = omega arith
+
+pub row_of_terms-requires : goal.row_of_terms-requires
+row_of_terms-requires c = grind (arith, common_steps)
+
+pub set_row-requires-2-clause-stands : goal.set_row-requires-2-clause-stands
+set_row-requires-2-clause-stands c = grind (arith, common_steps)
+
+pub set_row-requires-clause-inside : goal.set_row-requires-clause-inside
+set_row-requires-clause-inside c = omega arith

@@ -1,4 +1,5 @@
-use Rattle.std.proofs.Common.{◌≡◌, List, Some, sym, ap, ◌∙◌, subst, true≢false}
+use Rattle.std.proofs.lemmas.Grind.{common_steps}
+use Rattle.std.proofs.Common.{◌≡◌, List, Some, sym, ap, ◌∙◌, subst, true≢false, arith}
 use Rattle.cip_rational.specs.Rational.{zeroℚ, ◌<ℚ◌}
 use Rattle.cip_problem.specs.Program.{Sides}
 use Rattle.cip_problem.specs.Box.{sides_at}
@@ -13,3 +14,6 @@ returns c =
     ∙ ap (λ (s : Sides). least_value c.is_whole.result s.low) (sym c.sides.ensures) ∙ ap (least_value c.is_whole.result) (sym (ap (λ (s : Sides). s.low) c.least_value.view_is)) ∙ sym c.least_value-2.ensures ∙ c.in-Some.is in
     fall_is c.args.draft.now c.args.column c.is_whole.result c.in-Some.value c.args.free.now c.requires c.is_whole.ensures c.if-not-can_take.ensures c.if-not-is_free.ensures value
     (λ w. true≢false (sym (c.is_negative.ensures.1 (subst (λ q. q <ℚ zeroℚ) (sym c.cost.ensures) w)) ∙ c.if-is_negative.false))
+
+pub sides-requires : goal.sides-requires
+sides-requires c = grind (arith, common_steps)

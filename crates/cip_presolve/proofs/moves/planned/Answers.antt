@@ -1,4 +1,5 @@
-use Rattle.std.proofs.Common.{List, IfSome, subst}
+use Rattle.std.proofs.lemmas.Grind.{common_steps}
+use Rattle.std.proofs.Common.{List, IfSome, subst, arith}
 use Rattle.std.proofs.lemmas.Option.{IfSome_then}
 use Rattle.std.proofs.lemmas.Result.{IfOk-weaker}
 use Rattle.cip_problem.specs.Program.{Row}
@@ -18,3 +19,9 @@ returns c =
     (subst (λ free. AreTargets c.args.rising free c.args.draft.now c.in_ok-targets.targets.items) c.as_slice.ensures.value targets)
     (subst (λ ts. AreEntries c.args.forms.now ts plan.items) c.as_slice-2.ensures.value e)))
     c.entries.ensures
+
+pub entries-requires : goal.entries-requires
+entries-requires c = omega arith
+
+pub free_columns-requires : goal.free_columns-requires
+free_columns-requires c = grind (arith, common_steps)

@@ -1,4 +1,4 @@
-use Rattle.std.proofs.Common.{◌≡◌, ◌∙◌, IfSome, ap, subst, ◌<◌, length, sym}
+use Rattle.std.proofs.Common.{◌≡◌, ◌∙◌, IfSome, ap, subst, ◌<◌, length, sym, arith}
 use Rattle.cip_rational.specs.Rational.{negate, zeroℚ}
 use Rattle.cip_problem.specs.Program.{Term, Sides}
 use Rattle.cip_problem.specs.Box.{sides_at}
@@ -28,3 +28,6 @@ pub sides-sides-requires : goal.sides-sides-requires
 sides-sides-requires c =
     subst (λ n. n < length c.args.bounds.now) (sym (ap (λ (t : Term). t.column) c.term.view_is))
     (term_inside (length c.args.bounds.now) c.args.row.now.terms c.args.at c.term_at-term.result c.requires.stands c.term_at-term.ensures.term)
+
+pub rests_summed-requires-clause-stands : goal.rests_summed-requires-clause-stands
+rests_summed-requires-clause-stands c = omega arith

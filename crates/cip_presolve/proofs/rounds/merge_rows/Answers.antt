@@ -1,4 +1,5 @@
-use Rattle.std.proofs.Common.{◌∙◌, refl}
+use Rattle.std.proofs.lemmas.Grind.{common_steps}
+use Rattle.std.proofs.Common.{◌∙◌, refl, arith}
 use Rattle.cip_search.proofs.Pairing.{exact_self, exact_after}
 use Rattle.cip_presolve.proofs.rounds.merge_rows.Goals as goal
 
@@ -16,3 +17,9 @@ returns-in_default-clause-step c = exact_self c.args.draft.now
 
 pub loop-at-init : goal.loop-at-init
 loop-at-init c = record { step = exact_self c.args.draft.now; rows = refl }
+
+pub returns-in_default-merge_pair-clause-end : goal.returns-in_default-merge_pair-clause-end
+returns-in_default-merge_pair-clause-end c = grind (arith, common_steps)
+
+pub returns-in_default-merge_pair-clause-rows : goal.returns-in_default-merge_pair-clause-rows
+returns-in_default-merge_pair-clause-rows c = omega arith

@@ -1,4 +1,4 @@
-use Rattle.std.proofs.Common.{◌∙◌}
+use Rattle.std.proofs.Common.{◌∙◌, arith}
 use Rattle.cip_presolve.proofs.rounds.settle.Goals as goal
 use Rattle.cip_search.proofs.Pairing.{exact_after}
 
@@ -28,3 +28,15 @@ returns-then-is_done-clause-step c =
 
 pub returns-clause-step : goal.returns-clause-step
 returns-clause-step c = exact_after _ _ _ c.loop.invariant.step c.settle_columns-2.ensures.step
+
+pub returns-in_default-clause-rows : goal.returns-in_default-clause-rows
+returns-in_default-clause-rows c = omega arith
+
+pub returns-in_default-merge_rows-2-clause-rows : goal.returns-in_default-merge_rows-2-clause-rows
+returns-in_default-merge_rows-2-clause-rows c = omega arith
+
+pub returns-in_default-merge_rows-clause-rows : goal.returns-in_default-merge_rows-clause-rows
+returns-in_default-merge_rows-clause-rows c = omega arith
+
+pub returns-then-is_done-clause-rows : goal.returns-then-is_done-clause-rows
+returns-then-is_done-clause-rows c = omega arith

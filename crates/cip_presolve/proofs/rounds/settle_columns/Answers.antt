@@ -1,4 +1,5 @@
-use Rattle.std.proofs.Common.{◌∙◌}
+use Rattle.std.proofs.lemmas.Grind.{common_steps}
+use Rattle.std.proofs.Common.{◌∙◌, arith}
 use Rattle.cip_presolve.proofs.rounds.settle_columns.Goals as goal
 use Rattle.cip_search.proofs.Pairing.{exact_after}
 
@@ -12,3 +13,6 @@ loop-column-preserved c = record {
   rows = c.try_fixed.ensures.rows ∙ c.loop-column.invariant.rows;
   columns = c.try_fixed.ensures.columns ∙ c.loop-column.invariant.columns;
 }
+
+pub try_fixed-requires : goal.try_fixed-requires
+try_fixed-requires c = grind (arith, common_steps)

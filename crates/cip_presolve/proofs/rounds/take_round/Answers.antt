@@ -1,3 +1,5 @@
+use Rattle.std.proofs.lemmas.Grind.{common_steps}
+use Rattle.std.proofs.Common.{arith}
 use Rattle.cip_presolve.proofs.rounds.take_round.Goals as goal
 use Rattle.cip_search.proofs.Pairing.{exact_step, exact_after, step_after}
 
@@ -20,3 +22,12 @@ returns-in_default-2-clause-step c = exact_step _ _ c.settle.ensures.step
 
 pub returns-in_err-move_columns-clause-step : goal.returns-in_err-move_columns-clause-step
 returns-in_err-move_columns-clause-step c = step_after _ _ _ (exact_step _ _ (exact_after _ _ _ c.settle.ensures.step c.substitute_all.ensures.step)) c.move_columns.ensures.step
+
+pub returns-clause-end : goal.returns-clause-end
+returns-clause-end c = grind (arith, common_steps)
+
+pub returns-clause-rows : goal.returns-clause-rows
+returns-clause-rows c = grind (arith, common_steps)
+
+pub returns-in_default-substitute_all-clause-rows : goal.returns-in_default-substitute_all-clause-rows
+returns-in_default-substitute_all-clause-rows c = omega arith

@@ -1,4 +1,4 @@
-use Rattle.std.proofs.Common.{◌∙◌, refl}
+use Rattle.std.proofs.Common.{◌∙◌, refl, arith}
 use Rattle.cip_presolve.proofs.rounds.take_rounds.Goals as goal
 use Rattle.cip_presolve.proofs.Planned.{stays_step}
 use Rattle.cip_search.proofs.Pairing.{exact_step, step_after}
@@ -24,3 +24,6 @@ returns-then-is_done-clause-step c =
 
 pub returns-clause-step : goal.returns-clause-step
 returns-clause-step c = step_after _ _ _ c.loop.invariant.step (exact_step _ _ c.settle_columns-2.ensures.step)
+
+pub returns-then-is_done-clause-rows : goal.returns-then-is_done-clause-rows
+returns-then-is_done-clause-rows c = omega arith

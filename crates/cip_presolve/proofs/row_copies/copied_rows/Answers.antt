@@ -1,4 +1,5 @@
-use Rattle.std.proofs.Common.{◌∷◌, [], ◌++◌, List, sym, ap₂, ◌∙◌, take_all}
+use Rattle.std.proofs.lemmas.Grind.{common_steps}
+use Rattle.std.proofs.Common.{◌∷◌, [], ◌++◌, List, sym, ap₂, ◌∙◌, take_all, arith}
 use Rattle.std.proofs.lemmas.List.{take_more}
 use Rattle.cip_problem.specs.Program.{Row}
 use Rattle.cip_presolve.proofs.row_copies.copied_rows.Goals as goal
@@ -19,3 +20,6 @@ loop-row-preserved c =
 
 pub returns : goal.returns
 returns c = c.loop-row.invariant ∙ take_all c.loop-row.row-index c.args.rows.now c.loop-row-test.false
+
+pub row_of_terms-requires : goal.row_of_terms-requires
+row_of_terms-requires c = grind (arith, common_steps)

@@ -1,4 +1,5 @@
-use Rattle.std.proofs.Common.{◌∙◌, refl}
+use Rattle.std.proofs.lemmas.Grind.{common_steps}
+use Rattle.std.proofs.Common.{◌∙◌, refl, arith}
 use Rattle.cip_presolve.proofs.ImpliedSides.{stays_enclosed}
 use Rattle.cip_search.proofs.Pairing.{exact_self, exact_after}
 use Rattle.cip_presolve.proofs.row_looks.imply.Goals as goal
@@ -21,3 +22,21 @@ returns-in_err-tell-in-Ok-clause-step c = exact_after _ _ _ c.loop-at.invariant.
 
 pub loop-at-init : goal.loop-at-init
 loop-at-init c = record { step = exact_self c.args.draft.now; rows = refl; enclosed = c.row_extent-extent.ensures }
+
+pub returns-clause-rows : goal.returns-clause-rows
+returns-clause-rows c = grind (arith, common_steps)
+
+pub returns-in-Err-clause-rows : goal.returns-in-Err-clause-rows
+returns-in-Err-clause-rows c = grind (arith, common_steps)
+
+pub returns-in-Ok-NoPoint-clause-end : goal.returns-in-Ok-NoPoint-clause-end
+returns-in-Ok-NoPoint-clause-end c = grind (arith, common_steps)
+
+pub returns-in-Ok-NoPoint-clause-rows : goal.returns-in-Ok-NoPoint-clause-rows
+returns-in-Ok-NoPoint-clause-rows c = grind (arith, common_steps)
+
+pub returns-in_err-tell-in-Ok-clause-rows : goal.returns-in_err-tell-in-Ok-clause-rows
+returns-in_err-tell-in-Ok-clause-rows c = grind (arith, common_steps)
+
+pub try_implied-requires-clause-inside : goal.try_implied-requires-clause-inside
+try_implied-requires-clause-inside c = grind (arith, common_steps)

@@ -1,4 +1,5 @@
-use Rattle.std.proofs.Common.{◌≡◌, Ok, ap, ◌∙◌, subst, ◌<◌, length, sym}
+use Rattle.std.proofs.lemmas.Grind.{common_steps}
+use Rattle.std.proofs.Common.{◌≡◌, Ok, ap, ◌∙◌, subst, ◌<◌, length, sym, arith}
 use Rattle.cip_problem.specs.Activity.{value_at}
 use Rattle.cip_frac.specs.Outcomes.{product_added}
 use Rattle.cip_presolve.specs.NarrowedPrograms.{with_cost}
@@ -30,3 +31,9 @@ pub set_cost-requires-2 : goal.set_cost-requires-2
 set_cost-requires-2 c =
     subst (λ (p : Program). c.form.inside.source < length p.bounds) (sym c.set_cost.ensures)
     (subst (λ n. n < length c.args.draft.now.bounds) (sym (ap (λ (f : Form). f.source) c.form.view_is)) c.requires.substitute.source)
+
+pub cost-more-requires : goal.cost-more-requires
+cost-more-requires c = grind (arith, common_steps)
+
+pub set_cost-requires : goal.set_cost-requires
+set_cost-requires c = omega arith

@@ -1,4 +1,5 @@
-use Rattle.std.proofs.Common.{◌≡◌, List, Some, slice_get, sym, ap, ◌∙◌, subst, true≢false, ◌<◌, length}
+use Rattle.std.proofs.lemmas.Grind.{common_steps}
+use Rattle.std.proofs.Common.{◌≡◌, List, Some, slice_get, sym, ap, ◌∙◌, subst, true≢false, ◌<◌, length, arith}
 use Rattle.cip_problem.specs.Program.{Term, Sides, Row}
 use Rattle.cip_problem.specs.Box.{sides_at}
 use Rattle.cip_problem.specs.Choices.{met}
@@ -35,3 +36,9 @@ pub sides-requires : goal.sides-requires
 sides-requires c =
     subst (λ (box : List Sides). c.form.inside.source < length box) (sym c.bounds-2.ensures.bounds)
     (subst (λ n. n < length c.args.draft.now.bounds) (sym (ap (λ (f : Form). f.source) c.form.view_is)) c.requires.substitute.source)
+
+pub sides-own-requires : goal.sides-own-requires
+sides-own-requires c = grind (arith, common_steps)
+
+pub single_sides-requires : goal.single_sides-requires
+single_sides-requires c = grind (arith, common_steps)

@@ -1,4 +1,5 @@
-use Rattle.std.proofs.Common.{◌≡◌, ◌∙◌, ◌<◌, false, length, sym, ap, subst, List}
+use Rattle.std.proofs.lemmas.Grind.{common_steps}
+use Rattle.std.proofs.Common.{◌≡◌, ◌∙◌, ◌<◌, false, length, sym, ap, subst, List, arith}
 use Rattle.cip_problem.specs.Choices.{choice_at, is_open}
 use Rattle.cip_search.specs.NarrowedPrograms.{with_sides}
 use Rattle.cip_search.proofs.Pairing.{exact_self}
@@ -34,3 +35,9 @@ pub sides-requires : goal.sides-requires
 sides-requires c =
     subst (λ (box : List Sides). c.form.inside.source < length box) (sym c.bounds.ensures.bounds)
     (subst (λ n. n < length c.args.draft.now.bounds) (sym (ap (λ (f : Form). f.source) c.form.view_is)) c.in-Some.ensures.inside)
+
+pub is_whole-requires : goal.is_whole-requires
+is_whole-requires c = grind (arith, common_steps)
+
+pub returns-then-cross-clause-end : goal.returns-then-cross-clause-end
+returns-then-cross-clause-end c = grind (arith, common_steps)

@@ -1,3 +1,5 @@
+use Rattle.std.proofs.lemmas.Grind.{common_steps}
+use Rattle.std.proofs.Common.{arith}
 use Rattle.cip_presolve.specs.ColumnForms.{IsReplacedIn}
 use Rattle.cip_presolve.proofs.FormsSubstituted.{replaced_by}
 use Rattle.cip_search.proofs.Pairing.{exact_self}
@@ -14,3 +16,6 @@ returns-in_err-row-clause-step c = exact_self c.args.draft.now
 
 pub returns-in_default-clause-step : goal.returns-in_default-clause-step
 returns-in_default-clause-step c = exact_self c.args.draft.now
+
+pub returns-clause-rows : goal.returns-clause-rows
+returns-clause-rows c = grind (arith, common_steps)

@@ -1,4 +1,5 @@
-use Rattle.std.proofs.Common.{ap}
+use Rattle.std.proofs.lemmas.Grind.{common_steps}
+use Rattle.std.proofs.Common.{ap, arith}
 use Rattle.cip_problem.specs.Program.{Term}
 use Rattle.cip_presolve.proofs.StayingColumns.{term_in, term_but, all_kept}
 use Rattle.cip_presolve.proofs.staying.keep_terms.Goals as goal
@@ -15,3 +16,6 @@ loop-term-preserved-then-is_but c =
 
 pub returns-clause-terms : goal.returns-clause-terms
 returns-clause-terms c = all_kept c.args.forms.now.items c.loop-term.forms.items c.args.but c.args.terms.now c.loop-term.term-index c.loop-term.invariant c.loop-term-test.false
+
+pub keep_column-requires : goal.keep_column-requires
+keep_column-requires c = grind (arith, common_steps)

@@ -1,3 +1,5 @@
+use Rattle.std.proofs.lemmas.Grind.{common_steps}
+use Rattle.std.proofs.Common.{arith}
 use Rattle.cip_search.proofs.Pairing.{exact_after}
 use Rattle.cip_presolve.specs.Substitutions.{IsFound}
 use Rattle.cip_presolve.proofs.Substituted.{found_later}
@@ -28,3 +30,18 @@ take_sides-requires-clause-substitute c =
     let found : IsFound c.move_cost.new.draft c.args.found.now =
     found_later c.replace_all.new.draft c.move_cost.new.draft c.args.found.now c.replace_all.ensures.found c.move_cost.ensures.step c.move_cost.ensures.rows c.move_cost.ensures.bounds in
     found.substitute
+
+pub move_cost-requires-clause-there : goal.move_cost-requires-clause-there
+move_cost-requires-clause-there c = omega arith
+
+pub returns-in-NoPoint-clause-end : goal.returns-in-NoPoint-clause-end
+returns-in-NoPoint-clause-end c = grind (arith, common_steps)
+
+pub returns-in-NoPoint-clause-rows : goal.returns-in-NoPoint-clause-rows
+returns-in-NoPoint-clause-rows c = grind (arith, common_steps)
+
+pub returns-in_default-clause-end : goal.returns-in_default-clause-end
+returns-in_default-clause-end c = grind (arith, common_steps)
+
+pub returns-in_default-clause-rows : goal.returns-in_default-clause-rows
+returns-in_default-clause-rows c = grind (arith, common_steps)

@@ -1,3 +1,4 @@
+use Rattle.std.proofs.Common.{arith}
 use Rattle.cip_search.proofs.Pairing.{exact_self}
 use Rattle.cip_presolve.proofs.substituting.substitute_by.Goals as goal
 
@@ -6,3 +7,6 @@ returns-in-None-clause-step c = exact_self c.args.draft.now
 
 pub returns-then-is_used-clause-step : goal.returns-then-is_used-clause-step
 returns-then-is_used-clause-step c = exact_self c.args.draft.now
+
+pub returns-in-Some-clause-rows : goal.returns-in-Some-clause-rows
+returns-in-Some-clause-rows c = omega arith

@@ -1,4 +1,5 @@
-use Rattle.std.proofs.Common.{◌≡◌, true, false, List, Some, slice_get, length, ap, sym, ◌∙◌, subst, ◌<◌}
+use Rattle.std.proofs.lemmas.Grind.{common_steps}
+use Rattle.std.proofs.Common.{◌≡◌, true, false, List, Some, slice_get, length, ap, sym, ◌∙◌, subst, ◌<◌, arith}
 use Rattle.cip_problem.specs.Program.{Term, Sides}
 use Rattle.cip_problem.specs.Box.{sides_at}
 use Rattle.cip_problem.specs.Choices.{met, choice_at, is_open}
@@ -46,3 +47,12 @@ rests-requires-clause-stands c = subst (λ (box : List Sides). StandsBelow (leng
 pub rests-requires-clause-encloses : goal.rests-requires-clause-encloses
 rests-requires-clause-encloses c =
     subst (λ (box : List Sides). Encloses box c.row-row.result.now.terms c.args.extent) (sym c.bounds.ensures.bounds) (c.requires.encloses c.row-row.result.now c.row-row.ensures.row)
+
+pub implied_sides-requires : goal.implied_sides-requires
+implied_sides-requires c = grind (arith, common_steps)
+
+pub rests-requires-clause-inside : goal.rests-requires-clause-inside
+rests-requires-clause-inside c = grind (arith, common_steps)
+
+pub term_at-term-requires : goal.term_at-term-requires
+term_at-term-requires c = grind (arith, common_steps)

@@ -1,4 +1,5 @@
-use Rattle.std.proofs.Common.{◌∙◌, ◌<◌, List, length, sym, ap, subst}
+use Rattle.std.proofs.lemmas.Grind.{common_steps}
+use Rattle.std.proofs.Common.{◌∙◌, ◌<◌, List, length, sym, ap, subst, arith}
 use Rattle.cip_problem.specs.Program.{Sides, Program}
 use Rattle.cip_search.proofs.Pairing.{exact_self}
 use Rattle.cip_presolve.specs.Taken.{IsImplied}
@@ -42,3 +43,6 @@ returns-clause-step c =
 
 pub returns-clause-columns : goal.returns-clause-columns
 returns-clause-columns c = ap (λ (p : Program). length p.bounds) c.set_sides.ensures ∙ columns_same c.args.draft.now.bounds c.in-Some.found.column c.in-Some.found.sides
+
+pub returns-then-cross-clause-end : goal.returns-then-cross-clause-end
+returns-then-cross-clause-end c = grind (arith, common_steps)

@@ -1,4 +1,5 @@
-use Rattle.std.proofs.Common.{◌≡◌, refl, sym, ap, ◌∙◌, subst}
+use Rattle.std.proofs.lemmas.Grind.{common_steps}
+use Rattle.std.proofs.Common.{◌≡◌, refl, sym, ap, ◌∙◌, subst, arith}
 use Rattle.cip_rational.specs.Rational.{zeroℚ, ◌+ℚ◌}
 use Rattle.cip_problem.specs.Program.{Term}
 use Rattle.cip_presolve.specs.PutTerms.{HasMore}
@@ -24,3 +25,6 @@ returns c =
     let nc : c.waiting-2.inside.col ≡ c.args.waiting.now.column = ap (λ (t : Term). t.column) c.waiting-2.view_is ∙ c.none_on-2.ensures.column ∙ wc in
     let nq : c.waiting-2.inside.coef ≡ zeroℚ = ap (λ (t : Term). t.coefficient) c.waiting-2.view_is ∙ c.none_on-2.ensures.nothing in
     met_before c.args.row.now c.put.new.row c.args.waiting.now _ c.args.term more nc nq
+
+pub same-term-2 : goal.same-term-2
+same-term-2 c = grind (arith, common_steps)

@@ -1,4 +1,4 @@
-use Rattle.std.proofs.Common.{◌<◌, ◌≤◌, length, rules}
+use Rattle.std.proofs.Common.{◌<◌, ◌≤◌, length, rules, arith}
 use Rattle.cip_presolve.specs.PutTerms.{HasBoth}
 use Rattle.cip_presolve.proofs.TermsPut.{none_put, next_put, all_there, under_ok}
 use Rattle.cip_presolve.proofs.terms.put_all.Goals as goal
@@ -17,3 +17,6 @@ pub returns : goal.returns
 returns c =
     let past : length c.args.terms.now ≤ c.loop-term.term-index = search rules in
     under_ok _ (λ a. all_there c.args.row.now c.loop-term.row _ c.args.first c.args.second c.loop-term.one c.loop-term.other c.args.terms.now c.loop-term.term-index c.loop-term.invariant past a) c.put_two.ensures
+
+pub bounds-terms-term-index : goal.bounds-terms-term-index
+bounds-terms-term-index c = omega arith

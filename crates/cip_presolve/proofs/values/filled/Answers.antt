@@ -1,4 +1,5 @@
-use Rattle.std.proofs.Common.{◌<◌, length, rules, sym}
+use Rattle.std.proofs.lemmas.Grind.{common_steps}
+use Rattle.std.proofs.Common.{◌<◌, length, rules, sym, arith}
 use Rattle.cip_presolve.proofs.FilledPoints.{one_overflows, next_one, all_filled}
 use Rattle.cip_presolve.proofs.values.filled.Goals as goal
 
@@ -15,3 +16,6 @@ loop-column-preserved c =
 
 pub returns : goal.returns
 returns c = all_filled c.args.forms.now c.args.point.now c.loop-column.whole.items c.loop-column.column c.loop-column.invariant c.loop-column-test.false
+
+pub loop-column-init : goal.loop-column-init
+loop-column-init c = grind (arith, common_steps)

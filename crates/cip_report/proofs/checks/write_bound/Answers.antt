@@ -1,4 +1,5 @@
-use Rattle.std.proofs.Common.{◌<◌, length, sym, subst}
+use Rattle.std.proofs.lemmas.Grind.{common_steps}
+use Rattle.std.proofs.Common.{◌<◌, length, sym, subst, arith}
 use Rattle.std.proofs.lemmas.Option.{get_or_from_slice_get}
 use Rattle.cip_report.proofs.ToldSides.{outside_told, value_there}
 use Rattle.cip_report.proofs.WritingLemmas.{no_name}
@@ -16,3 +17,6 @@ returns-clause-taken g c =
     let value = value_there c.args.point.now c.args.col c.index-point-number.result within c.index-point-number.is in
     let name = get_or_from_slice_get c.column_names.result.now c.args.col c.name-name.result.now no_name c.name-name.ensures in
     rw (← value, ← c.told_sides-sides.ensures, ← c.column_names.ensures.names, name) c.write_broken.ensures.taken
+
+pub name-name-requires : goal.name-name-requires
+name-name-requires g c = grind (arith, common_steps)

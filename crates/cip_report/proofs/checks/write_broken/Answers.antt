@@ -1,4 +1,5 @@
-use Rattle.std.proofs.Common.{◌≡◌, ◌++◌, [], ◌∷◌, append_assoc, List, ℕ}
+use Rattle.std.proofs.lemmas.Grind.{common_steps}
+use Rattle.std.proofs.Common.{◌≡◌, ◌++◌, [], ◌∷◌, append_assoc, List, ℕ, arith}
 use Rattle.cip_rational.specs.Rational.{ℚ}
 use Rattle.cip_rational.specs.NumberText.{fraction_text}
 use Rattle.cip_search.specs.Figures.{line}
@@ -26,3 +27,9 @@ returns-clause-taken g c =
     rw (broken_parts c.args.word.now c.args.name.now c.args.value)
     (third_of_three c.write_side.result _ _ _ _ c.args.buffer.now _ _ _ _ _ _
     c.in_ok-write_name.ensures.taken c.in_ok-write_value.ensures.taken c.write_side.ensures.taken)
+
+pub returns-clause-faults : goal.returns-clause-faults
+returns-clause-faults g c = grind (arith, common_steps)
+
+pub write_side-requires : goal.write_side-requires
+write_side-requires g c = omega arith

@@ -1,4 +1,5 @@
-use Rattle.std.proofs.Common.{[], ◌∷◌}
+use Rattle.std.proofs.lemmas.Grind.{common_steps}
+use Rattle.std.proofs.Common.{[], ◌∷◌, arith}
 use Rattle.cip_report.proofs.WritingLemmas.{first_of_three, second_of_three, third_of_three}
 use Rattle.cip_report.proofs.checks.write_name.Goals as goal
 
@@ -15,3 +16,6 @@ pub returns-clause-taken : goal.returns-clause-taken
 returns-clause-taken g c =
     third_of_three c.write-3.result _ _ _ _ c.args.buffer.now c.args.word.now c.args.name.now (32 ∷ []) _ _ _
     c.in_ok-write.ensures.taken c.in_ok-write-2.ensures.taken c.write-3.ensures.taken
+
+pub returns-clause-faults : goal.returns-clause-faults
+returns-clause-faults g c = grind (arith, common_steps)

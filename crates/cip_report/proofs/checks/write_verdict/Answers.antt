@@ -1,4 +1,5 @@
-use Rattle.std.proofs.Common.{length, List}
+use Rattle.std.proofs.lemmas.Grind.{common_steps}
+use Rattle.std.proofs.Common.{length, List, arith}
 use Rattle.std.proofs.lemmas.Option.{slice_get_within}
 use Rattle.cip_rational.specs.Rational.{ℚ}
 use Rattle.cip_problem.specs.Program.{Program}
@@ -34,3 +35,18 @@ returns-in-BreaksRow-clause-taken g c = rw (c.in-BreaksRow.is) (c.write_row.ensu
 
 pub returns-in-Wide-clause-taken : goal.returns-in-Wide-clause-taken
 returns-in-Wide-clause-taken g c = rw (c.in-Wide.is) (c.write_wide.ensures.taken c.args.point.now)
+
+pub returns-in-BreaksBound-clause-taken : goal.returns-in-BreaksBound-clause-taken
+returns-in-BreaksBound-clause-taken g c = grind (arith, common_steps)
+
+pub returns-in-BreaksWhole-clause-taken : goal.returns-in-BreaksWhole-clause-taken
+returns-in-BreaksWhole-clause-taken g c = grind (arith, common_steps)
+
+pub returns-in-Feasible-clause-taken : goal.returns-in-Feasible-clause-taken
+returns-in-Feasible-clause-taken g c = grind (arith, common_steps)
+
+pub write_bound-requires-clause-outside : goal.write_bound-requires-clause-outside
+write_bound-requires-clause-outside g c = grind (arith, common_steps)
+
+pub write_row-requires-clause-outside : goal.write_row-requires-clause-outside
+write_row-requires-clause-outside g c = grind (arith, common_steps)

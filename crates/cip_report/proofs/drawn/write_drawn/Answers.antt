@@ -1,3 +1,5 @@
+use Rattle.std.proofs.lemmas.Grind.{common_steps}
+use Rattle.std.proofs.Common.{arith}
 use lib.Chars.{codes}
 use Rattle.cip_rational.specs.NumberText.{natural_text}
 use Rattle.cip_search.specs.Figures.{line}
@@ -15,3 +17,6 @@ pub returns-clause-taken : goal.returns-clause-taken
 returns-clause-taken g c =
     second_of_two c.write_count.result _ _ _ c.args.buffer.now (line (codes "self") (sizes_text (drawn_of c.args.drawn))) (line (codes "entries") (natural_text c.args.drawn.entries)) _ _
     c.in_ok-write_self_line.ensures.taken c.write_count.ensures.taken
+
+pub returns-clause-faults : goal.returns-clause-faults
+returns-clause-faults g c = grind (arith, common_steps)

@@ -1,3 +1,5 @@
+use Rattle.std.proofs.lemmas.Grind.{common_steps}
+use Rattle.std.proofs.Common.{arith}
 use Rattle.cip_search.specs.Figures.{end_line}
 use Rattle.cip_search.specs.SelfTexts.{drawn_lines, outcome_lines}
 use Rattle.cip_report.specs.Answers.{figures_of}
@@ -19,3 +21,6 @@ pub returns-clause-taken : goal.returns-clause-taken
 returns-clause-taken g c =
     third_of_three c.write.result _ _ _ _ c.args.buffer.now (drawn_lines (drawn_of c.args.drawn)) (outcome_lines (figures_of c.args.program.now c.args.answer.now)) end_line _ _ _
     c.in_ok-write_drawn.ensures.taken c.in_ok-write_outcome.ensures.taken c.write.ensures.taken
+
+pub returns-clause-faults : goal.returns-clause-faults
+returns-clause-faults g c = grind (arith, common_steps)

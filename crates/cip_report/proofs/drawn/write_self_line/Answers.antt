@@ -1,4 +1,5 @@
-use Rattle.std.proofs.Common.{[], ◌∷◌, ◌++◌}
+use Rattle.std.proofs.lemmas.Grind.{common_steps}
+use Rattle.std.proofs.Common.{[], ◌∷◌, ◌++◌, arith}
 use lib.Chars.{codes}
 use Rattle.cip_search.specs.SelfTexts.{sizes_text}
 use Rattle.cip_report.specs.Drawn.{drawn_of}
@@ -15,3 +16,6 @@ pub returns-clause-taken : goal.returns-clause-taken
 returns-clause-taken g c =
     rw (self_line_parts (sizes_text (drawn_of c.args.drawn)))
     (second_of_two c.write.result _ _ _ c.args.buffer.now (codes "self " ++ sizes_text (drawn_of c.args.drawn)) (10 ∷ []) _ _ c.in_ok-write_sizes.ensures.taken c.write.ensures.taken)
+
+pub returns-clause-faults : goal.returns-clause-faults
+returns-clause-faults g c = grind (arith, common_steps)

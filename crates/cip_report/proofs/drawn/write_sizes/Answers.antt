@@ -1,4 +1,5 @@
-use Rattle.std.proofs.Common.{◌∷◌, ◌++◌}
+use Rattle.std.proofs.lemmas.Grind.{common_steps}
+use Rattle.std.proofs.Common.{◌∷◌, ◌++◌, arith}
 use lib.Chars.{codes}
 use Rattle.cip_rational.specs.NumberText.{natural_text}
 use Rattle.cip_report.proofs.WritingLemmas.{first_of_three, second_of_three, third_of_three}
@@ -22,3 +23,9 @@ returns-clause-taken g c =
     rw (sizes_parts c.args.drawn.seed c.args.drawn.columns c.args.drawn.rows)
     (third_of_three c.write_digits-3.result _ _ _ _ c.args.buffer.now (codes "self " ++ natural_text c.args.drawn.seed) (32 ∷ natural_text c.args.drawn.columns) (32 ∷ natural_text c.args.drawn.rows) _ _ _
     c.in_ok-write_digits.ensures.taken c.in_ok-write_digits-2.ensures.taken c.write_digits-3.ensures.taken)
+
+pub overflow_cast-drawn-2 : goal.overflow_cast-drawn-2
+overflow_cast-drawn-2 g c = omega arith
+
+pub returns-clause-faults : goal.returns-clause-faults
+returns-clause-faults g c = grind (arith, common_steps)

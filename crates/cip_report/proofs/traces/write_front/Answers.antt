@@ -1,4 +1,5 @@
-use Rattle.std.proofs.Common.{◌∷◌, ◌++◌}
+use Rattle.std.proofs.lemmas.Grind.{common_steps}
+use Rattle.std.proofs.Common.{◌∷◌, ◌++◌, arith}
 use lib.Chars.{codes}
 use Rattle.cip_rational.specs.NumberText.{natural_text}
 use Rattle.cip_report.proofs.WritingLemmas.{first_of_three, second_of_three, third_of_three}
@@ -18,3 +19,6 @@ pub returns-clause-taken : goal.returns-clause-taken
 returns-clause-taken g c =
     third_of_three c.write_both.result _ _ _ _ c.args.buffer.now (codes "trace " ++ natural_text c.args.number) (32 ∷ natural_text c.args.id) (32 ∷ c.args.name.now) _ _ _
     c.in_ok-write_digits.ensures.taken c.in_ok-write_digits-2.ensures.taken c.write_both.ensures.taken
+
+pub returns-clause-faults : goal.returns-clause-faults
+returns-clause-faults g c = grind (arith, common_steps)

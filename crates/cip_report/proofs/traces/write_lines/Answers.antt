@@ -1,3 +1,4 @@
+use Rattle.std.proofs.lemmas.Grind.{common_steps}
 use Rattle.std.proofs.Common.{◌≡◌, ◌+◌, ◌++◌, ◌∙◌, suc, sym, ap, subst, take, map, append_assoc, arith, get_or}
 use Rattle.std.proofs.lemmas.List.{get_or_default}
 use Rattle.cip_events.specs.declared.words.Word.TheVariants.{Init}
@@ -33,3 +34,9 @@ loop-place-preserved g c =
           (Passes-more _ _ _ _ _ _ _ old.0 c.in_ok-write_traced.ensures.taken),
       c.in_ok-write_traced.ensures.faults.0 ∙ old.1,
     )
+
+pub loop-place-init : goal.loop-place-init
+loop-place-init g c = grind (arith, common_steps)
+
+pub returns-clause-taken : goal.returns-clause-taken
+returns-clause-taken g c = grind (arith, common_steps)

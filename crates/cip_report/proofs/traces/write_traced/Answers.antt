@@ -1,4 +1,5 @@
-use Rattle.std.proofs.Common.{[], ◌∷◌}
+use Rattle.std.proofs.lemmas.Grind.{common_steps}
+use Rattle.std.proofs.Common.{[], ◌∷◌, arith}
 use Rattle.cip_search.specs.TraceTexts.{traced_front}
 use Rattle.cip_report.specs.Traces.{traced_line}
 use Rattle.cip_report.proofs.WritingLemmas.{first_of_three, second_of_three, third_of_three}
@@ -21,3 +22,6 @@ returns-clause-taken g c =
     let told = traced_line c.args.names.now c.args.traced in
     third_of_three c.write.result _ _ _ _ c.args.buffer.now (traced_front c.args.number told.id told.name) (32 ∷ told.word) (10 ∷ []) _ _ _
     (rw c.name_in.ensures at c.in_ok-write_front.ensures.taken) c.in_ok-write_word.ensures.taken c.write.ensures.taken
+
+pub returns-clause-faults : goal.returns-clause-faults
+returns-clause-faults g c = grind (arith, common_steps)

@@ -1,4 +1,5 @@
-use Rattle.std.proofs.Common.{◌≡◌, ◌∙◌, ◌∷◌}
+use Rattle.std.proofs.lemmas.Grind.{common_steps}
+use Rattle.std.proofs.Common.{◌≡◌, ◌∙◌, ◌∷◌, arith}
 use Rattle.cip_events.specs.Words.{text_of_word}
 use Rattle.cip_report.specs.Traces.{behind_word}
 use Rattle.cip_report.proofs.WritingLemmas.{first_of_two, second_of_two}
@@ -15,3 +16,6 @@ returns-clause-taken g c =
     let word : c.as_bytes.result.now ≡ text_of_word c.args.word = c.as_bytes.ensures.value ∙ c.text.ensures in
     second_of_two c.write_behind.result _ _ _ c.args.buffer.now (32 ∷ text_of_word c.args.word) (behind_word c.args.word) _ _
     (rw word at c.in_ok-write_both.ensures.taken) c.write_behind.ensures.taken
+
+pub returns-clause-faults : goal.returns-clause-faults
+returns-clause-faults g c = grind (arith, common_steps)

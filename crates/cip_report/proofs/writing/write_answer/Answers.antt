@@ -1,4 +1,5 @@
-use Rattle.std.proofs.Common.{◌≡◌, ◌∙◌}
+use Rattle.std.proofs.lemmas.Grind.{common_steps}
+use Rattle.std.proofs.Common.{◌≡◌, ◌∙◌, arith}
 use Rattle.cip_search.specs.Figures.{status_word}
 use Rattle.cip_report.specs.Answers.{status_of}
 use Rattle.cip_report.proofs.WritingLemmas.{first_of_three, second_of_three, third_of_three}
@@ -20,3 +21,9 @@ returns-clause-taken g c =
     let word : c.as_bytes.result.now ≡ status_word (status_of c.args.program.now.row_names c.args.answer.now.ended) = c.as_bytes.ensures.value ∙ c.word.ensures c.args.program.now.row_names in
     third_of_three c.write_end.result _ _ _ _ c.args.buffer.now _ _ _ _ _ _
     (rw word at c.in_ok-write_line.ensures.taken) c.in_ok-write_body.ensures.taken c.write_end.ensures.taken
+
+pub returns-clause-faults : goal.returns-clause-faults
+returns-clause-faults g c = grind (arith, common_steps)
+
+pub write_body-requires : goal.write_body-requires
+write_body-requires g c = grind (arith, common_steps)

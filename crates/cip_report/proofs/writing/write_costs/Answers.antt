@@ -1,3 +1,5 @@
+use Rattle.std.proofs.lemmas.Grind.{common_steps}
+use Rattle.std.proofs.Common.{arith}
 use Rattle.cip_report.proofs.WritingLemmas.{first_of_two, second_of_two}
 use Rattle.cip_report.proofs.writing.write_costs.Goals as goal
 
@@ -10,3 +12,6 @@ pub returns-clause-taken : goal.returns-clause-taken
 returns-clause-taken g c =
     second_of_two c.write_figure-2.result _ _ _ c.args.buffer.now _ _ _ _
     (rw c.printed_cost-cost.ensures at c.in_ok-write_figure.ensures.taken) (rw c.printed_bound-bound.ensures at c.write_figure-2.ensures.taken)
+
+pub returns-clause-faults : goal.returns-clause-faults
+returns-clause-faults g c = grind (arith, common_steps)

@@ -1,3 +1,5 @@
+use Rattle.std.proofs.lemmas.Grind.{common_steps}
+use Rattle.std.proofs.Common.{arith}
 use Rattle.cip_report.proofs.WritingLemmas.{first_of_three, second_of_three, third_of_three}
 use Rattle.cip_report.proofs.writing.write_figures.Goals as goal
 
@@ -14,3 +16,9 @@ pub returns-clause-taken : goal.returns-clause-taken
 returns-clause-taken g c =
     third_of_three c.write_shown.result _ _ _ _ c.args.buffer.now _ _ _ _ _ _
     c.in_ok-write_costs.ensures.taken c.in_ok-write_held.ensures.taken c.write_shown.ensures.taken
+
+pub returns-clause-faults : goal.returns-clause-faults
+returns-clause-faults g c = grind (arith, common_steps)
+
+pub write_shown-requires : goal.write_shown-requires
+write_shown-requires g c = grind (arith, common_steps)

@@ -1,3 +1,4 @@
+use Rattle.std.proofs.lemmas.Grind.{common_steps}
 use Rattle.std.proofs.Common.{◌<◌, ◌≤◌, ◌++◌, ◌∙◌, subst, false, map, get_or, take, length, append_assoc, add-one, rules, arith}
 use Rattle.std.proofs.lemmas.List.{get_or_default}
 use Rattle.cip_problem.specs.Choices.{is_open}
@@ -63,3 +64,6 @@ returns-clause-taken g c =
     let past : length c.args.choices.now ≤ c.loop-column.column = omega (arith, c.loop-column-test.false) in
     let end = all_lines c.args.choices.now c.args.names.now c.args.on.now c.loop-column.column c.loop-column.place past c.requires.fits c.loop-column.invariant.placed in
     subst (λ text. Passes (g.K.Sink.tells c.args.out.now) (g.K.Sink.tells c.loop-column.out) (c.args.buffer.now ++ text) c.loop-column.buffer) end c.loop-column.invariant.passes
+
+pub loop-column-init : goal.loop-column-init
+loop-column-init g c = grind (arith, common_steps)

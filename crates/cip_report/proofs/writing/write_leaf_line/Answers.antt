@@ -1,3 +1,5 @@
+use Rattle.std.proofs.lemmas.Grind.{common_steps}
+use Rattle.std.proofs.Common.{arith}
 use lib.Chars.{codes}
 use Rattle.cip_rational.specs.NumberText.{fraction_text}
 use Rattle.cip_search.specs.Figures.{line}
@@ -13,3 +15,6 @@ pub returns-clause-taken : goal.returns-clause-taken
 returns-clause-taken g c =
     second_of_two c.write_number.result _ _ _ c.args.buffer.now (codes "leaf ") (line c.args.name.now (fraction_text c.args.value)) _ _
     c.in_ok-write.ensures.taken c.write_number.ensures.taken
+
+pub returns-clause-faults : goal.returns-clause-faults
+returns-clause-faults g c = grind (arith, common_steps)

@@ -1,4 +1,5 @@
-use Rattle.std.proofs.Common.{◌<◌, ◌∙◌, take, length, append_assoc, add-one, rules}
+use Rattle.std.proofs.lemmas.Grind.{common_steps}
+use Rattle.std.proofs.Common.{◌<◌, ◌∙◌, take, length, append_assoc, add-one, rules, arith}
 use Rattle.cip_rational.specs.NumberText.{fraction_text}
 use Rattle.cip_search.specs.Leaf.{at_wholes}
 use Rattle.cip_search.specs.Figures.{line, leaf_name}
@@ -49,3 +50,12 @@ loop-column-preserved g c = elim c.if-whole-column.branch [
         placed = rw (w.place-is, add-one, less) old.placed;
       }
 ]
+
+pub loop-column-init : goal.loop-column-init
+loop-column-init g c = grind (arith, common_steps)
+
+pub name-requires : goal.name-requires
+name-requires g c = omega arith
+
+pub returns-clause-taken : goal.returns-clause-taken
+returns-clause-taken g c = grind (arith, common_steps)

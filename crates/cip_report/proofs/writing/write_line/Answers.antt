@@ -1,4 +1,5 @@
-use Rattle.std.proofs.Common.{◌++◌, ◌∷◌, [], append_assoc}
+use Rattle.std.proofs.lemmas.Grind.{common_steps}
+use Rattle.std.proofs.Common.{◌++◌, ◌∷◌, [], append_assoc, arith}
 use Rattle.cip_report.proofs.WritingLemmas.{Writes-more, Writes-more_err, Passes-more, line_parts}
 use Rattle.cip_report.proofs.writing.write_line.Goals as goal
 
@@ -21,3 +22,6 @@ returns-clause-taken g c =
     let three = Passes-more _ _ _ _ _ c.args.figure.now _ two c.in_ok-write-3.ensures.taken in
     rw (line_parts c.args.buffer.now c.args.word.now c.args.figure.now)
     (Writes-more c.write-4.result _ _ _ _ _ (10 ∷ []) c.write-4.new.self three c.write-4.ensures.taken)
+
+pub returns-clause-faults : goal.returns-clause-faults
+returns-clause-faults g c = grind (arith, common_steps)

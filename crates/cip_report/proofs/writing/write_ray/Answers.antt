@@ -1,4 +1,5 @@
-use Rattle.std.proofs.Common.{◌∙◌, take, append_assoc, add-one}
+use Rattle.std.proofs.lemmas.Grind.{common_steps}
+use Rattle.std.proofs.Common.{◌∙◌, take, append_assoc, add-one, arith}
 use Rattle.cip_rational.specs.NumberText.{fraction_text}
 use Rattle.cip_search.specs.Figures.{line, ray_name, ray_lines}
 use Rattle.cip_report.proofs.WritingLemmas.{ray_parts, ray_lines-more, second_of_three, Passes-more}
@@ -18,3 +19,9 @@ loop-number-preserved g c =
       rw (add-one, more, ← texts) (Passes-more _ _ _ _ _ _ _ old.0 c.in_ok-write_ray_line.ensures.taken),
       c.in_ok-write_ray_line.ensures.faults.0 ∙ old.1,
     )
+
+pub loop-number-init : goal.loop-number-init
+loop-number-init g c = grind (arith, common_steps)
+
+pub returns-clause-taken : goal.returns-clause-taken
+returns-clause-taken g c = grind (arith, common_steps)

@@ -1,4 +1,5 @@
-use Rattle.std.proofs.Common.{◌++◌, subst}
+use Rattle.std.proofs.lemmas.Grind.{common_steps}
+use Rattle.std.proofs.Common.{◌++◌, subst, arith}
 use lib.Chars.{codes}
 use Rattle.cip_search.specs.Figures.{line, overflow_text}
 use Rattle.cip_report.specs.Answers.{overflow_of}
@@ -18,3 +19,24 @@ returns-in_ok-write_leaf-in-Wide-clause-taken g c =
     (second_of_two c.write_overflow.result _ _ _ c.args.buffer.now _ _ _ _
     (rw (c.as_slice.ensures.value, c.as_slice-in-Wide.ensures.value) at c.in_ok-write_leaf-in-Wide.ensures.taken)
     (subst (λ rows. Writes c.write_overflow.result (g.K.Sink.tells c.write_leaf.new.out) (g.K.Sink.tells c.write_overflow.new.out) (c.write_leaf.new.buffer ++ line (codes "overflow") (overflow_text (overflow_of rows c.in-Wide.shown))) c.write_overflow.new.buffer) c.row_names.ensures.names c.write_overflow.ensures.taken))
+
+pub returns-in-Unbounded-clause-taken : goal.returns-in-Unbounded-clause-taken
+returns-in-Unbounded-clause-taken g c = grind (arith, common_steps)
+
+pub returns-in_default : goal.returns-in_default
+returns-in_default g c = grind (arith, common_steps)
+
+pub returns-in_ok-write_leaf-in-Wide-clause-faults : goal.returns-in_ok-write_leaf-in-Wide-clause-faults
+returns-in_ok-write_leaf-in-Wide-clause-faults g c = grind (arith, common_steps)
+
+pub write_leaf-requires-clause-choices : goal.write_leaf-requires-clause-choices
+write_leaf-requires-clause-choices g c = grind (arith, common_steps)
+
+pub write_leaf-requires-clause-values : goal.write_leaf-requires-clause-values
+write_leaf-requires-clause-values g c = grind (arith, common_steps)
+
+pub write_overflow-requires : goal.write_overflow-requires
+write_overflow-requires g c = grind (arith, common_steps)
+
+pub write_ray-requires : goal.write_ray-requires
+write_ray-requires g c = grind (arith, common_steps)

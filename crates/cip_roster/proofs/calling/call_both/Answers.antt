@@ -1,3 +1,5 @@
+use Rattle.std.proofs.lemmas.Grind.{common_steps}
+use Rattle.std.proofs.Common.{arith}
 use Rattle.cip_roster.proofs.Delivery.{ran_same}
 use Rattle.cip_roster.proofs.OneEvent.{where_failed}
 use Rattle.cip_roster.proofs.calling.call_both.Goals as goal
@@ -44,3 +46,6 @@ returns-in-Err-clause-sound g c = c.call_kind.ensures.sound
 
 pub returns-in-Err-clause-called : goal.returns-in-Err-clause-called
 returns-in-Err-clause-called g c = tt
+
+pub returns-in-Err-clause-err : goal.returns-in-Err-clause-err
+returns-in-Err-clause-err g c = grind (arith, common_steps)

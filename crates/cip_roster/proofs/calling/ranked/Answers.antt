@@ -1,4 +1,5 @@
-use Rattle.std.proofs.Common.{sym, ◌∙◌}
+use Rattle.std.proofs.lemmas.Grind.{common_steps}
+use Rattle.std.proofs.Common.{sym, ◌∙◌, arith}
 use Rattle.cip_roster.proofs.StillRanked.{ranked_of, ranking_made, sound_without}
 use Rattle.cip_roster.proofs.calling.ranked.Goals as goal
 
@@ -23,3 +24,6 @@ pub returns-in-None-clause-ranking : goal.returns-in-None-clause-ranking
 returns-in-None-clause-ranking g c =
     ranking_made c.args.kind (g.R.Seated.state c.args.roster.now) (g.R.Seated.state c.take_ranking.new.self)
     c.ranking.result c.take_ranking.ensures.state c.ranking.ensures.permutation c.ranking.ensures.sorted
+
+pub ranking-requires : goal.ranking-requires
+ranking-requires g c = grind (arith, common_steps)

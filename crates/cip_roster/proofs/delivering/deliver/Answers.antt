@@ -1,3 +1,4 @@
+use Rattle.std.proofs.lemmas.Grind.{common_steps}
 use Rattle.std.proofs.Common.{[], ◌∷◌, ◌++◌, subst, arith}
 use Rattle.cip_roster.proofs.Delivery.{ran_more, told_less}
 use Rattle.cip_roster.proofs.OneEvent.{where_failed}
@@ -33,3 +34,9 @@ returns-in_default-tell-clause-err g c =
     ran_more (g.R.Seated.state c.args.roster.now) (g.R.Seated.state c.loop-event.roster)
     (g.R.Seated.state c.tell.new.roster) c.loop-event.invariant.told.1.steps c.loop-event.invariant.told.1.run
     (where_failed _ c.tell.result c.in_default-tell.not-Ok c.tell.ensures.err)
+
+pub loop-event-init : goal.loop-event-init
+loop-event-init g c = grind (arith, common_steps)
+
+pub returns-clause-told : goal.returns-clause-told
+returns-clause-told g c = grind (arith, common_steps)

@@ -1,3 +1,5 @@
+use Rattle.std.proofs.lemmas.Grind.{common_steps}
+use Rattle.std.proofs.Common.{arith}
 use Rattle.cip_events.specs.declared.words.Word.TheVariants as say
 use Rattle.cip_roster.proofs.Granting.{noted_fault, took_granted, took_note}
 use Rattle.cip_roster.proofs.delivering.grant_one.Goals as goal
@@ -16,3 +18,18 @@ returns-in_default-clause-took g c =
     (g.R.Seated.state c.refused.new.roster) c.refused.result c.in_default.not-NoMemory c.name.ensures
     c.refused.ensures.noted)
     c.in-Err.ensures.queue
+
+pub refused-requires : goal.refused-requires
+refused-requires g c = grind (arith, common_steps)
+
+pub returns-in-NoMemory-clause-err : goal.returns-in-NoMemory-clause-err
+returns-in-NoMemory-clause-err g c = grind (arith, common_steps)
+
+pub returns-in-NoMemory-clause-sound : goal.returns-in-NoMemory-clause-sound
+returns-in-NoMemory-clause-sound g c = grind (arith, common_steps)
+
+pub returns-in_default-clause-err : goal.returns-in_default-clause-err
+returns-in_default-clause-err g c = grind (arith, common_steps)
+
+pub returns-in_default-clause-sound : goal.returns-in_default-clause-sound
+returns-in_default-clause-sound g c = grind (arith, common_steps)

@@ -1,4 +1,5 @@
-use Rattle.std.proofs.Common.{List, subst, sym}
+use Rattle.std.proofs.lemmas.Grind.{common_steps}
+use Rattle.std.proofs.Common.{List, subst, sym, arith}
 use Rattle.std.specs.Prelude.{OnErr, OnOk}
 use Rattle.cip_plugin.specs.declared.kinds.Kind.TheVariants as kinds
 use Rattle.cip_plugin.specs.declared.keys.Key.{Key}
@@ -29,3 +30,6 @@ pub returns-clause-err : goal.returns-clause-err
 returns-clause-err g c =
     subst (λ (s : State). OnErr c.tell_each.result (Ran s (g.R.Seated.state c.tell_each.new.roster)))
     c.order_of.ensures.state c.tell_each.ensures.err
+
+pub returns-clause-sound : goal.returns-clause-sound
+returns-clause-sound g c = grind (arith, common_steps)

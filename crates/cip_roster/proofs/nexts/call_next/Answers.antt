@@ -1,3 +1,4 @@
+use Rattle.std.proofs.lemmas.Grind.{common_steps}
 use Rattle.std.proofs.Common.{◌∙◌, arith}
 use Rattle.cip_plugin.specs.Asking.{ask_of}
 use Rattle.cip_roster.proofs.Ranking.{next_can}
@@ -23,3 +24,24 @@ turn-requires-clause-room g c = omega (arith, c.in-Ok-reserve_turns.ensures.room
 
 pub returns-clause-err : goal.returns-clause-err
 returns-clause-err g c = tt
+
+pub returns-clause-called : goal.returns-clause-called
+returns-clause-called g c = grind (arith, common_steps)
+
+pub returns-in_default-clause-err : goal.returns-in_default-clause-err
+returns-in_default-clause-err g c = grind (arith, common_steps)
+
+pub returns-in_default-clause-sound : goal.returns-in_default-clause-sound
+returns-in_default-clause-sound g c = grind (arith, common_steps)
+
+pub returns-in_default-found-clause-called : goal.returns-in_default-found-clause-called
+returns-in_default-found-clause-called g c = grind (arith, common_steps)
+
+pub returns-in_default-found-clause-sound : goal.returns-in_default-found-clause-sound
+returns-in_default-found-clause-sound g c = grind (arith, common_steps)
+
+pub returns-in_default-reserve_turns-clause-err : goal.returns-in_default-reserve_turns-clause-err
+returns-in_default-reserve_turns-clause-err g c = grind (arith, common_steps)
+
+pub returns-in_default-reserve_turns-clause-sound : goal.returns-in_default-reserve_turns-clause-sound
+returns-in_default-reserve_turns-clause-sound g c = grind (arith, common_steps)

@@ -1,3 +1,4 @@
+use Rattle.std.proofs.lemmas.Grind.{common_steps}
 use Rattle.std.proofs.Common.{arith, ap, refl, ◌∙◌}
 use Rattle.cip_plugin.specs.Seats.{held_count}
 use Rattle.cip_roster.specs.KeptRankings.{Room}
@@ -47,3 +48,9 @@ returns-clause-sound g c =
 pub returns-clause-seats : goal.returns-clause-seats
 returns-clause-seats g c =
     seated_count g.P.Tells.who c.args.plugins.now.items _ _ c.seat_all.ensures.seats c.begin_all.ensures.seats
+
+pub returns-clause-none : goal.returns-clause-none
+returns-clause-none g c = grind (arith, common_steps)
+
+pub returns-clause-places : goal.returns-clause-places
+returns-clause-places g c = grind (arith, common_steps)

@@ -1,3 +1,4 @@
+use Rattle.std.proofs.lemmas.Grind.{common_steps}
 use Rattle.std.proofs.Common.{ℕ, add-one, arith, subst, sym, ◌∙◌}
 use Rattle.cip_roster.proofs.Beginning.{BegunSoFar, begun_all, begun_more}
 use Rattle.cip_roster.proofs.starting.begin_all.Goals as goal
@@ -17,3 +18,9 @@ pub returns-clause-playing : goal.returns-clause-playing
 returns-clause-playing g c =
     begun_all c.loop-id.id (g.R.Seated.state c.args.roster.now) (g.R.Seated.state c.loop-id.roster)
     (omega (arith, c.loop-id-test.false, c.count-id-end.ensures)) c.loop-id.invariant.so_far
+
+pub loop-id-init : goal.loop-id-init
+loop-id-init g c = grind (arith, common_steps)
+
+pub returns-clause-run : goal.returns-clause-run
+returns-clause-run g c = grind (arith, common_steps)

@@ -1,4 +1,4 @@
-use Rattle.std.proofs.Common.{None, Some, append-nil, refl, sym}
+use Rattle.std.proofs.Common.{None, Some, append-nil, refl, sym, arith}
 use Rattle.cip_roster.proofs.turns.turn_into.Goals as goal
 
 pub turn-requires-clause-ready : goal.turn-requires-clause-ready
@@ -33,3 +33,6 @@ returns-in-None-clause-capacity g c = refl
 
 pub returns-in-Some-clause-capacity : goal.returns-in-Some-clause-capacity
 returns-in-Some-clause-capacity g c = c.push_reserved.ensures.capacity
+
+pub returns-in-Some-clause-length : goal.returns-in-Some-clause-length
+returns-in-Some-clause-length g c = omega arith

@@ -1,6 +1,7 @@
+use Rattle.std.proofs.lemmas.Grind.{common_steps}
 use Rattle.cip_roster.proofs.Sounding.{sound_ended}
 use Rattle.cip_roster.proofs.Wishes.{fine_live, freed_once, live_plays, live_room}
-use Rattle.std.proofs.Common.{inl, refl}
+use Rattle.std.proofs.Common.{inl, refl, arith}
 use Rattle.cip_roster.proofs.wishing.free.Goals as goal
 
 pub end-requires-clause-room : goal.end-requires-clause-room
@@ -34,3 +35,12 @@ returns-in_default-clause-sound g c = c.requires.sound
 
 pub returns-in_err-live-clause-sound : goal.returns-in_err-live-clause-sound
 returns-in_err-live-clause-sound g c = c.requires.sound
+
+pub returns-clause-queue : goal.returns-clause-queue
+returns-clause-queue g c = grind (arith, common_steps)
+
+pub returns-in_default-clause-queue : goal.returns-in_default-clause-queue
+returns-in_default-clause-queue g c = grind (arith, common_steps)
+
+pub returns-in_err-live-clause-queue : goal.returns-in_err-live-clause-queue
+returns-in_err-live-clause-queue g c = grind (arith, common_steps)

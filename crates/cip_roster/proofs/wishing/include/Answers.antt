@@ -1,4 +1,5 @@
-use Rattle.std.proofs.Common.{◌+◌, ◌*◌, ◌≤◌, ◌∙◌, ap, subst, sym, append-nil, inl, refl}
+use Rattle.std.proofs.lemmas.Grind.{common_steps}
+use Rattle.std.proofs.Common.{◌+◌, ◌*◌, ◌≤◌, ◌∙◌, ap, subst, sym, append-nil, inl, refl, arith}
 use Rattle.std.specs.Prelude.{slice_get}
 use Rattle.cip_plugin.specs.declared.proposals.Wish.TheVariants.{Include}
 use Rattle.cip_plugin.specs.Seats.{State, live_count}
@@ -58,3 +59,12 @@ returns-in_default-clause-queue g c = sym (append-nil c.args.queue.now)
 
 pub returns-in_default-push-clause-came : goal.returns-in_default-push-clause-came
 returns-in_default-push-clause-came g c = record { cause = inl refl; same = c.reserve_seat.ensures.state }
+
+pub returns-clause-queue : goal.returns-clause-queue
+returns-clause-queue g c = grind (arith, common_steps)
+
+pub returns-in_default-push-clause-queue : goal.returns-in_default-push-clause-queue
+returns-in_default-push-clause-queue g c = grind (arith, common_steps)
+
+pub returns-in_err-holds-clause-queue : goal.returns-in_err-holds-clause-queue
+returns-in_err-holds-clause-queue g c = grind (arith, common_steps)

@@ -1,3 +1,4 @@
+use Rattle.std.proofs.lemmas.Grind.{common_steps}
 use Rattle.std.proofs.Common.{true, ◌∙◌, [], ◌∷◌, ap, cond, inl, inr, refl, arith, subst, sym}
 use Rattle.std.specs.Prelude.{slice_get}
 use Rattle.cip_plugin.specs.declared.proposals.Wish.TheVariants.{Disable, Enable}
@@ -75,3 +76,6 @@ returns-clause-came g c = record {
   fine = fault_switched (g.R.Seated.state c.args.roster.now) c.args.id c.args.on
       ∙ fine_live (g.R.Seated.state c.args.roster.now) c.args.id c.in-Ok.ensures;
 }
+
+pub returns-in_default-clause-sound : goal.returns-in_default-clause-sound
+returns-in_default-clause-sound g c = grind (arith, common_steps)

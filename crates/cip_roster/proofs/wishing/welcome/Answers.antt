@@ -1,3 +1,4 @@
+use Rattle.std.proofs.lemmas.Grind.{common_steps}
 use Rattle.std.proofs.Common.{ℕ, arith, subst, ◌∙◌}
 use Rattle.cip_plugin.specs.declared.stages.Stage.TheVariants as stages
 use Rattle.cip_plugin.specs.Steps.{Runs}
@@ -28,3 +29,6 @@ returns-clause-granted g c =
     (g.R.Seated.state c.begin.new.roster) c.args.place answered.0 answered.1 c.come.ensures.run
     (subst (λ (n : ℕ). Runs (g.R.Seated.state c.come.new.self) (begins n answered.0 answered.1)
     (g.R.Seated.state c.begin.new.roster)) c.count-id.ensures c.begin.ensures.run.1)
+
+pub begin-requires-clause-at : goal.begin-requires-clause-at
+begin-requires-clause-at g c = grind (arith, common_steps)

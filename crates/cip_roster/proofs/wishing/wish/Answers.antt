@@ -1,3 +1,5 @@
+use Rattle.std.proofs.lemmas.Grind.{common_steps}
+use Rattle.std.proofs.Common.{arith}
 use Rattle.cip_roster.proofs.wishing.wish.Goals as goal
 
 pub returns-in-Include-clause-sound : goal.returns-in-Include-clause-sound
@@ -32,3 +34,15 @@ returns-in-Include-clause-queue g c = rw c.in-Include.is c.include.ensures.queue
 
 pub returns-in-Free-clause-queue : goal.returns-in-Free-clause-queue
 returns-in-Free-clause-queue g c = rw c.in-Free.is c.free.ensures.queue
+
+pub returns-in-Disable-clause-queue : goal.returns-in-Disable-clause-queue
+returns-in-Disable-clause-queue g c = grind (arith, common_steps)
+
+pub returns-in-Enable-clause-queue : goal.returns-in-Enable-clause-queue
+returns-in-Enable-clause-queue g c = grind (arith, common_steps)
+
+pub returns-in-Priority-clause-came : goal.returns-in-Priority-clause-came
+returns-in-Priority-clause-came g c = grind (arith, common_steps)
+
+pub returns-in-Priority-clause-queue : goal.returns-in-Priority-clause-queue
+returns-in-Priority-clause-queue g c = grind (arith, common_steps)

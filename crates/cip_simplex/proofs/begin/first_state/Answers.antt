@@ -1,4 +1,5 @@
-use Rattle.std.proofs.Common.{◌≡◌, ◌<◌, ℕ, length, map, None, MatchResult, ap, ◌∙◌, subst}
+use Rattle.std.proofs.lemmas.Grind.{common_steps}
+use Rattle.std.proofs.Common.{◌≡◌, ◌<◌, ℕ, length, map, None, MatchResult, ap, ◌∙◌, subst, arith}
 use Rattle.std.proofs.lemmas.List.{length-map}
 use Rattle.cip_problem.specs.RowTerms.{AreTerms}
 use Rattle.cip_problem.specs.Multipliers.{row_sides}
@@ -28,3 +29,9 @@ returns c =
     let k : c.costs.result.now ≡ lp.costs = c.costs.ensures in
     let same : system_in c.as_slice.result.now c.as_slice-2.result.now c.sides.result.now c.costs.result.now ≡ system_of lp = rw (e, s, b, k) (same_system lp valid) in
     subst (λ (p : System). MatchResult c.first.result (λ dict. (first_overflow (first_operations p) ≡ None) × (dict ≡ first p)) (IsFirstFault p)) same c.first.ensures
+
+pub first-requires-clause-costs_long : goal.first-requires-clause-costs_long
+first-requires-clause-costs_long c = grind (arith, common_steps)
+
+pub first-requires-clause-few : goal.first-requires-clause-few
+first-requires-clause-few c = grind (arith, common_steps)

@@ -22,3 +22,9 @@ loop-at-preserved c = sign_more c.args.dict.now (entry c.args.dict.now c.args.i)
 
 pub returns : goal.returns
 returns c = picked c.args.dict.now (drives c.args.dict.now (entry c.args.dict.now c.args.i) c.args.heading) (size c.args.dict.now) c.loop-at.best c.variable_of.result refl (driving_ended c.args.dict.now (entry c.args.dict.now c.args.i) c.args.heading c.loop-at.at c.loop-at.best (omega arith) c.loop-at.invariant) c.variable_of.ensures
+
+pub entering_candidate-requires-clause-leaving : goal.entering_candidate-requires-clause-leaving
+entering_candidate-requires-clause-leaving c = omega arith
+
+pub entering_candidate-requires-clause-there : goal.entering_candidate-requires-clause-there
+entering_candidate-requires-clause-there c = omega arith

@@ -20,3 +20,6 @@ loop-at-preserved c = sign_more c.args.dict.now (cost_entry c.args.dict.now) Dow
 
 pub returns : goal.returns
 returns c = picked c.args.dict.now (drives c.args.dict.now (cost_entry c.args.dict.now) Down) (size c.args.dict.now) c.loop-at.best c.variable_of.result refl (driving_ended c.args.dict.now (cost_entry c.args.dict.now) Down c.loop-at.at c.loop-at.best (omega arith) c.loop-at.invariant) c.variable_of.ensures
+
+pub lowering_candidate-requires : goal.lowering_candidate-requires
+lowering_candidate-requires c = omega arith

@@ -11,3 +11,6 @@ loop-v-preserved c = found_more (is_outside c.args.dict.now) c.loop-v.v c.loop-v
 
 pub returns : goal.returns
 returns c = picked c.args.dict.now (is_outside c.args.dict.now) c.loop-v.v c.loop-v.worst c.variable_of.result (omega arith) c.loop-v.invariant c.variable_of.ensures
+
+pub leaving_candidate-requires : goal.leaving_candidate-requires
+leaving_candidate-requires c = omega arith

@@ -1,4 +1,5 @@
-use Rattle.std.proofs.Common.{◌∙◌, ◌++◌, ◌∷◌, [], sym, ap₂}
+use Rattle.std.proofs.lemmas.Grind.{common_steps}
+use Rattle.std.proofs.Common.{◌∙◌, ◌++◌, ◌∷◌, [], sym, ap₂, arith}
 use Rattle.cip_bland.specs.Dictionary.{size, cost_entry}
 use Rattle.cip_dict.specs.SparseLines.{kept_of}
 use Rattle.cip_dict.proofs.Grown.{table_none, table_more}
@@ -16,3 +17,6 @@ loop-v-preserved c = record {
   so_far = c.in_ok-push.ensures.items ∙ ap₂ (λ xs x. xs ++ x ∷ []) c.loop-v.invariant.so_far c.cost_on-entry.ensures.entry ∙ sym (table_more c.loop-v.v _);
   place = c.cost_on-entry.ensures.place;
 }
+
+pub returns : goal.returns
+returns c = grind (arith, common_steps)

@@ -1,3 +1,5 @@
+use Rattle.std.proofs.lemmas.Grind.{common_steps}
+use Rattle.std.proofs.Common.{arith}
 use Rattle.cip_bland.proofs.MovesMade.{outside_basic}
 use Rattle.cip_simplex.proofs.ends.end_answer.Goals as goal
 
@@ -15,3 +17,15 @@ pub ray_answer-requires-clause-entering : goal.ray_answer-requires-clause-enteri
 ray_answer-requires-clause-entering c =
     let h = rw c.in-Ray.is at c.requires.is_end in
     h.improving.within
+
+pub returns-in-Optimum : goal.returns-in-Optimum
+returns-in-Optimum c = grind (arith, common_steps)
+
+pub returns-in-Ray : goal.returns-in-Ray
+returns-in-Ray c = grind (arith, common_steps)
+
+pub returns-in_ok-combo-in-Crossed : goal.returns-in_ok-combo-in-Crossed
+returns-in_ok-combo-in-Crossed c = grind (arith, common_steps)
+
+pub returns-in_ok-combo-in-Infeasible : goal.returns-in_ok-combo-in-Infeasible
+returns-in_ok-combo-in-Infeasible c = grind (arith, common_steps)

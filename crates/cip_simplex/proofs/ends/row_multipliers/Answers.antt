@@ -1,4 +1,4 @@
-use Rattle.std.proofs.Common.{◌∙◌, ◌++◌, ◌∷◌, [], sym, ap₂}
+use Rattle.std.proofs.Common.{◌∙◌, ◌++◌, ◌∷◌, [], sym, ap₂, arith}
 use Rattle.cip_bland.specs.Dictionary.{size, entry}
 use Rattle.cip_dict.specs.SparseLines.{kept_of}
 use Rattle.cip_dict.proofs.Grown.{table_none, table_more}
@@ -16,3 +16,9 @@ loop-v-preserved c = record {
   so_far = c.in_ok-push.ensures.items ∙ ap₂ (λ xs x. xs ++ x ∷ []) c.loop-v.invariant.so_far c.multiplier_at.ensures ∙ sym (table_more c.loop-v.v _);
   place = c.row_on-entry.ensures.place;
 }
+
+pub row_on-entry-requires-clause-leaving : goal.row_on-entry-requires-clause-leaving
+row_on-entry-requires-clause-leaving c = omega arith
+
+pub row_on-entry-requires-clause-within : goal.row_on-entry-requires-clause-within
+row_on-entry-requires-clause-within c = omega arith

@@ -1,3 +1,4 @@
+use Rattle.std.proofs.lemmas.Grind.{common_steps}
 use Rattle.std.proofs.Common.{arith}
 use Rattle.cip_simplex.proofs.FreeMoves.{state_made, uncrossed_made}
 use Rattle.cip_simplex.proofs.StartLaws.{state_size}
@@ -11,3 +12,12 @@ loop-made-preserved c = record {
   state = state_made c.args.lp.now c.loop-made.dict c.take_chosen.new.dict c.in-Made.field-0 c.loop-made.invariant.state (rw c.in-Made.is at c.in_ok-take_chosen.ensures);
   uncrossed = uncrossed_made c.args.lp.now c.loop-made.dict c.take_chosen.new.dict c.in-Made.field-0 c.loop-made.invariant.state c.loop-made.invariant.uncrossed (rw c.in-Made.is at c.in_ok-take_chosen.ensures);
 }
+
+pub returns-in-End-clause-end : goal.returns-in-End-clause-end
+returns-in-End-clause-end c = grind (arith, common_steps)
+
+pub returns-in-End-clause-state : goal.returns-in-End-clause-state
+returns-in-End-clause-state c = grind (arith, common_steps)
+
+pub returns-in-Wide-clause-state : goal.returns-in-Wide-clause-state
+returns-in-Wide-clause-state c = grind (arith, common_steps)

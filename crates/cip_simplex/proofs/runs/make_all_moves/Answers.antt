@@ -1,3 +1,4 @@
+use Rattle.std.proofs.lemmas.Grind.{common_steps}
 use Rattle.std.proofs.Common.{◌∙◌, arith}
 use Rattle.cip_simplex.proofs.Lists.{made_size}
 use Rattle.cip_simplex.proofs.StartLaws.{state_size}
@@ -23,3 +24,9 @@ returns-in-Wide-clause-run c = whole_wide c.args.lp.now c.steps.invariant.solvab
 
 pub returns-in-End-clause-run : goal.returns-in-End-clause-run
 returns-in-End-clause-run c = whole_ended c.args.lp.now c.steps.invariant.solvable.proper c.steps.dict c.steps.invariant.state c.steps.moves.items _ c.steps.invariant.so_far c.take_step.new.dict c.in-End.step (rw c.in-End.is at c.in_ok-chosen.ensures)
+
+pub returns-in-End-clause-variables : goal.returns-in-End-clause-variables
+returns-in-End-clause-variables c = grind (arith, common_steps)
+
+pub returns-in-Wide-clause-variables : goal.returns-in-Wide-clause-variables
+returns-in-Wide-clause-variables c = grind (arith, common_steps)

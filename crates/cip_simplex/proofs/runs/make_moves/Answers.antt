@@ -1,3 +1,4 @@
+use Rattle.std.proofs.lemmas.Grind.{common_steps}
 use Rattle.std.proofs.Common.{◌∙◌, arith}
 use Rattle.cip_simplex.specs.Advances.{ending_of}
 use Rattle.cip_simplex.proofs.Lists.{made_size, one_made, all_wide, all_ended, all_stopped}
@@ -23,3 +24,9 @@ take_step-requires c = omega (arith, c.loop-made.invariant.variables, c.requires
 
 pub ending_here-requires : goal.ending_here-requires
 ending_here-requires c = omega (arith, c.loop-made.invariant.variables, c.requires)
+
+pub returns-in-End-clause-variables : goal.returns-in-End-clause-variables
+returns-in-End-clause-variables c = grind (arith, common_steps)
+
+pub returns-in-Wide-clause-variables : goal.returns-in-Wide-clause-variables
+returns-in-Wide-clause-variables c = grind (arith, common_steps)

@@ -1,4 +1,5 @@
-use Rattle.std.proofs.Common.{sym, ◌∙◌}
+use Rattle.std.proofs.lemmas.Grind.{common_steps}
+use Rattle.std.proofs.Common.{sym, ◌∙◌, arith}
 use Rattle.cip_simplex.proofs.Chosen.{can_descend, wide_descent}
 use Rattle.cip_simplex.proofs.steps.improve.Goals as goal
 
@@ -7,3 +8,6 @@ carry_out-requires-clause-can c = can_descend c.args.dict.now c.args.j c.require
 
 pub returns-in-Err : goal.returns-in-Err
 returns-in-Err c = wide_descent c.args.dict.now c.args.j c.requires.improves c.in-Err.wide c.in-Err.ensures.shortest
+
+pub returns-in-Ok-None : goal.returns-in-Ok-None
+returns-in-Ok-None c = grind (arith, common_steps)

@@ -1,4 +1,5 @@
-use Rattle.std.proofs.Common.{◌≡◌, true, rules}
+use Rattle.std.proofs.lemmas.Grind.{common_steps}
+use Rattle.std.proofs.Common.{◌≡◌, true, rules, arith}
 use Rattle.cip_bland.specs.Dictionary.{is_basic, entry}
 use Rattle.cip_simplex.proofs.Shortest.{zero_by, nonzero_by, zero_entry}
 use Rattle.cip_simplex.proofs.ways.way_to.Goals as goal
@@ -11,3 +12,18 @@ returns-then-not-has_entry c =
 
 pub basic_way-requires-clause-nonzero : goal.basic_way-requires-clause-nonzero
 basic_way-requires-clause-nonzero c = nonzero_by (entry c.args.dict.now c.args.v c.args.j) c.has_entry.result c.has_entry.ensures c.if-not-has_entry.false
+
+pub basic_way-requires-clause-entering : goal.basic_way-requires-clause-entering
+basic_way-requires-clause-entering c = omega arith
+
+pub basic_way-requires-clause-leaving : goal.basic_way-requires-clause-leaving
+basic_way-requires-clause-leaving c = omega arith
+
+pub has_entry-requires-clause-on : goal.has_entry-requires-clause-on
+has_entry-requires-clause-on c = omega arith
+
+pub has_entry-requires-clause-within : goal.has_entry-requires-clause-within
+has_entry-requires-clause-within c = omega arith
+
+pub returns-then-is_some : goal.returns-then-is_some
+returns-then-is_some c = grind (arith, common_steps)

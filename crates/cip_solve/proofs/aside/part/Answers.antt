@@ -1,3 +1,4 @@
+use Rattle.std.proofs.lemmas.Grind.{common_steps}
 use Rattle.std.proofs.Common.{◌≡◌, ◌∷◌, ◌∙◌, ◌≤◌, ap, arith, length, rules, vec_len}
 use Rattle.std.specs.Prelude.{not}
 use Rattle.std.specs.Vec.Iter.{drain_items}
@@ -36,3 +37,18 @@ returns-clause-spent g c =
     let from : drain_items c.into_iter-plugin-iterator.result ≡ c.args.plugins.now.items =
     ap (λ it. drain_items it) c.into_iter-plugin-iterator.ensures.into_iter_gives ∙ all in
     spent_all _ _ _ _ _ _ _ c.in-None.ensures.steps.0 from c.loop-plugin.invariant.spent
+
+pub loop-plugin-init : goal.loop-plugin-init
+loop-plugin-init g c = grind (arith, common_steps)
+
+pub loop-plugin-preserved-derived : goal.loop-plugin-preserved-derived
+loop-plugin-preserved-derived g c = omega arith
+
+pub loop-plugin-preserved-then-is_one_of-derived : goal.loop-plugin-preserved-then-is_one_of-derived
+loop-plugin-preserved-then-is_one_of-derived g c = omega arith
+
+pub push_reserved-requires : goal.push_reserved-requires
+push_reserved-requires g c = grind (arith, common_steps)
+
+pub push_reserved-requires-else-is_one_of : goal.push_reserved-requires-else-is_one_of
+push_reserved-requires-else-is_one_of g c = grind (arith, common_steps)

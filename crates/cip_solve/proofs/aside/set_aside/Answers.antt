@@ -1,4 +1,5 @@
-use Rattle.std.proofs.Common.{refl}
+use Rattle.std.proofs.lemmas.Grind.{common_steps}
+use Rattle.std.proofs.Common.{refl, arith}
 use Rattle.cip_solve.proofs.SetAside.{none_named, none_off, parted}
 use Rattle.cip_solve.proofs.aside.set_aside.Goals as goal
 
@@ -8,3 +9,15 @@ returns-then-is_empty-clause-aside g c = none_off _ _ (none_named _ _ c.is_empty
 pub returns-clause-aside : goal.returns-clause-aside
 returns-clause-aside g c =
     parted _ _ _ _ _ _ _ _ _ _ _ c.in_ok-kept.ensures.items c.part.ensures.kept c.reserve.ensures.items c.part.ensures.spent (λ x. refl)
+
+pub part-requires-clause-room : goal.part-requires-clause-room
+part-requires-clause-room g c = grind (arith, common_steps)
+
+pub part-requires-clause-spare : goal.part-requires-clause-spare
+part-requires-clause-spare g c = grind (arith, common_steps)
+
+pub returns-clause-err : goal.returns-clause-err
+returns-clause-err g c = omega arith
+
+pub returns-then-is_empty-clause-err : goal.returns-then-is_empty-clause-err
+returns-then-is_empty-clause-err g c = omega arith

@@ -1,4 +1,5 @@
-use Rattle.std.proofs.Common.{Option, IfSome, sym, ap, ◌∙◌, subst, refl}
+use Rattle.std.proofs.lemmas.Grind.{common_steps}
+use Rattle.std.proofs.Common.{Option, IfSome, sym, ap, ◌∙◌, subst, refl, arith}
 use Rattle.cip_problem.specs.Log.{matters}
 use Rattle.cip_calls.specs.CoreStates.{CoreState, held_of}
 use Rattle.cip_plugin.specs.declared.proposals.Split.{Split}
@@ -67,3 +68,18 @@ go_back-requires-clause-given g c = c.requires.up.2
 
 pub end_pruned-requires-clause-up : goal.end_pruned-requires-clause-up
 end_pruned-requires-clause-up g c = c.requires.up.0
+
+pub end_pruned-requires-clause-found : goal.end_pruned-requires-clause-found
+end_pruned-requires-clause-found g c = grind (arith, common_steps)
+
+pub returns-in-Err-clause-ended : goal.returns-in-Err-clause-ended
+returns-in-Err-clause-ended g c = grind (arith, common_steps)
+
+pub returns-in-Ok-None-clause-ended : goal.returns-in-Ok-None-clause-ended
+returns-in-Ok-None-clause-ended g c = grind (arith, common_steps)
+
+pub returns-in-Ok-Some-clause-ended : goal.returns-in-Ok-Some-clause-ended
+returns-in-Ok-Some-clause-ended g c = grind (arith, common_steps)
+
+pub returns-then-not-matters-clause-ended : goal.returns-then-not-matters-clause-ended
+returns-then-not-matters-clause-ended g c = grind (arith, common_steps)

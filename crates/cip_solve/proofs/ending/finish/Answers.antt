@@ -1,4 +1,5 @@
-use Rattle.std.proofs.Common.{refl, ap, subst}
+use Rattle.std.proofs.lemmas.Grind.{common_steps}
+use Rattle.std.proofs.Common.{refl, ap, subst, arith}
 use Rattle.cip_calls.specs.CoreStates.{CoreState}
 use Rattle.cip_calls.proofs.PassedOn.{used_none}
 use Rattle.std.proofs.lemmas.Result.{IfOk-weaker}
@@ -61,3 +62,15 @@ returns-in-Leaf-clause-used g c =
 pub returns-in-Open-clause-used : goal.returns-in-Open-clause-used
 returns-in-Open-clause-used g c =
     IfOk-weaker c.end_open.result _ _ (λ done used. ends_open _ c.in-Open.found done _ _ _ _ c.in-Open.is used) c.end_open.ensures.used
+
+pub returns-in-Leaf-clause-ended : goal.returns-in-Leaf-clause-ended
+returns-in-Leaf-clause-ended g c = grind (arith, common_steps)
+
+pub returns-in-Open-clause-ended : goal.returns-in-Open-clause-ended
+returns-in-Open-clause-ended g c = grind (arith, common_steps)
+
+pub returns-in-Open-clause-kept : goal.returns-in-Open-clause-kept
+returns-in-Open-clause-kept g c = grind (arith, common_steps)
+
+pub returns-in-Place-clause-ended : goal.returns-in-Place-clause-ended
+returns-in-Place-clause-ended g c = grind (arith, common_steps)

@@ -1,4 +1,5 @@
-use Rattle.std.proofs.Common.{◌≡◌, ℕ, List, IfSome, length, Option, sym, subst}
+use Rattle.std.proofs.lemmas.Grind.{common_steps}
+use Rattle.std.proofs.Common.{◌≡◌, ℕ, List, IfSome, length, Option, sym, subst, arith}
 use Rattle.cip_rational.specs.Rational.{ℚ}
 use Rattle.cip_problem.specs.Program.{Program}
 use Rattle.cip_problem.specs.Log.{Entry}
@@ -62,3 +63,12 @@ refused_answer-requires c =
     let core = c.args.core.now in
     subst (λ (h : Holding). IfSome h.best (λ held. length held.point ≡ length c.args.point.items)) (sym c.incumbent-incumbent.ensures)
     (held_room core.program core.incumbent (length c.args.point.items) c.is_sound.ensures.formed c.is_sound.ensures.sound.is_held c.requires.point)
+
+pub returns-in-Endless-clause-nodes : goal.returns-in-Endless-clause-nodes
+returns-in-Endless-clause-nodes c = grind (arith, common_steps)
+
+pub returns-in-NoMemory-clause-nodes : goal.returns-in-NoMemory-clause-nodes
+returns-in-NoMemory-clause-nodes c = grind (arith, common_steps)
+
+pub returns-in-Still-clause-nodes : goal.returns-in-Still-clause-nodes
+returns-in-Still-clause-nodes c = grind (arith, common_steps)

@@ -1,4 +1,5 @@
-use Rattle.std.proofs.Common.{length, ◌∙◌, ap, subst}
+use Rattle.std.proofs.lemmas.Grind.{common_steps}
+use Rattle.std.proofs.Common.{length, ◌∙◌, ap, subst, arith}
 use Rattle.cip_problem.specs.Points.{cost_of}
 use Rattle.cip_problem.proofs.Points.AtPlaces.{IsInBox-long}
 use Rattle.cip_model.specs.Meaning.{VerdictHolds}
@@ -14,3 +15,6 @@ returns-clause-right c = λ reduced kept start nodes asked log marks seen k w.
     let told = subst (VerdictHolds c.args.program.now c.as_slice.result.now) c.in-Feasible.is c.check.ensures.meaning in
     endless_right c.args.program.now reduced kept start nodes asked log marks c.in-Feasible.cost c.args.point.items c.args.ray.items seen k w
     (told.1 ∙ ap (cost_of c.args.program.now) c.as_slice.ensures.value)
+
+pub unreachable-requires : goal.unreachable-requires
+unreachable-requires c = grind (arith, common_steps)

@@ -1,4 +1,5 @@
-use Rattle.std.proofs.Common.{◌≡◌, ◌∙◌, IfSome, ap, length, sym, subst}
+use Rattle.std.proofs.lemmas.Grind.{common_steps}
+use Rattle.std.proofs.Common.{◌≡◌, ◌∙◌, IfSome, ap, length, sym, subst, arith}
 use Rattle.cip_problem.specs.Program.{Program}
 use Rattle.cip_problem.specs.Log.{Node}
 use Rattle.cip_problem.specs.Points.{IsLowerBound}
@@ -69,3 +70,12 @@ returns-clause-asked g c =
       subst (λ (r : Program). g.W.Works.is_ready c.explore-stop.new.works (columns r)) c.explore-stop.ensures.same.0.reduced asked.0,
       subst (λ n. HasServed n (g.W.Works.state c.args.works.now) (g.W.Works.state c.explore-stop.new.works)) (sym splits) asked.1,
     )
+
+pub explore-stop-requires-clause-standing : goal.explore-stop-requires-clause-standing
+explore-stop-requires-clause-standing g c = grind (arith, common_steps)
+
+pub finish-answer-requires-clause-stop : goal.finish-answer-requires-clause-stop
+finish-answer-requires-clause-stop g c = grind (arith, common_steps)
+
+pub returns-clause-untraced : goal.returns-clause-untraced
+returns-clause-untraced g c = grind (arith, common_steps)

@@ -1,4 +1,5 @@
-use Rattle.std.proofs.Common.{◌∙◌, length, sym, ap, subst}
+use Rattle.std.proofs.lemmas.Grind.{common_steps}
+use Rattle.std.proofs.Common.{◌∙◌, length, sym, ap, subst, arith}
 use Rattle.cip_problem.specs.Program.{Program}
 use Rattle.cip_node_rules.specs.BoxLooks.{IsBoxLook}
 use Rattle.cip_calls.proofs.PassedOn.{work_long}
@@ -20,3 +21,6 @@ returns c =
     (subst (λ i. IsBoxLook i core.tree.work.box core.tree.work.choices c.look_at.result) (c.whole.ensures.whole ∙ ap (λ (p : Program). p.integral) c.reduced-program.ensures)
     (subst (λ b. IsBoxLook c.whole.result.now b core.tree.work.choices c.look_at.result) c.bounds.ensures
     (subst (λ o. IsBoxLook c.whole.result.now c.bounds.result.now o c.look_at.result) c.choices.ensures c.look_at.ensures))))
+
+pub look_at-requires-clause-columns : goal.look_at-requires-clause-columns
+look_at-requires-clause-columns c = grind (arith, common_steps)

@@ -1,4 +1,5 @@
-use Rattle.std.proofs.Common.{◌∷◌, [], refl}
+use Rattle.std.proofs.lemmas.Grind.{common_steps}
+use Rattle.std.proofs.Common.{◌∷◌, [], refl, arith}
 use Rattle.cip_plugin.specs.Calls.{Propagate}
 use Rattle.cip_calls.proofs.PassedOn.{come_further}
 use Rattle.cip_solve.proofs.Using.{in_then}
@@ -25,3 +26,18 @@ propagate-requires-clause-ready g c = c.requires.ready.0
 
 pub propagate-requires-clause-sound : goal.propagate-requires-clause-sound
 propagate-requires-clause-sound g c = c.requires.ready.1
+
+pub look_again-requires : goal.look_again-requires
+look_again-requires g c = grind (arith, common_steps)
+
+pub returns-in-Emptied-clause-come : goal.returns-in-Emptied-clause-come
+returns-in-Emptied-clause-come g c = grind (arith, common_steps)
+
+pub returns-in_err-propagate-clause-come : goal.returns-in_err-propagate-clause-come
+returns-in_err-propagate-clause-come g c = grind (arith, common_steps)
+
+pub returns-in_ok-tell_now-in_default-clause-seen : goal.returns-in_ok-tell_now-in_default-clause-seen
+returns-in_ok-tell_now-in_default-clause-seen g c = grind (arith, common_steps)
+
+pub tell_now-requires : goal.tell_now-requires
+tell_now-requires g c = grind (arith, common_steps)

@@ -1,4 +1,5 @@
-use Rattle.std.proofs.Common.{[], subst}
+use Rattle.std.proofs.lemmas.Grind.{common_steps}
+use Rattle.std.proofs.Common.{[], subst, arith}
 use Rattle.std.proofs.lemmas.Result.{IfOk-weaker}
 use Rattle.cip_calls.proofs.PassedOn.{come_further, used_further, used_none}
 use Rattle.cip_solve.specs.NodesReached.{IsReachedIf, IsUsedIf, asks_in_pass}
@@ -39,3 +40,6 @@ returns-clause-used g c =
     IfOk-weaker c.pass.result _ _
     (λ reached used. in_further [] asks_in_pass reached _ _ _ _ _ _ c.loop.invariant.come.sound.settled c.loop.invariant.used used)
     c.pass.ensures.used
+
+pub returns-clause-reached : goal.returns-clause-reached
+returns-clause-reached g c = grind (arith, common_steps)

@@ -1,4 +1,5 @@
-use Rattle.std.proofs.Common.{[]}
+use Rattle.std.proofs.lemmas.Grind.{common_steps}
+use Rattle.std.proofs.Common.{[], arith}
 use Rattle.cip_calls.proofs.PassedOn.{come_further}
 use Rattle.cip_calls.proofs.PassedOn.{used_further}
 use Rattle.cip_solve.proofs.node_turns.hear.Goals as goal
@@ -14,3 +15,6 @@ returns-clause-used g c = used_further [] [] _ _ _ _ _ _ c.enforce.ensures.come.
 
 pub returns-clause-said : goal.returns-clause-said
 returns-clause-said g c = c.in_ok-said.ensures.verdict
+
+pub tell_now-requires : goal.tell_now-requires
+tell_now-requires g c = grind (arith, common_steps)

@@ -1,4 +1,5 @@
-use Rattle.std.proofs.Common.{Option, sym, subst}
+use Rattle.std.proofs.lemmas.Grind.{common_steps}
+use Rattle.std.proofs.Common.{Option, sym, subst, arith}
 use Rattle.cip_calls.proofs.PassedOn.{come_further}
 use Rattle.cip_solve.specs.declared.reached.Reached.{Reached}
 use Rattle.cip_solve.proofs.Standing.{decided}
@@ -36,3 +37,12 @@ returns-in-Place-clause-reached g c = subst (IsReached c.pass.new.work.core c.pa
 
 pub returns-in-Place-clause-used : goal.returns-in-Place-clause-used
 returns-in-Place-clause-used g c = subst (λ r. IsUsedIn asks_in_pass r (g.R.Seated.state c.args.plugins.now.roster) c.args.plugins.now.judged.items (g.R.Seated.state c.pass.new.plugins.roster) c.pass.new.plugins.judged.items) c.in-Place.is c.in_ok-found.ensures.used
+
+pub returns-in-Empty-clause-come : goal.returns-in-Empty-clause-come
+returns-in-Empty-clause-come g c = grind (arith, common_steps)
+
+pub returns-in-Leaf-clause-come : goal.returns-in-Leaf-clause-come
+returns-in-Leaf-clause-come g c = grind (arith, common_steps)
+
+pub returns-in-Place-clause-come : goal.returns-in-Place-clause-come
+returns-in-Place-clause-come g c = grind (arith, common_steps)

@@ -1,4 +1,5 @@
-use Rattle.std.proofs.Common.{refl}
+use Rattle.std.proofs.lemmas.Grind.{common_steps}
+use Rattle.std.proofs.Common.{refl, arith}
 use Rattle.cip_solve.proofs.outsets.set_out.Goals as goal
 
 pub returns-in-Ok-ask-clause-start : goal.returns-in-Ok-ask-clause-start
@@ -21,3 +22,36 @@ returns-in-Err-clause-err g c = refl
 
 pub ask-requires : goal.ask-requires
 ask-requires g c = record { few = c.requires.few }
+
+pub begun_with-requires-clause-back : goal.begun_with-requires-clause-back
+begun_with-requires-clause-back g c = grind (arith, common_steps)
+
+pub begun_with-requires-clause-near : goal.begun_with-requires-clause-near
+begun_with-requires-clause-near g c = grind (arith, common_steps)
+
+pub returns-in-Err-ask-clause-begun : goal.returns-in-Err-ask-clause-begun
+returns-in-Err-ask-clause-begun g c = omega arith
+
+pub returns-in-Err-ask-clause-ready : goal.returns-in-Err-ask-clause-ready
+returns-in-Err-ask-clause-ready g c = omega arith
+
+pub returns-in-Err-ask-clause-room : goal.returns-in-Err-ask-clause-room
+returns-in-Err-ask-clause-room g c = omega arith
+
+pub returns-in-Err-ask-clause-start : goal.returns-in-Err-ask-clause-start
+returns-in-Err-ask-clause-start g c = omega arith
+
+pub returns-in-Err-clause-begun : goal.returns-in-Err-clause-begun
+returns-in-Err-clause-begun g c = omega arith
+
+pub returns-in-Err-clause-ready : goal.returns-in-Err-clause-ready
+returns-in-Err-clause-ready g c = omega arith
+
+pub returns-in-Err-clause-room : goal.returns-in-Err-clause-room
+returns-in-Err-clause-room g c = omega arith
+
+pub returns-in-Err-clause-start : goal.returns-in-Err-clause-start
+returns-in-Err-clause-start g c = omega arith
+
+pub returns-in-Ok-ask-clause-err : goal.returns-in-Ok-ask-clause-err
+returns-in-Ok-ask-clause-err g c = omega arith

@@ -1,4 +1,5 @@
-use Rattle.std.proofs.Common.{ap, subst, sym}
+use Rattle.std.proofs.lemmas.Grind.{common_steps}
+use Rattle.std.proofs.Common.{ap, subst, sym, arith}
 use Rattle.cip_problem.specs.Log.{Split}
 use Rattle.cip_calls.specs.CoreStates.{CoreState}
 use Rattle.cip_calls.specs.Steps.{HasLeft}
@@ -25,3 +26,6 @@ returns-in-Ok-clause-pool c = ap (λ (k : CoreState). k.pool) c.part-parted.ensu
 
 pub returns-in-Err-clause-pool : goal.returns-in-Err-clause-pool
 returns-in-Err-clause-pool c = ap (λ (k : CoreState). k.pool) c.part-parted.ensures.frame
+
+pub returns-in-Err-clause-ended : goal.returns-in-Err-clause-ended
+returns-in-Err-clause-ended c = grind (arith, common_steps)

@@ -1,4 +1,5 @@
-use Rattle.std.proofs.Common.{◌∷◌, []}
+use Rattle.std.proofs.lemmas.Grind.{common_steps}
+use Rattle.std.proofs.Common.{◌∷◌, [], arith}
 use Rattle.cip_plugin.specs.Calls.{Search}
 use Rattle.cip_calls.proofs.PassedOn.{come_further}
 use Rattle.cip_calls.proofs.PassedOn.{points_not_sides}
@@ -31,3 +32,15 @@ returns-clause-used g c =
     from_ok c.tell_now-2.result _ _ c.tell_now-2.ensures.used
     (λ _ last. in_then (Search ∷ []) _ _ _ _ _ _ c.ask_round.ensures.come.sound.settled
     (used_further [] (Search ∷ []) _ _ _ _ _ _ c.tell_now.ensures.come.sound.settled c.in_ok-tell_now.ensures.used (c.in_ok-_came.ensures.used (λ e. points_not_sides (c.in_ok-_came.ensures.sides e)))) last)
+
+pub ask_round-requires-clause-ready : goal.ask_round-requires-clause-ready
+ask_round-requires-clause-ready g c = grind (arith, common_steps)
+
+pub ask_round-requires-clause-sound : goal.ask_round-requires-clause-sound
+ask_round-requires-clause-sound g c = grind (arith, common_steps)
+
+pub returns-in_err-tell_now-clause-open_ : goal.returns-in_err-tell_now-clause-open_
+returns-in_err-tell_now-clause-open_ g c = grind (arith, common_steps)
+
+pub tell_now-requires-2 : goal.tell_now-requires-2
+tell_now-requires-2 g c = grind (arith, common_steps)

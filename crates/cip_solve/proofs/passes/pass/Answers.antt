@@ -1,4 +1,5 @@
-use Rattle.std.proofs.Common.{◌≢◌, ◌∷◌, [], ◌∙◌, sym, subst}
+use Rattle.std.proofs.lemmas.Grind.{common_steps}
+use Rattle.std.proofs.Common.{◌≢◌, ◌∷◌, [], ◌∙◌, sym, subst, arith}
 use Rattle.cip_plugin.specs.Calls.{Propagate, Separate, Search}
 use Rattle.cip_node_rules.specs.declared.looks.Looked.TheVariants.{Empty, Open}
 use Rattle.cip_calls.proofs.PassedOn.{come_further}
@@ -28,3 +29,15 @@ returns-in-Open-clause-used g c =
     IfOk-weaker c.relax_and_improve.result _ _
     (λ reached used. in_further (Propagate ∷ []) (Separate ∷ Search ∷ []) reached _ _ _ _ _ _ c.narrow.ensures.come.sound.settled first used)
     c.relax_and_improve.ensures.used
+
+pub relax_and_improve-requires-clause-ready : goal.relax_and_improve-requires-clause-ready
+relax_and_improve-requires-clause-ready g c = grind (arith, common_steps)
+
+pub returns-in-Empty-clause-come : goal.returns-in-Empty-clause-come
+returns-in-Empty-clause-come g c = grind (arith, common_steps)
+
+pub returns-in-Leaf-clause-come : goal.returns-in-Leaf-clause-come
+returns-in-Leaf-clause-come g c = grind (arith, common_steps)
+
+pub returns-in-Open-clause-reached : goal.returns-in-Open-clause-reached
+returns-in-Open-clause-reached g c = grind (arith, common_steps)

@@ -1,4 +1,5 @@
-use Rattle.std.proofs.Common.{◌∷◌, [], sym, subst}
+use Rattle.std.proofs.lemmas.Grind.{common_steps}
+use Rattle.std.proofs.Common.{◌∷◌, [], sym, subst, arith}
 use Rattle.cip_plugin.specs.Calls.{Separate, Search}
 use Rattle.cip_node.specs.Bounding.{IsBounded}
 use Rattle.cip_node.proofs.Looked.{open_after}
@@ -26,3 +27,9 @@ pub returns-in-Ok-clause-used : goal.returns-in-Ok-clause-used
 returns-in-Ok-clause-used g c =
     used_further (Separate ∷ []) (Search ∷ []) _ _ _ _ _ _ c.separate.ensures.come.sound.settled
     (c.in_ok-separate.ensures.used (subst IsOpenBounded (sym c.in-Open.is) tt)) c.in-Ok.ensures.used
+
+pub returns-in-Empty-clause-come : goal.returns-in-Empty-clause-come
+returns-in-Empty-clause-come g c = grind (arith, common_steps)
+
+pub returns-in-Ok-clause-reached : goal.returns-in-Ok-clause-reached
+returns-in-Ok-clause-reached g c = grind (arith, common_steps)

@@ -1,4 +1,5 @@
-use Rattle.std.proofs.Common.{◌≡◌, ap, sym, subst, inl, ◌∙◌}
+use Rattle.std.proofs.lemmas.Grind.{common_steps}
+use Rattle.std.proofs.Common.{◌≡◌, ap, sym, subst, inl, ◌∙◌, arith}
 use Rattle.cip_problem.specs.WellFormed.{columns}
 use Rattle.cip_tree.specs.Nodes.{region_of}
 use Rattle.cip_tree.specs.Walks.{IsEntered}
@@ -99,3 +100,9 @@ returns-clause-kept g c =
 
 pub enter-requires : goal.enter-requires
 enter-requires g c = c.age.ensures.up c.args.node.now c.requires.up
+
+pub returns-clause-reached : goal.returns-clause-reached
+returns-clause-reached g c = grind (arith, common_steps)
+
+pub returns-clause-used : goal.returns-clause-used
+returns-clause-used g c = grind (arith, common_steps)

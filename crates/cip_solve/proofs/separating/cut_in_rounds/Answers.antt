@@ -1,4 +1,5 @@
-use Rattle.std.proofs.Common.{◌∷◌, [], ◌∙◌, sym}
+use Rattle.std.proofs.lemmas.Grind.{common_steps}
+use Rattle.std.proofs.Common.{◌∷◌, [], ◌∙◌, sym, arith}
 use Rattle.cip_plugin.specs.Calls.{Separate}
 use Rattle.cip_calls.proofs.PassedOn.{come_further}
 use Rattle.cip_calls.proofs.PassedOn.{used_further, used_again, accepted_open}
@@ -43,3 +44,24 @@ loop-preserved g c = record {
   region = c.cut_once-in-loop.ensures.region ∙ c.loop.invariant.region;
   found = c.in_ok-came-2.ensures.found;
 }
+
+pub returns-after-loop-clause-come : goal.returns-after-loop-clause-come
+returns-after-loop-clause-come g c = grind (arith, common_steps)
+
+pub returns-after-loop-clause-found : goal.returns-after-loop-clause-found
+returns-after-loop-clause-found g c = grind (arith, common_steps)
+
+pub returns-after-loop-clause-region : goal.returns-after-loop-clause-region
+returns-after-loop-clause-region g c = grind (arith, common_steps)
+
+pub returns-after-loop-clause-used : goal.returns-after-loop-clause-used
+returns-after-loop-clause-used g c = grind (arith, common_steps)
+
+pub returns-in_default : goal.returns-in_default
+returns-in_default g c = grind (arith, common_steps)
+
+pub returns-in_err-came-clause-region : goal.returns-in_err-came-clause-region
+returns-in_err-came-clause-region g c = grind (arith, common_steps)
+
+pub returns-in_err-tell_now-clause-region : goal.returns-in_err-tell_now-clause-region
+returns-in_err-tell_now-clause-region g c = grind (arith, common_steps)

@@ -1,4 +1,5 @@
-use Rattle.std.proofs.Common.{◌∷◌, [], ◌∙◌, sym}
+use Rattle.std.proofs.lemmas.Grind.{common_steps}
+use Rattle.std.proofs.Common.{◌∷◌, [], ◌∙◌, sym, arith}
 use Rattle.cip_plugin.specs.Calls.{Separate}
 use Rattle.cip_calls.proofs.PassedOn.{come_further}
 use Rattle.cip_calls.proofs.PassedOn.{cuts_not_sides, quiet_left}
@@ -32,3 +33,12 @@ returns-in_default-clause-found g c =
     found_by _ _ _ c.args.found.now (λ e. cuts_not_sides (c.in_ok-came.ensures.sides e))
     (found_stays c.args.work.now.core c.ask_round.new.core c.args.node.now c.ask_round.new.node c.args.found.now c.ask_round.ensures.come.later (c.in_ok-came.ensures.rows quiet)
     (c.ask_round.ensures.node cuts_not_sides) c.requires.found)
+
+pub returns-in-Accepted-clause-found : goal.returns-in-Accepted-clause-found
+returns-in-Accepted-clause-found g c = grind (arith, common_steps)
+
+pub returns-in_default-clause-come : goal.returns-in_default-clause-come
+returns-in_default-clause-come g c = grind (arith, common_steps)
+
+pub returns-in_default-clause-used : goal.returns-in_default-clause-used
+returns-in_default-clause-used g c = grind (arith, common_steps)

@@ -1,4 +1,5 @@
-use Rattle.std.proofs.Common.{◌∷◌, [], ◌∙◌, sym, subst}
+use Rattle.std.proofs.lemmas.Grind.{common_steps}
+use Rattle.std.proofs.Common.{◌∷◌, [], ◌∙◌, sym, subst, arith}
 use Rattle.cip_plugin.specs.Calls.{Separate}
 use Rattle.cip_node.specs.Bounding.{IsBounded}
 use Rattle.cip_calls.proofs.PassedOn.{come_further}
@@ -39,3 +40,12 @@ returns-in-Ok-clause-bounded g c =
     let core = c.cut_in_rounds.new.work.core in
     let node = c.cut_in_rounds.new.node in
     subst (λ (b : Bounded). IsBounded core node b) (sym c.left_by.ensures) (bounded_by c.in-Ok.came core node c.cut_in_rounds.new.found c.in-Ok.ensures.found)
+
+pub returns-in-Empty-clause-come : goal.returns-in-Empty-clause-come
+returns-in-Empty-clause-come g c = grind (arith, common_steps)
+
+pub returns-in-Empty-clause-region : goal.returns-in-Empty-clause-region
+returns-in-Empty-clause-region g c = grind (arith, common_steps)
+
+pub returns-in_err-solve_lp-clause-region : goal.returns-in_err-solve_lp-clause-region
+returns-in_err-solve_lp-clause-region g c = grind (arith, common_steps)

@@ -1,4 +1,5 @@
-use Rattle.std.proofs.Common.{length, sym, ap, ◌∙◌, subst}
+use Rattle.std.proofs.lemmas.Grind.{common_steps}
+use Rattle.std.proofs.Common.{length, sym, ap, ◌∙◌, subst, arith}
 use Rattle.cip_tree.specs.Entries as tree
 use Rattle.cip_solve.specs.FirstStops.{StopsFirst}
 use Rattle.cip_solve.proofs.BegunLaws.{infeasible_by, unsearched_by}
@@ -53,3 +54,12 @@ solve_reduced-answer-requires-clause-some g c = c.requires.some
 
 pub solve_reduced-answer-requires-clause-few : goal.solve_reduced-answer-requires-clause-few
 solve_reduced-answer-requires-clause-few g c = c.requires.few
+
+pub infeasible-requires : goal.infeasible-requires
+infeasible-requires g c = grind (arith, common_steps)
+
+pub reduced_for-requires : goal.reduced_for-requires
+reduced_for-requires g c = grind (arith, common_steps)
+
+pub solve_reduced-answer-requires-clause-can : goal.solve_reduced-answer-requires-clause-can
+solve_reduced-answer-requires-clause-can g c = grind (arith, common_steps)

@@ -1,6 +1,6 @@
 use Rattle.cip_solve.proofs.Serving.{served_none}
 use Rattle.cip_solve.specs.SplitsServed.{splits_in, HasServed}
-use Rattle.std.proofs.Common.{◌∙◌, ap, sym, subst, length}
+use Rattle.std.proofs.Common.{◌∙◌, ap, sym, subst, length, arith}
 use Rattle.cip_problem.specs.Program.{Program}
 use Rattle.cip_problem.specs.WellFormed.{columns}
 use Rattle.cip_tree.specs.Entries as tree
@@ -56,3 +56,6 @@ returns-in-Err-clause-first g c = subst (StopsFirst c.args.program.now c.args.op
 
 pub returns-in-Err-clause-nodes : goal.returns-in-Err-clause-nodes
 returns-in-Err-clause-nodes g c = c.unsearched.ensures.nodes ∙ sym (ap length (ap tree.entries_of c.clear.ensures.items))
+
+pub search_from-requires-clause-some : goal.search_from-requires-clause-some
+search_from-requires-clause-some g c = omega arith

@@ -1,4 +1,5 @@
-use Rattle.std.proofs.Common.{◌∙◌, sym, subst, refl}
+use Rattle.std.proofs.lemmas.Grind.{common_steps}
+use Rattle.std.proofs.Common.{◌∙◌, sym, subst, refl, arith}
 use Rattle.cip_endings.specs.AnswerOf.{answer_of}
 use Rattle.cip_solve.specs.Logs.{entries_of}
 use Rattle.cip_solve.specs.Solved.{IsSolvedBy}
@@ -24,3 +25,42 @@ returns-clause-kit g c =
 
 pub solve_by-requires-clause-some : goal.solve_by-requires-clause-some
 solve_by-requires-clause-some g c = c.requires.some
+
+pub goes_alone-requires : goal.goes_alone-requires
+goes_alone-requires g c = omega arith
+
+pub returns-clause-first : goal.returns-clause-first
+returns-clause-first g c = grind (arith, common_steps)
+
+pub returns-clause-nodes : goal.returns-clause-nodes
+returns-clause-nodes g c = omega arith
+
+pub returns-then-goes_alone-clause-first : goal.returns-then-goes_alone-clause-first
+returns-then-goes_alone-clause-first g c = grind (arith, common_steps)
+
+pub returns-then-goes_alone-clause-nodes : goal.returns-then-goes_alone-clause-nodes
+returns-then-goes_alone-clause-nodes g c = omega arith
+
+pub solve_by-requires-clause-back : goal.solve_by-requires-clause-back
+solve_by-requires-clause-back g c = grind (arith, common_steps)
+
+pub solve_by-requires-clause-near : goal.solve_by-requires-clause-near
+solve_by-requires-clause-near g c = grind (arith, common_steps)
+
+pub solve_by-requires-clause-ready : goal.solve_by-requires-clause-ready
+solve_by-requires-clause-ready g c = omega arith
+
+pub solve_with-requires-clause-back : goal.solve_with-requires-clause-back
+solve_with-requires-clause-back g c = grind (arith, common_steps)
+
+pub solve_with-requires-clause-few : goal.solve_with-requires-clause-few
+solve_with-requires-clause-few g c = omega arith
+
+pub solve_with-requires-clause-near : goal.solve_with-requires-clause-near
+solve_with-requires-clause-near g c = grind (arith, common_steps)
+
+pub solve_with-requires-clause-same : goal.solve_with-requires-clause-same
+solve_with-requires-clause-same g c = grind (arith, common_steps)
+
+pub solve_with-requires-clause-some : goal.solve_with-requires-clause-some
+solve_with-requires-clause-some g c = omega arith

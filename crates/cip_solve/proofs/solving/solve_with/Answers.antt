@@ -1,4 +1,5 @@
-use Rattle.std.proofs.Common.{◌∙◌, ap, false, inl, sym, subst, true≢false}
+use Rattle.std.proofs.lemmas.Grind.{common_steps}
+use Rattle.std.proofs.Common.{◌∙◌, ap, false, inl, sym, subst, true≢false, arith}
 use Rattle.cip_problem.specs.Program.{Program}
 use Rattle.cip_problem.specs.WellFormed.{columns}
 use Rattle.cip_tree.specs.Entries as tree
@@ -59,3 +60,27 @@ returns-in-Ok-clause-kit g c = kit_told _ _ _ _ _ _ (ap (λ (a : Answer). a.trac
   served = c.search_from-answer.ensures.asked.1;
   ends = c.end-trace.ensures.ended;
 }))
+
+pub end-trace-requires-clause-sound : goal.end-trace-requires-clause-sound
+end-trace-requires-clause-sound g c = grind (arith, common_steps)
+
+pub returns-in-Err-clause-first : goal.returns-in-Err-clause-first
+returns-in-Err-clause-first g c = grind (arith, common_steps)
+
+pub returns-in-Err-clause-kit : goal.returns-in-Err-clause-kit
+returns-in-Err-clause-kit g c = grind (arith, common_steps)
+
+pub returns-in-Err-clause-nodes : goal.returns-in-Err-clause-nodes
+returns-in-Err-clause-nodes g c = grind (arith, common_steps)
+
+pub search_from-answer-requires-clause-some : goal.search_from-answer-requires-clause-some
+search_from-answer-requires-clause-some g c = omega arith
+
+pub set_out-requires-clause-back : goal.set_out-requires-clause-back
+set_out-requires-clause-back g c = grind (arith, common_steps)
+
+pub set_out-requires-clause-few : goal.set_out-requires-clause-few
+set_out-requires-clause-few g c = omega arith
+
+pub set_out-requires-clause-near : goal.set_out-requires-clause-near
+set_out-requires-clause-near g c = grind (arith, common_steps)

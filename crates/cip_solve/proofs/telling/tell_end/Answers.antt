@@ -1,4 +1,5 @@
-use Rattle.std.proofs.Common.{subst, sym, ◌∙◌}
+use Rattle.std.proofs.lemmas.Grind.{common_steps}
+use Rattle.std.proofs.Common.{subst, sym, ◌∙◌, arith}
 use Rattle.cip_roster.specs.Turns.{IsSound}
 use Rattle.cip_roster.specs.Wished.{Ran}
 use Rattle.cip_solve.proofs.Coming.{ran_none}
@@ -23,3 +24,6 @@ returns-clause-frame g c = (c.tell.ensures.frame.0 ∙ c.queue_both.ensures.rest
 pub returns-clause-used : goal.returns-clause-used
 returns-clause-used g c =
     told_behind (λ r. g.R.Seated.state r) (λ v. v.items) _ _ _ _ c.tell.result _ _ _ c.queue_both.ensures.roster c.queue_both.ensures.rest.1 c.tell.ensures.used
+
+pub returns-clause-sound : goal.returns-clause-sound
+returns-clause-sound g c = grind (arith, common_steps)

@@ -1,3 +1,5 @@
+use Rattle.std.proofs.lemmas.Grind.{common_steps}
+use Rattle.std.proofs.Common.{arith}
 use Rattle.cip_blocks.specs.BlockTexts.{steps_of, kept_of, state_of}
 use Rattle.cip_text.proofs.Streams.{line_ended}
 use Rattle.cip_blocks.proofs.block_text.BlockText.end_line.Goals as goal
@@ -6,3 +8,6 @@ pub returns-clause-reads : goal.returns-clause-reads
 returns-clause-reads c = λ s h.
     let text = c.args.self.now in
     line_ended (steps_of text) (kept_of text) _ _ _ (state_of text) _ c.in_ok-kind.kind s c.args.tail.now c.requires.no_feed h c.in_ok-keep.ensures.kept c.in_ok-kind.ensures.read c.read_unread.ensures.kept c.end_line.ensures
+
+pub end_line-requires : goal.end_line-requires
+end_line-requires c = grind (arith, common_steps)

@@ -1,3 +1,4 @@
+use Rattle.std.proofs.lemmas.Grind.{common_steps}
 use Rattle.std.proofs.Common.{◌≡◌, ◌∷◌, ◌++◌, ◌∙◌, [], ap, arith, length-append, length}
 use Rattle.std.specs.Prelude.{fold}
 use Rattle.std.proofs.lemmas.Result.{on_ok_weaker}
@@ -33,3 +34,12 @@ returns-clause-reads c = λ s h.
     let now = c.args.self.now in
     let found = c.loop-tail.invariant.reads s h in
     on_ok_weaker c.keep.result (λ e. rest_kept (steps_of now) (kept_of text) _ (state_of text) s found.0 c.args.bytes.now c.loop-tail.rest.now c.in_default.ensures found.1.0 found.1.1 e) c.keep.ensures.kept
+
+pub end_line-requires-clause-few : goal.end_line-requires-clause-few
+end_line-requires-clause-few c = grind (arith, common_steps)
+
+pub loop-tail-init : goal.loop-tail-init
+loop-tail-init c = grind (arith, common_steps)
+
+pub loop-tail-smaller : goal.loop-tail-smaller
+loop-tail-smaller c = grind (arith, common_steps)

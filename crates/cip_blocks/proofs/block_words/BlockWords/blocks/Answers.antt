@@ -1,4 +1,5 @@
-use Rattle.std.proofs.Common.{◌≡◌, ℕ, ◌<◌, List, Option, ap, sym, subst, ◌∙◌}
+use Rattle.std.proofs.lemmas.Grind.{common_steps}
+use Rattle.std.proofs.Common.{◌≡◌, ℕ, ◌<◌, List, Option, ap, sym, subst, ◌∙◌, arith}
 use Rattle.std.specs.Prelude.{All, IfSome}
 use Rattle.std.proofs.lemmas.Result.{IfOk-weaker}
 use Rattle.cip_problem.specs.BlockParts.{blocks_by}
@@ -30,3 +31,6 @@ returns c =
     ∙ ap (λ cs. blocks_by (count_of (state_of words)) ending.row_blocks.items cs) c.as_slice-2.ensures.value
     ∙ kept_blocks c.owners_are_right.ensures words ending c.requires.ending c.requires.no_fault in
     IfOk-weaker c.new.result _ _ (λ blocks e. e ∙ made) c.new.ensures
+
+pub new-requires-clause-few_rows : goal.new-requires-clause-few_rows
+new-requires-clause-few_rows c = grind (arith, common_steps)

@@ -1,4 +1,5 @@
-use Rattle.std.proofs.Common.{◌≡◌, ap, ◌∙◌, map, length, None}
+use Rattle.std.proofs.lemmas.Grind.{common_steps}
+use Rattle.std.proofs.Common.{◌≡◌, ap, ◌∙◌, map, length, None, arith}
 use Rattle.std.specs.Prelude.{replicate}
 use Rattle.std.specs.List.{list_all}
 use Rattle.cip_text_rules.specs.BlockWords as text
@@ -15,3 +16,6 @@ returns-clause-state c =
     let rows : map row_shown c.in_ok-rows.rows.items ≡ replicate _ steps.Unnamed =
     ap (map row_shown) c.in_ok-rows.ensures ∙ none_named c.len.result ∙ ap (λ n. replicate n steps.Unnamed) (c.len.ensures ∙ ap (λ names. length names) c.row_names.ensures.names) in
     λ i. record { place = text.KeywordDue; count = None; begun = c.new.ensures.items i; rows = rows i }
+
+pub invariant_of-result-clause-rows_sized : goal.invariant_of-result-clause-rows_sized
+invariant_of-result-clause-rows_sized c = grind (arith, common_steps)

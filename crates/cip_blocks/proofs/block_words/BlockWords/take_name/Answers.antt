@@ -1,3 +1,4 @@
+use Rattle.std.proofs.lemmas.Grind.{common_steps}
 use Rattle.std.proofs.Common.{◌≡◌, ◌<◌, Some, ap, sym, ◌∙◌, arith, length, false}
 use Rattle.std.specs.Prelude.{unwrap_or}
 use Rattle.cip_problem.specs.Names.{number_of}
@@ -30,3 +31,9 @@ returns-clause-taken c =
           let rows = shown_set words.rows.items number (Named c.args.block) ∙ ap (λ o. put_row (state_of words).rows o (place_of c.args.block)) (sym known) in
           λ i. record { place = ap place_shown c.requires i; count = words.count; begun = words.begun.items; rows = rows i };
     }
+
+pub index-requires : goal.index-requires
+index-requires c = grind (arith, common_steps)
+
+pub index_mut-requires : goal.index_mut-requires
+index_mut-requires c = grind (arith, common_steps)

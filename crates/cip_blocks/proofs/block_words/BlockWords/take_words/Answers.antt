@@ -1,4 +1,5 @@
-use Rattle.std.proofs.Common.{None, Some, ap, ◌∙◌}
+use Rattle.std.proofs.lemmas.Grind.{common_steps}
+use Rattle.std.proofs.Common.{None, Some, ap, ◌∙◌, arith}
 use Rattle.std.specs.Prelude.{fold}
 use Rattle.cip_text.specs.TextLines.{fields_left}
 use Rattle.cip_text_rules.specs.LineStream.{Going, item_read}
@@ -33,3 +34,6 @@ returns-in-Some-2-clause-read c = λ number.
     let taken = same_program (program_of words) (program_of now) (state_of words) (state_of after) c.in-Some.word.now c.in_ok-kind.field-0 (Some c.in-Some-2.kind) c.loop-word.invariant.same c.in-Some-2.is c.in_ok-kind.ensures.taken in
     c.loop-word.invariant.read number
     ∙ words_failed (program_of now) (state_of words) (state_of after) (fields_left c.loop-word.left) (fields_left c.next_field.new.self) c.in-Some.word.now number c.in-Some-2.kind c.in-Some.ensures taken
+
+pub loop-word-smaller : goal.loop-word-smaller
+loop-word-smaller c = grind (arith, common_steps)

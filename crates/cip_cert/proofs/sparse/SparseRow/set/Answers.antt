@@ -1,3 +1,4 @@
+use Rattle.std.proofs.lemmas.Grind.{common_steps}
 use Rattle.std.proofs.Common.{◌≡◌, ◌*◌, ◌<◌, ◌∙◌, arith, length, ap, set}
 use Rattle.std.proofs.lemmas.List.{length-set}
 use Rattle.cip_cert.specs.Touched.{Touched}
@@ -17,3 +18,12 @@ invariant_of-self c =
       short = omega (arith, same, c.push_reserved.ensures.len, c.self.inside.touched.ok.0, room);
       room = omega (arith, same, c.push_reserved.ensures.capacity, c.self.invariant.room);
     }
+
+pub index_mut-requires : goal.index_mut-requires
+index_mut-requires c = grind (arith, common_steps)
+
+pub push_reserved-requires : goal.push_reserved-requires
+push_reserved-requires c = grind (arith, common_steps)
+
+pub returns : goal.returns
+returns c = grind (arith, common_steps)

@@ -1,3 +1,5 @@
+use Rattle.std.proofs.lemmas.Grind.{common_steps}
+use Rattle.std.proofs.Common.{arith}
 use Rattle.cip_cert.proofs.Cleared.{tells_sorted}
 use Rattle.cip_cert.proofs.sparse.SparseRow.sort.Goals as goal
 
@@ -11,3 +13,6 @@ invariant_of-self c = record {
   short = rw c.sort_unstable.ensures.len c.self.invariant.short;
   room = rw c.sort_unstable.ensures.capacity c.self.invariant.room;
 }
+
+pub returns-clause-entries : goal.returns-clause-entries
+returns-clause-entries c = grind (arith, common_steps)

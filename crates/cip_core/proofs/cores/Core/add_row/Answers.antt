@@ -1,3 +1,4 @@
+use Rattle.std.proofs.lemmas.Grind.{common_steps}
 use Rattle.std.proofs.Common.{◌≡◌, ◌∙◌, List, Option, Some, length, Ok, if◌then◌else◌, sym, ap, subst, arith}
 use Rattle.cip_problem.specs.Program.{Row}
 use Rattle.cip_problem.specs.WellFormed.{columns}
@@ -176,3 +177,9 @@ invariant_of-self-in_err-added-in-Ok c =
       sound_kept core c.add.new.self c.in_err-added-in-Ok.ensures.added c.self.invariant.0,
       subst (IsFitted core.reduced (held_of core) c.self.inside.cutoff c.self.inside.whole_costs) (sym c.in-Ok.ensures.columns) c.self.invariant.1,
     )
+
+pub add-requires-clause-coefficients : goal.add-requires-clause-coefficients
+add-requires-clause-coefficients c = omega arith
+
+pub invariant_of-self : goal.invariant_of-self
+invariant_of-self c = grind (arith, common_steps)

@@ -1,4 +1,5 @@
-use Rattle.std.proofs.Common.{◌≡◌, ◌∙◌, if◌then◌else◌, length, sym, ap, subst}
+use Rattle.std.proofs.lemmas.Grind.{common_steps}
+use Rattle.std.proofs.Common.{◌≡◌, ◌∙◌, if◌then◌else◌, length, sym, ap, subst, arith}
 use Rattle.std.specs.Prelude.{MatchResult}
 use Rattle.cip_problem.specs.Cuts.{row_of}
 use Rattle.cip_problem.specs.Improving.{IsValid}
@@ -54,3 +55,6 @@ returns-clause-later c =
     let local = c.args.local in
     let w = subst (λ (o : CoreState). IsAtWork o node) (sym same) c.requires.at_work in
     subst (λ (o : CoreState). IsLaterAt o node (with_pool core c.add.new.self) node) same (later_pooled core c.add.new.self node w)
+
+pub add-requires-clause-coefficients : goal.add-requires-clause-coefficients
+add-requires-clause-coefficients c = grind (arith, common_steps)

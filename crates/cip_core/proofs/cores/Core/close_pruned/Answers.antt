@@ -1,4 +1,5 @@
-use Rattle.std.proofs.Common.{◌≡◌, ◌++◌, ◌∷◌, [], sym, ap, subst}
+use Rattle.std.proofs.lemmas.Grind.{common_steps}
+use Rattle.std.proofs.Common.{◌≡◌, ◌++◌, ◌∷◌, [], sym, ap, subst, arith}
 use Rattle.cip_tree.specs.Nodes.{Nodes}
 use Rattle.cip_core.specs.CoreStates.{CoreState}
 use Rattle.cip_problem.specs.Log.{Closed}
@@ -13,3 +14,6 @@ returns-clause-left c =
     let tree = c.close.new.self in
     let rest = subst (λ (t : Nodes). tree ≡ record t { taken = tree.taken; log = t.log ++ record { node = node.number; bound = node.bound; end = Closed } ∷ [] }) (ap (λ (o : CoreState). o.tree) c.self.view_is) c.close.ensures.rest in
     subst (λ (o : CoreState). HasLeft core (with_tree o tree) node Closed) (sym c.self.view_is) (left_pruned core node tree c.requires.up rest c.requires.passed)
+
+pub close-requires : goal.close-requires
+close-requires c = grind (arith, common_steps)

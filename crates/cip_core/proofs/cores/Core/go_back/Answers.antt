@@ -1,4 +1,5 @@
-use Rattle.std.proofs.Common.{◌≡◌, ◌∷◌, sym, subst}
+use Rattle.std.proofs.lemmas.Grind.{common_steps}
+use Rattle.std.proofs.Common.{◌≡◌, ◌∷◌, sym, subst, arith}
 use Rattle.std.specs.List.Sorted.{IsPermutation}
 use Rattle.cip_tree.specs.Nodes.{TakenNode, shown}
 use Rattle.cip_core.specs.CoreStates.{CoreState, IsTakenUp, IsGivenBound}
@@ -19,3 +20,6 @@ returns-clause-back c =
     let nodes = subst (λ (n : TakenNode). IsPermutation (shown core.tree n ∷ core.tree.open_) back.open_) c.give_bound.ensures c.put_back.ensures.nodes in
     let trimmed = subst (IsTrimmed back tree) c.cost_of-held.ensures c.let_go.ensures in
     subst (λ (o : CoreState). IsBack o (with_tree core tree) node.number bound) same (gone_back core node bound back tree up given nodes c.put_back.ensures.rest trimmed)
+
+pub put_back-requires : goal.put_back-requires
+put_back-requires c = grind (arith, common_steps)

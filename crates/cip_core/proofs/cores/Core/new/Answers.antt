@@ -1,4 +1,5 @@
-use Rattle.std.proofs.Common.{◌∙◌, ap}
+use Rattle.std.proofs.lemmas.Grind.{common_steps}
+use Rattle.std.proofs.Common.{◌∙◌, ap, arith}
 use Rattle.std.specs.Prelude.{replicate}
 use Rattle.cip_rational.specs.Rational.{zeroℚ}
 use Rattle.cip_core.proofs.Made.{no_rows, plain_row, made_sound, made_begun, made_fitted}
@@ -18,3 +19,12 @@ returns c =
     made_begun c.args.program.now c.args.presolved.now c.in-Ok-rooted_tree.tree c.new-3.result c.in_ok-incumbent.incumbent
     (c.new-3.ensures ∙ ap no_rows c.columns-columns.ensures.count) c.in_ok-incumbent.ensures
     c.in-Ok-rooted_tree.ensures.root c.in-Ok-rooted_tree.ensures.new c.in-Ok-rooted_tree.ensures.kept c.in-Ok-rooted_tree.ensures.boxes
+
+pub open_cutoff-requires : goal.open_cutoff-requires
+open_cutoff-requires c = grind (arith, common_steps)
+
+pub rooted_tree-requires-clause-back : goal.rooted_tree-requires-clause-back
+rooted_tree-requires-clause-back c = grind (arith, common_steps)
+
+pub rooted_tree-requires-clause-near : goal.rooted_tree-requires-clause-near
+rooted_tree-requires-clause-near c = grind (arith, common_steps)

@@ -1,4 +1,5 @@
-use Rattle.std.proofs.Common.{◌≡◌, ◌∷◌, [], ◌∙◌, length, sym, ap, subst}
+use Rattle.std.proofs.lemmas.Grind.{common_steps}
+use Rattle.std.proofs.Common.{◌≡◌, ◌∷◌, [], ◌∙◌, length, sym, ap, subst, arith}
 use Rattle.cip_problem.specs.WellFormed.{columns}
 use Rattle.cip_model.specs.Verdicts.{verdict_of}
 use Rattle.cip_model.proofs.Meaning.Point.{verdict_holds}
@@ -77,3 +78,6 @@ invariant_of-self c =
           (sym (c.set_side.ensures ∙ ap (with_high c.self.inside.cutoff) side))
           (fitted_offered core.reduced (cost_held core.incumbent) (cost_held holding) c.self.inside.cutoff c.self.inside.whole_costs (length c.self.inside.scratch.row.entries) c.self.invariant.1),
     )
+
+pub offer-answer-requires-clause-values : goal.offer-answer-requires-clause-values
+offer-answer-requires-clause-values c = grind (arith, common_steps)

@@ -1,4 +1,5 @@
-use Rattle.std.proofs.Common.{◌≡◌, ◌∷◌, [], ◌∙◌, length, sym, ap, subst}
+use Rattle.std.proofs.lemmas.Grind.{common_steps}
+use Rattle.std.proofs.Common.{◌≡◌, ◌∷◌, [], ◌∙◌, length, sym, ap, subst, arith}
 use Rattle.cip_problem.specs.WellFormed.{columns}
 use Rattle.cip_model.specs.Meaning.{VerdictHolds}
 use Rattle.cip_model.specs.Verdicts.{verdict_of}
@@ -82,3 +83,6 @@ invariant_of-self c =
           (sym (c.set_side.ensures ∙ ap (with_high c.self.inside.cutoff) side))
           (fitted_offered core.reduced (cost_held core.incumbent) (cost_held holding) c.self.inside.cutoff c.self.inside.whole_costs (length c.self.inside.scratch.row.entries) c.self.invariant.1),
     )
+
+pub offer_at-answer-requires : goal.offer_at-answer-requires
+offer_at-answer-requires c = grind (arith, common_steps)

@@ -1,4 +1,5 @@
-use Rattle.std.proofs.Common.{Err, ap, subst}
+use Rattle.std.proofs.lemmas.Grind.{common_steps}
+use Rattle.std.proofs.Common.{Err, ap, subst, arith}
 use Rattle.cip_presolve.specs.PostsolveFaults.{IsPostsolveFault}
 use Rattle.cip_core.specs.CoreStates.{CoreState}
 use Rattle.cip_core.proofs.OfferedBack.{tried_past}
@@ -10,3 +11,6 @@ returns-in-Err-clause-tried c = λ n. tried_past c.args.self.now c.args.point.no
 
 pub returns-in-Err-clause-later : goal.returns-in-Err-clause-later
 returns-in-Err-clause-later c = later_at_itself c.args.self.now c.args.node.now c.requires.at_work
+
+pub offer-requires-clause-at_work : goal.offer-requires-clause-at_work
+offer-requires-clause-at_work c = grind (arith, common_steps)

@@ -1,4 +1,5 @@
-use Rattle.std.proofs.Common.{◌≡◌, ◌++◌, ◌∷◌, [], sym, ap, subst}
+use Rattle.std.proofs.lemmas.Grind.{common_steps}
+use Rattle.std.proofs.Common.{◌≡◌, ◌++◌, ◌∷◌, [], sym, ap, subst, arith}
 use Rattle.cip_tree.specs.Nodes.{Nodes, shown}
 use Rattle.cip_core.specs.CoreStates.{CoreState}
 use Rattle.cip_problem.specs.Log.{Parked}
@@ -13,3 +14,6 @@ returns-clause-later c =
     let tree = c.park.new.self in
     let rest = subst (λ (t : Nodes). tree ≡ record t { parked = t.parked ++ shown t node ∷ []; taken = tree.taken; log = t.log ++ record { node = node.number; bound = node.bound; end = Parked } ∷ [] }) (ap (λ (o : CoreState). o.tree) c.self.view_is) c.park.ensures.rest in
     subst (λ (o : CoreState). IsLater core (with_tree o tree)) (sym c.self.view_is) (endless_later core node tree c.requires rest)
+
+pub park-requires : goal.park-requires
+park-requires c = grind (arith, common_steps)

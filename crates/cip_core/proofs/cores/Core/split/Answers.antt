@@ -1,3 +1,4 @@
+use Rattle.std.proofs.lemmas.Grind.{common_steps}
 use Rattle.std.proofs.Common.{◌≡◌, ◌+◌, sym, subst, arith, to_z, of_z}
 use mir.Syntax.{w128}
 use Rattle.std.proofs.lemmas.Int.{ints}
@@ -27,3 +28,27 @@ returns-in-Ok-clause-split c =
     let place = subst (λ (o : CoreState). IsSplitPlace (reduced_of o).integral (node_region o.tree node) (farthest o.tree.ids + 1) c.args.col at) (sym same) c.requires.place.2 in
     let trimmed = subst (IsTrimmed halved tree) c.cost_of-held.ensures c.let_go.ensures in
     subst (λ (o : CoreState). HasLeft o (with_tree core tree) node (Split c.args.col at low high)) same (split_off core node c.args.col at low high halved tree up s place c.log-log.ensures.searched trimmed)
+
+pub go_back-requires-clause-given : goal.go_back-requires-clause-given
+go_back-requires-clause-given c = grind (arith, common_steps)
+
+pub go_back-requires-clause-up : goal.go_back-requires-clause-up
+go_back-requires-clause-up c = grind (arith, common_steps)
+
+pub invariant_of-self-in-Err-NoMemory : goal.invariant_of-self-in-Err-NoMemory
+invariant_of-self-in-Err-NoMemory c = grind (arith, common_steps)
+
+pub split-requires-clause-column : goal.split-requires-clause-column
+split-requires-clause-column c = grind (arith, common_steps)
+
+pub split-requires-clause-few : goal.split-requires-clause-few
+split-requires-clause-few c = grind (arith, common_steps)
+
+pub split-requires-clause-taken : goal.split-requires-clause-taken
+split-requires-clause-taken c = grind (arith, common_steps)
+
+pub split-requires-clause-wholes : goal.split-requires-clause-wholes
+split-requires-clause-wholes c = grind (arith, common_steps)
+
+pub split-requires-clause-work : goal.split-requires-clause-work
+split-requires-clause-work c = grind (arith, common_steps)

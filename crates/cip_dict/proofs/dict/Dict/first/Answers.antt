@@ -1,3 +1,4 @@
+use Rattle.std.proofs.lemmas.Grind.{common_steps}
 use Rattle.std.proofs.Common.{◌≡◌, ◌∙◌, ◌+◌, ap, ap₂, sym, length, length-append, arith}
 use Rattle.cip_bland.specs.FirstState.{first}
 use Rattle.cip_bland.proofs.First.{first_states_tell}
@@ -17,3 +18,9 @@ invariant_of-result c =
       room_long = rw c.as_slice.ensures.value at c.in-Ok-first_lists.ensures.3;
       consistent = rw same (first_states_tell (system_in c.args.entries.now c.args.row_sides.now c.args.column_sides.now c.args.costs.now)).consistent;
     }
+
+pub first_lists-requires-clause-within : goal.first_lists-requires-clause-within
+first_lists-requires-clause-within c = omega arith
+
+pub returns-in-Ok-first_lists : goal.returns-in-Ok-first_lists
+returns-in-Ok-first_lists c = grind (arith, common_steps)

@@ -1,4 +1,5 @@
-use Rattle.std.proofs.Common.{◌≡◌, sym, ap, ◌∙◌}
+use Rattle.std.proofs.lemmas.Grind.{common_steps}
+use Rattle.std.proofs.Common.{◌≡◌, sym, ap, ◌∙◌, arith}
 use Rattle.cip_rational.specs.Rational.{ratio}
 use Rattle.cip_problem.specs.Activity.{value_at}
 use Rattle.cip_dict.specs.WholeLines.{number_on}
@@ -25,3 +26,15 @@ returns-else-self c =
     let entry = rw c.as_slice-else-self.ensures.value at c.entry_of.ensures
     ∙ sym (dense_read c.self.inside.len c.self.inside.entries.items c.args.self.now c.args.k (parted_view c.self.inside.len c.self.inside.is_whole c.self.inside.below c.self.inside.wholes.items c.self.inside.entries.items c.args.self.now c.self.invariant c.self.view_is c.if-self.false) c.requires) in
     rw entry at c.add_product.ensures
+
+pub add_over-requires-clause-positive : goal.add_over-requires-clause-positive
+add_over-requires-clause-positive c = grind (arith, common_steps)
+
+pub add_over-requires-clause-small : goal.add_over-requires-clause-small
+add_over-requires-clause-small c = grind (arith, common_steps)
+
+pub entry_of-requires : goal.entry_of-requires
+entry_of-requires c = grind (arith, common_steps)
+
+pub number_of-n-requires-clause-small : goal.number_of-n-requires-clause-small
+number_of-n-requires-clause-small c = grind (arith, common_steps)

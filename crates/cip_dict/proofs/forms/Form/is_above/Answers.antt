@@ -1,4 +1,5 @@
-use Rattle.std.proofs.Common.{◌≡◌, sym, ap, ◌∙◌}
+use Rattle.std.proofs.lemmas.Grind.{common_steps}
+use Rattle.std.proofs.Common.{◌≡◌, sym, ap, ◌∙◌, arith}
 use Rattle.cip_rational.specs.Rational.{zeroℚ, lt_test}
 use Rattle.cip_dict.specs.WholeLines.{number_on}
 use Rattle.cip_dict.proofs.Dense.{dense_read}
@@ -19,3 +20,6 @@ returns-else-self c =
     let entry = rw c.as_slice-else-self.ensures.value at c.entry_of.ensures
     ∙ sym (dense_read c.self.inside.len c.self.inside.entries.items c.args.self.now c.args.k (parted_view c.self.inside.len c.self.inside.is_whole c.self.inside.below c.self.inside.wholes.items c.self.inside.entries.items c.args.self.now c.self.invariant c.self.view_is c.if-self.false) c.requires) in
     c.is_below.ensures ∙ ap (λ z. lt_test z c.entry_of.result) c.zero.ensures ∙ ap (λ q. lt_test zeroℚ q) entry
+
+pub entry_of-requires : goal.entry_of-requires
+entry_of-requires c = grind (arith, common_steps)

@@ -1,3 +1,4 @@
+use Rattle.std.proofs.lemmas.Grind.{common_steps}
 use Rattle.std.proofs.Common.{◌≡◌, ◌<◌, ◌∙◌, ap, length, arith, set}
 use Rattle.cip_dict.specs.SparseLines.{AreKept}
 use Rattle.cip_dict.specs.WholeLines.{over, kept_in}
@@ -28,3 +29,18 @@ returns-then-branch c =
     numbers_dense c.self.inside.len c.self.inside.is_whole c.self.inside.below c.put_behind.new.wholes.items c.self.inside.entries.items c.if-self.true _
     (dense_set c.self.inside.len c.args.k c.args.entry (over c.self.inside.below c.self.inside.wholes.items) (over c.self.inside.below c.put_behind.new.wholes.items) l (c.in_ok-put_behind.ensures.put c.if-branch.true)
     ∙ ap (λ xs. set xs c.args.k c.args.entry) (whole_view c.self.inside.len c.self.inside.is_whole c.self.inside.below c.self.inside.wholes.items c.self.inside.entries.items c.args.self.now c.self.invariant c.self.view_is c.if-self.true))
+
+pub invariant_of-self-else-branch : goal.invariant_of-self-else-branch
+invariant_of-self-else-branch c = grind (arith, common_steps)
+
+pub put_behind-requires-clause-kept : goal.put_behind-requires-clause-kept
+put_behind-requires-clause-kept c = grind (arith, common_steps)
+
+pub put_behind-requires-clause-whole : goal.put_behind-requires-clause-whole
+put_behind-requires-clause-whole c = grind (arith, common_steps)
+
+pub returns : goal.returns
+returns c = grind (arith, common_steps)
+
+pub set_parted-requires : goal.set_parted-requires
+set_parted-requires c = grind (arith, common_steps)

@@ -1,3 +1,4 @@
+use Rattle.std.proofs.lemmas.Grind.{common_steps}
 use Rattle.std.proofs.Common.{◌≡◌, ◌∙◌, ap, length, arith, set, false, refl}
 use Rattle.cip_dict.specs.WholeLines.{over, kept_in}
 use Rattle.cip_dict.proofs.Dense.{dense_set, on_ok}
@@ -40,3 +41,9 @@ returns c =
     (λ h. parted_dense c.self.inside.len c.self.inside.is_whole c.self.inside.below c.self.inside.wholes.items c.put_entry.new.entries.items c.if-self.false _
     (dense_set c.self.inside.len c.args.k c.args.entry c.self.inside.entries.items c.put_entry.new.entries.items (omega (arith, n, c.requires)) h
     ∙ ap (λ xs. set xs c.args.k c.args.entry) (parted_view c.self.inside.len c.self.inside.is_whole c.self.inside.below c.self.inside.wholes.items c.self.inside.entries.items c.args.self.now c.self.invariant c.self.view_is c.if-self.false)))
+
+pub invariant_of-self : goal.invariant_of-self
+invariant_of-self c = grind (arith, common_steps)
+
+pub put_over-requires-clause-whole : goal.put_over-requires-clause-whole
+put_over-requires-clause-whole c = grind (arith, common_steps)

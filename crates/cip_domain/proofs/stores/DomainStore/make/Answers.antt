@@ -1,3 +1,4 @@
+use Rattle.std.proofs.lemmas.Grind.{common_steps}
 use Rattle.std.proofs.Common.{◌≡◌, ◌<◌, true, ◌∙◌, refl, sym, ap, length, arith}
 use Rattle.cip_problem.specs.Program.{Sides}
 use Rattle.cip_lin.specs.declared.sides.Side.TheVariants.{Low, High}
@@ -81,3 +82,15 @@ returns-clause-same c = λ n. absurd (n refl)
 pub returns-clause-marks : goal.returns-clause-marks
 returns-clause-marks c = keeps_trans _ _ _ c.meet.ensures.marks
     (keeps_trans _ _ _ c.meet-2.ensures.marks c.settle.ensures.marks)
+
+pub meet-requires-2-clause-column : goal.meet-requires-2-clause-column
+meet-requires-2-clause-column c = grind (arith, common_steps)
+
+pub returns-then-is_settled-clause-outcome : goal.returns-then-is_settled-clause-outcome
+returns-then-is_settled-clause-outcome c = grind (arith, common_steps)
+
+pub settle-requires-clause-column : goal.settle-requires-clause-column
+settle-requires-clause-column c = grind (arith, common_steps)
+
+pub sides-own-requires : goal.sides-own-requires
+sides-own-requires c = grind (arith, common_steps)

@@ -1,3 +1,4 @@
+use Rattle.std.proofs.lemmas.Grind.{common_steps}
 use Rattle.std.proofs.Common.{◌≡◌, ◌∙◌, true, false, ap, sym, arith}
 use Rattle.cip_problem.specs.Box.{sides_at}
 use Rattle.cip_domain.specs.Changes.{is_as_strong, tightened, one_side}
@@ -53,3 +54,6 @@ returns-in_default-clause-marks c = keeps_itself c.args.self.now
 
 pub returns-in_default-clause-room : goal.returns-in_default-clause-room
 returns-in_default-clause-room c = omega arith
+
+pub sides-requires : goal.sides-requires
+sides-requires c = grind (arith, common_steps)

@@ -1,3 +1,4 @@
+use Rattle.std.proofs.lemmas.Grind.{common_steps}
 use Rattle.std.proofs.Common.{◌∙◌, ap, sym, length, arith}
 use Rattle.cip_problem.specs.Box.{sides_at}
 use Rattle.cip_problem.specs.Choices.{choice_at}
@@ -24,3 +25,12 @@ make-requires-clause-room c = c.in_ok-reserve.ensures.room
 
 pub returns-in-Empty-clause-marks : goal.returns-in-Empty-clause-marks
 returns-in-Empty-clause-marks c = keeps_trans _ _ _ (room_keeps _ _ c.reserve.ensures.same) c.make.ensures.marks
+
+pub make-requires-clause-column : goal.make-requires-clause-column
+make-requires-clause-column c = grind (arith, common_steps)
+
+pub returns-in_default : goal.returns-in_default
+returns-in_default c = grind (arith, common_steps)
+
+pub returns-then-change-len-clause-narrowed : goal.returns-then-change-len-clause-narrowed
+returns-then-change-len-clause-narrowed c = grind (arith, common_steps)

@@ -1,3 +1,4 @@
+use Rattle.std.proofs.lemmas.Grind.{common_steps}
 use Rattle.std.proofs.Common.{◌≡◌, ◌∙◌, None, length, ap, sym, arith}
 use Rattle.std.proofs.lemmas.List.{get_or-set_same, length-set}
 use Rattle.cip_problem.specs.Program.{Sides, Choice, Plain, Open}
@@ -140,3 +141,6 @@ returns-in-Some-clause-room c = omega (
   ap (λ
       (d : Domain). d.spare) c.step-in-Some-2.ensures,
 )
+
+pub sides-sides-requires : goal.sides-sides-requires
+sides-sides-requires c = grind (arith, common_steps)

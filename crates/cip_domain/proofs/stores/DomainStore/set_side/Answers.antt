@@ -1,4 +1,5 @@
-use Rattle.std.proofs.Common.{◌≡◌, ◌∙◌, ap}
+use Rattle.std.proofs.lemmas.Grind.{common_steps}
+use Rattle.std.proofs.Common.{◌≡◌, ◌∙◌, ap, arith}
 use Rattle.cip_problem.specs.Box.{sides_at}
 use Rattle.cip_problem.specs.Choices.{choice_at}
 use Rattle.cip_domain.specs.Changes.{with_column, with_side}
@@ -23,3 +24,9 @@ step-requires-clause-back c =
     ∙ ap (λ w. undone (with_column region col w c.choice-choice.result) (let s : Saved = record { col = col; was = kind_of c.args.side; value = value_of c.args.side own } in s)) now
     ∙ ap (λ h. undone (with_column region col (with_side own c.args.side c.args.value) h) (let s : Saved = record { col = col; was = kind_of c.args.side; value = value_of c.args.side own } in s)) choice
     ∙ side_back region col c.args.side c.args.value c.requires.column
+
+pub returns : goal.returns
+returns c = grind (arith, common_steps)
+
+pub sides-sides-requires : goal.sides-sides-requires
+sides-sides-requires c = grind (arith, common_steps)

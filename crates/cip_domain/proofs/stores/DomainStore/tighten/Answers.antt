@@ -1,4 +1,5 @@
-use Rattle.std.proofs.Common.{◌≡◌, false, true, ◌∙◌, sym, ap, ap₂, refl, if◌then◌else◌}
+use Rattle.std.proofs.lemmas.Grind.{common_steps}
+use Rattle.std.proofs.Common.{◌≡◌, false, true, ◌∙◌, sym, ap, ap₂, refl, if◌then◌else◌, arith}
 use Rattle.cip_problem.specs.Box.{sides_at}
 use Rattle.cip_domain.specs.Changes.{is_as_strong, would_cross}
 use Rattle.cip_domain.specs.Domain.{Domain, region_of}
@@ -56,3 +57,9 @@ returns-clause-outcome c =
     (λ s. is_as_strong s c.args.side c.args.value) (sym at) ∙ sym c.is_strong.ensures
     ∙ c.if-is_strong.false) (ap (λ s. would_cross s c.args.side c.args.value) (sym at) ∙ sym c.crosses.ensures
     ∙ c.if-crosses.false))
+
+pub returns-clause-after : goal.returns-clause-after
+returns-clause-after c = grind (arith, common_steps)
+
+pub sides-sides-requires : goal.sides-sides-requires
+sides-sides-requires c = grind (arith, common_steps)

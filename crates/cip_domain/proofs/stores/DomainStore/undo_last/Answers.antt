@@ -1,3 +1,4 @@
+use Rattle.std.proofs.lemmas.Grind.{common_steps}
 use Rattle.std.proofs.Common.{◌≡◌, ◌∙◌, ap, length, arith}
 use Rattle.std.proofs.lemmas.List.{length-set}
 use Rattle.cip_problem.specs.Box.{sides_at}
@@ -55,3 +56,6 @@ returns-in_default-clause-room c = absurd (omega (
   c.self.inside.trail.ok.0,
   c.in_default.ensures.cases.0,
 ))
+
+pub returns-in-Some-clause-room : goal.returns-in-Some-clause-room
+returns-in-Some-clause-room c = grind (arith, common_steps)

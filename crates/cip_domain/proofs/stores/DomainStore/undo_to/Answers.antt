@@ -1,3 +1,4 @@
+use Rattle.std.proofs.lemmas.Grind.{common_steps}
 use Rattle.std.proofs.Common.{◌≡◌, ◌<◌, ap, length, arith}
 use Rattle.cip_domain.specs.Domain.{region_of, regions}
 use Rattle.cip_domain.proofs.Marks.{earlier_stay}
@@ -52,3 +53,9 @@ returns-clause-earlier c = λ other l.
     (undone_before c.args.self.now.before c.loop-mark.self.before (region_of c.args.self.now) (region_of c.loop-mark.self) c.args.mark at (omega (arith, c.requires.held)) c.loop-mark.invariant.regions_are)
     (undone_region (regions c.args.self.now) c.loop-mark.self.before (region_of c.loop-mark.self) (region_of c.args.self.now) c.args.mark at c.loop-mark.invariant.regions_are)
     l
+
+pub loop-mark-init : goal.loop-mark-init
+loop-mark-init c = grind (arith, common_steps)
+
+pub loop-mark-smaller : goal.loop-mark-smaller
+loop-mark-smaller c = grind (arith, common_steps)

@@ -1,4 +1,5 @@
-use Rattle.std.proofs.Common.{◌++◌, sym, subst}
+use Rattle.std.proofs.lemmas.Grind.{common_steps}
+use Rattle.std.proofs.Common.{◌++◌, sym, subst, arith}
 use Rattle.std.proofs.lemmas.Result.{on_ok_weaker}
 use Rattle.cip_problem.specs.Program.{Program}
 use Rattle.cip_text_rules.specs.LineStream.{stream_of}
@@ -15,3 +16,6 @@ returns-clause-reads c = λ text h.
     (λ told. subst (λ (p : Program). StandsFor after (stream_of (point_steps p) (text ++ c.args.piece.now))) (sym c.take_bytes.ensures.same)
     (piece_stands (steps_of now) (kept_of now) (kept_of after) (values_of now) (values_of after) text c.args.piece.now c.looked_at-looked.result.now h now.pieces.few c.looked_at-looked.ensures told))
     (c.take_bytes.ensures.reads (stream_of (steps_of now) text) h)
+
+pub take_bytes-requires : goal.take_bytes-requires
+take_bytes-requires c = grind (arith, common_steps)

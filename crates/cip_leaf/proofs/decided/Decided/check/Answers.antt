@@ -1,4 +1,5 @@
-use Rattle.std.proofs.Common.{◌∙◌, ap, sym, subst}
+use Rattle.std.proofs.lemmas.Grind.{common_steps}
+use Rattle.std.proofs.Common.{◌∙◌, ap, sym, subst, arith}
 use Rattle.cip_problem.specs.Program.{Program}
 use Rattle.cip_problem.specs.Points.{IsFeasible}
 use Rattle.cip_problem.specs.WellFormed.{IsWellFormed}
@@ -20,3 +21,6 @@ pub returns-clause-meaning : goal.returns-clause-meaning
 returns-clause-meaning c =
     let formed = subst IsWellFormed c.self.view_is (decided_formed c.self.inside.program.now c.self.inside.on.now c.columns-columns.ensures.formed) in
     verdict_is_right c.args.self.now c.args.point.now c.check.result (returns-clause-verdict c) formed c.requires.long
+
+pub check-requires : goal.check-requires
+check-requires c = grind (arith, common_steps)

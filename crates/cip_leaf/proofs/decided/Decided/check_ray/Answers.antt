@@ -1,4 +1,5 @@
-use Rattle.std.proofs.Common.{sym, subst}
+use Rattle.std.proofs.lemmas.Grind.{common_steps}
+use Rattle.std.proofs.Common.{sym, subst, arith}
 use Rattle.cip_problem.specs.Program.{Program}
 use Rattle.cip_problem.specs.Points.{IsFeasible}
 use Rattle.cip_model.specs.Rays.{IsShownRay}
@@ -19,3 +20,9 @@ returns c =
         λ h. c.check_ray.ensures.shown.1 (shown_back program on point ray formed c.self.invariant feasible (subst (λ (p : Program). IsShownRay p point ray) (sym c.self.view_is) h)),
       );
     }
+
+pub check_ray-requires-clause-point : goal.check_ray-requires-clause-point
+check_ray-requires-clause-point c = grind (arith, common_steps)
+
+pub check_ray-requires-clause-ray : goal.check_ray-requires-clause-ray
+check_ray-requires-clause-ray c = grind (arith, common_steps)

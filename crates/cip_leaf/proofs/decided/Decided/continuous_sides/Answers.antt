@@ -1,4 +1,5 @@
-use Rattle.std.proofs.Common.{◌≡◌, ◌∙◌, length, ap, sym, rules}
+use Rattle.std.proofs.lemmas.Grind.{common_steps}
+use Rattle.std.proofs.Common.{◌≡◌, ◌∙◌, length, ap, sym, rules, arith}
 use Rattle.cip_problem.specs.Choices.{decided_box}
 use Rattle.cip_problem.proofs.Choices.Decided.{decided_formed}
 use Rattle.cip_leaf.proofs.decided.Decided.continuous_sides.Goals as goal
@@ -10,3 +11,15 @@ continuous_sides-requires-2 c =
     let formed = c.whole-whole.ensures.formed in
     let e : c.as_slice-2.result.now ≡ decided_box program.choices program.bounds on = search rules in
     ap length c.whole-whole.ensures.whole ∙ formed.integral ∙ sym (decided_formed program on formed).bounds ∙ sym (ap length e)
+
+pub continuous_sides-requires : goal.continuous_sides-requires
+continuous_sides-requires c = grind (arith, common_steps)
+
+pub decided_sides-requires : goal.decided_sides-requires
+decided_sides-requires c = grind (arith, common_steps)
+
+pub returns : goal.returns
+returns c = grind (arith, common_steps)
+
+pub returns-then-is_empty : goal.returns-then-is_empty
+returns-then-is_empty c = grind (arith, common_steps)

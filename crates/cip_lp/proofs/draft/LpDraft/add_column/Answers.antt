@@ -1,4 +1,5 @@
-use Rattle.std.proofs.Common.{◌≡◌, None, sym, subst, ap, ◌∙◌}
+use Rattle.std.proofs.lemmas.Grind.{common_steps}
+use Rattle.std.proofs.Common.{◌≡◌, None, sym, subst, ap, ◌∙◌, arith}
 use Rattle.cip_text_rules.specs.MpsWords.{number_in}
 use Rattle.cip_text_rules.specs.LpPlaces.{Mentions}
 use Rattle.cip_text_rules.specs.LpFacts.{LpFacts, event_fault, with_column}
@@ -24,3 +25,6 @@ returns-clause-ok c =
     let new : number_in (facts_in c.self.inside).column_names c.args.name.now ≡ None = subst (λ f. number_in f.column_names c.args.name.now ≡ None) (sym c.self.view_is) c.requires.new in
     column_put (facts_in c.self.inside) c.args.name.now c.put_column.new.names c.put_column.new.costs.items c.put_column.new.sides.items c.put_column.new.whole.items new e.0 e.1 e.2 e.3
     ∙ ap (λ (f : LpFacts). with_column f c.args.name.now) c.self.view_is
+
+pub returns-clause-number : goal.returns-clause-number
+returns-clause-number c = grind (arith, common_steps)

@@ -1,3 +1,4 @@
+use Rattle.std.proofs.lemmas.Grind.{common_steps}
 use Rattle.std.proofs.Common.{◌<◌, length, sym, ◌∙◌, arith, ap}
 use Rattle.cip_text_rules.specs.LpPlaces.{AddsCost, Amount}
 use Rattle.cip_lp.specs.LpDrafts.{facts_in}
@@ -42,3 +43,9 @@ returns c =
           (c.self.view_is ∙ c.in-Ok.ensures.ok) c.in-Ok.ensures.number c.of.ensures c.in-Ok-put.ensures.ok cost c.set_cost.ensures;
       few = tt;
     }
+
+pub invariant_of-self : goal.invariant_of-self
+invariant_of-self c = grind (arith, common_steps)
+
+pub make_column-requires-clause-quiet : goal.make_column-requires-clause-quiet
+make_column-requires-clause-quiet c = grind (arith, common_steps)

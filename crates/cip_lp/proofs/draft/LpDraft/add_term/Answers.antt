@@ -1,4 +1,5 @@
-use Rattle.std.proofs.Common.{sym, ◌∙◌}
+use Rattle.std.proofs.lemmas.Grind.{common_steps}
+use Rattle.std.proofs.Common.{sym, ◌∙◌, arith}
 use Rattle.cip_text_rules.specs.LpPlaces.{Adds}
 use Rattle.cip_lp.specs.LpDrafts.{facts_in}
 use Rattle.cip_lp.proofs.KeptLaws.{term_fault, fault_taken, no_fault, term_put, term_is}
@@ -35,3 +36,12 @@ returns c =
           (c.self.view_is ∙ c.in-Ok.ensures.ok) c.in-Ok.ensures.number c.of.ensures c.in-Ok-put.ensures.ok c.entries_with-self-inside.ensures;
       few = tt;
     }
+
+pub entries_with-self-inside-requires : goal.entries_with-self-inside-requires
+entries_with-self-inside-requires c = omega arith
+
+pub invariant_of-self : goal.invariant_of-self
+invariant_of-self c = grind (arith, common_steps)
+
+pub make_column-requires-clause-quiet : goal.make_column-requires-clause-quiet
+make_column-requires-clause-quiet c = grind (arith, common_steps)

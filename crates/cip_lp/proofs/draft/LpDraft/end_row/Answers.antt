@@ -1,4 +1,5 @@
-use Rattle.std.proofs.Common.{ℕ, List, Option, Vec, Global, sym, ap}
+use Rattle.std.proofs.lemmas.Grind.{common_steps}
+use Rattle.std.proofs.Common.{ℕ, List, Option, Vec, Global, sym, ap, arith}
 use Rattle.std.specs.Prelude.{option_map}
 use Rattle.cip_lp.specs.LpDrafts.{facts_in}
 use Rattle.cip_lp.proofs.KeptLaws.{row_ended}
@@ -15,3 +16,9 @@ invariant_of-self-2 c =
     c.put_row.ensures.ok
     c.put_row.ensures.err
     (ap items_of c.in-Some.ensures.after) c.in-Ok.ensures.left
+
+pub put_row-requires : goal.put_row-requires
+put_row-requires c = grind (arith, common_steps)
+
+pub returns-in_default : goal.returns-in_default
+returns-in_default c = grind (arith, common_steps)

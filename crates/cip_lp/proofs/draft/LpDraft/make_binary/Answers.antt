@@ -1,4 +1,5 @@
-use Rattle.std.proofs.Common.{sym, subst, ◌∙◌, refl}
+use Rattle.std.proofs.lemmas.Grind.{common_steps}
+use Rattle.std.proofs.Common.{sym, subst, ◌∙◌, refl, arith}
 use Rattle.cip_lp.specs.LpDrafts.{IsKeptLp, facts_in}
 use Rattle.cip_lp.proofs.ColumnLaws.{binary_past, binary_put}
 use Rattle.cip_text_rules.specs.LpPlaces.{MakesBinary}
@@ -15,3 +16,9 @@ pub invariant_of-self : goal.invariant_of-self
 invariant_of-self c =
     subst IsKeptLp (sym (binary_put (facts_in c.self.inside) c.args.self.now c.args.name.now c.in-Some.column c.zero.result c.one.result _ _ c.self.view_is (sym c.in-Some.is ∙ c.find_column.ensures.number) c.zero.ensures c.one.ensures))
     (kept_with c.args.self.now (MakesBinary c.args.name.now) (subst IsKeptLp c.self.view_is c.self.invariant) refl)
+
+pub index_mut-requires : goal.index_mut-requires
+index_mut-requires c = grind (arith, common_steps)
+
+pub index_mut-requires-in-Some : goal.index_mut-requires-in-Some
+index_mut-requires-in-Some c = grind (arith, common_steps)

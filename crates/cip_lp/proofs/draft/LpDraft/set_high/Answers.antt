@@ -1,7 +1,14 @@
-use Rattle.std.proofs.Common.{sym, subst, ◌∙◌}
+use Rattle.std.proofs.lemmas.Grind.{common_steps}
+use Rattle.std.proofs.Common.{sym, subst, ◌∙◌, arith}
 use Rattle.cip_lp.specs.LpDrafts.{IsKeptLp}
 use Rattle.cip_lp.proofs.ColumnLaws.{sides_past}
 use Rattle.cip_lp.proofs.draft.LpDraft.set_high.Goals as goal
 
 pub returns-in_default : goal.returns-in_default
 returns-in_default c = sides_past c.args.self.now c.args.name.now _ _ (subst IsKeptLp c.self.view_is c.self.invariant) (sym c.find_column.ensures.number ∙ c.in_default.is)
+
+pub index_mut-requires : goal.index_mut-requires
+index_mut-requires c = grind (arith, common_steps)
+
+pub returns-in-Some : goal.returns-in-Some
+returns-in-Some c = grind (arith, common_steps)

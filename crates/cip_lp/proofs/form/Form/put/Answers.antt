@@ -1,3 +1,4 @@
+use Rattle.std.proofs.lemmas.Grind.{common_steps}
 use Rattle.std.proofs.Common.{◌≡◌, ℕ, ◌<◌, List, [], ◌∷◌, ◌++◌, length, set, ap, ◌∙◌, sym, arith}
 use Rattle.cip_text_rules.specs.LpFacts.{FormTerm}
 use Rattle.cip_lp.specs.LpForms.{term_shown}
@@ -14,3 +15,15 @@ invariant_of-self-2 c =
     let more : c.push_reserved.new.self.items ≡ terms ++ term ∷ [] =
     c.push_reserved.ensures.items ∙ ap (λ (ts : List FormTerm). ts ++ c.args.term ∷ []) c.in_ok-make_room.ensures.terms ∙ ap (λ (t : FormTerm). terms ++ t ∷ []) (sym c.term.view_is) in
     placed_more terms c.push_reserved.new.self.items c.self.inside.places.items room _ term c.self.invariant c.in_ok-make_room.ensures.kept within more (ap (λ (n : ℕ). set room c.term.inside.column n) count)
+
+pub index_mut-requires : goal.index_mut-requires
+index_mut-requires c = grind (arith, common_steps)
+
+pub overflow_cast-term-inside : goal.overflow_cast-term-inside
+overflow_cast-term-inside c = omega arith
+
+pub push_reserved-requires : goal.push_reserved-requires
+push_reserved-requires c = grind (arith, common_steps)
+
+pub returns-clause-ok : goal.returns-clause-ok
+returns-clause-ok c = grind (arith, common_steps)

@@ -1,4 +1,5 @@
-use Rattle.std.proofs.Common.{cond, sym, ◌∙◌}
+use Rattle.std.proofs.lemmas.Grind.{common_steps}
+use Rattle.std.proofs.Common.{cond, sym, ◌∙◌, arith}
 use Rattle.cip_text_rules.specs.LineEnds.{Open, Ended}
 use Rattle.cip_lp.specs.declared.line_reader.LineReader.{LineReader}
 use Rattle.cip_lp.specs.LpLines.{token_shown, tokens_left}
@@ -29,3 +30,9 @@ returns-then-is_some-clause-read c = λ number.
 
 pub returns-clause-read : goal.returns-clause-read
 returns-clause-read c = λ number. sym (c.loop-token.invariant number) ∙ c.in_default.ensures number
+
+pub loop-token-smaller : goal.loop-token-smaller
+loop-token-smaller c = grind (arith, common_steps)
+
+pub returns-then-is_some-clause-kinds : goal.returns-then-is_some-clause-kinds
+returns-then-is_some-clause-kinds c = grind (arith, common_steps)

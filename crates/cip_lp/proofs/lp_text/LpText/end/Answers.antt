@@ -1,3 +1,5 @@
+use Rattle.std.proofs.lemmas.Grind.{common_steps}
+use Rattle.std.proofs.Common.{arith}
 use Rattle.cip_text.specs.declared.text_faults.ReadFault.TheVariants.{Faulty}
 use Rattle.cip_lp.specs.LpReaders.{IsFaultOf}
 use Rattle.cip_lp.proofs.LpAnswers.{known_cause, passed_on}
@@ -8,3 +10,9 @@ returns-in_err-answer c = λ bytes h.
     let fault = c.in_err-answer.field-0.0 in
     let told = known_cause c.taken_faults_stay.ensures c.args.self.now bytes h c.args.self.now.kinds fault c.in_err-answer.ensures in
     passed_on _ (IsFaultOf bytes) (Faulty fault) _ told c.from_residual.ensures
+
+pub returns : goal.returns
+returns c = grind (arith, common_steps)
+
+pub returns-in_err-answer-2 : goal.returns-in_err-answer-2
+returns-in_err-answer-2 c = grind (arith, common_steps)

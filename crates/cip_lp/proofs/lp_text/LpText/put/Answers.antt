@@ -1,4 +1,4 @@
-use Rattle.std.proofs.Common.{sym, ◌∙◌}
+use Rattle.std.proofs.Common.{sym, ◌∙◌, arith}
 use Rattle.std.proofs.lemmas.Result.{on_ok_weaker}
 use Rattle.cip_lp.specs.LpTexts.{bytes_of, shown_of}
 use Rattle.cip_lp.proofs.ByteSteps.{put_comment, put_cut, put_longer, taken_put}
@@ -23,3 +23,6 @@ returns c =
     let now = c.args.self.now in
     put_longer now.fault (bytes_of now) c.args.byte _ c.requires.going (sym c.in_comment.ensures ∙ c.if-in_comment.false) (sym c.is_cut.ensures ∙ c.if-is_cut.false) c.in_ok-push.ensures.items
     ∙ taken_put now.fault (bytes_of now) c.args.byte c.requires.going c.requires.few c.requires.other
+
+pub begin_part-requires-clause-few : goal.begin_part-requires-clause-few
+begin_part-requires-clause-few c = omega arith

@@ -1,4 +1,5 @@
-use Rattle.std.proofs.Common.{ℕ, ◌+◌, sym, ap, ◌∙◌}
+use Rattle.std.proofs.lemmas.Grind.{common_steps}
+use Rattle.std.proofs.Common.{ℕ, ◌+◌, sym, ap, ◌∙◌, arith}
 use Rattle.cip_text.specs.PieceStands.{progress_of}
 use Rattle.cip_text_rules.specs.LineStream.{Going}
 use Rattle.cip_text_rules.specs.LpTokens.{tokens_from}
@@ -28,3 +29,9 @@ returns c =
     ∙ beyond_going (stage_of then) (part_read (bytes_of kept)) (bytes_of then) then.fault (then.ended + 1) (none_is then.fault (sym c.is_some.ensures ∙ c.if-is_some.false)) c.in_ok-read_rest.ensures.read
     ∙ (λ i. beyond (tokens_read (same.ended i + 1) (Going (same.lines i)) (tokens_from (same.front i) (c.in_ok-keep_last.ensures.rest i))) (line i))
     ∙ taken_last c.args.self.now.fault (bytes_of c.args.self.now) c.args.byte c.requires.going c.requires.full
+
+pub invariant_of-self : goal.invariant_of-self
+invariant_of-self c = grind (arith, common_steps)
+
+pub overflow_add-self : goal.overflow_add-self
+overflow_add-self c = omega arith

@@ -1,4 +1,5 @@
-use Rattle.std.proofs.Common.{◌+◌, sym, ap, ◌∙◌}
+use Rattle.std.proofs.lemmas.Grind.{common_steps}
+use Rattle.std.proofs.Common.{◌+◌, sym, ap, ◌∙◌, arith}
 use Rattle.cip_text_rules.specs.LineStream.{Going}
 use Rattle.cip_text.specs.PieceStands.{progress_of}
 use Rattle.cip_text_rules.specs.LpTokens.{tokens_from}
@@ -19,3 +20,9 @@ returns-clause-read c =
     ∙ sym (c.in_ok-kind.ensures.read number)
     ∙ ap (tokens_read number (Going (stage_of now))) c.of-tokens.ensures
     ∙ ap (λ bytes. tokens_read number (Going (stage_of now)) (tokens_from now.front bytes)) c.as_slice.ensures.value
+
+pub invariant_of-self-2 : goal.invariant_of-self-2
+invariant_of-self-2 c = grind (arith, common_steps)
+
+pub returns-clause-rest : goal.returns-clause-rest
+returns-clause-rest c = grind (arith, common_steps)

@@ -1,4 +1,5 @@
-use Rattle.std.proofs.Common.{get_or, sym, ap, ◌∙◌}
+use Rattle.std.proofs.lemmas.Grind.{common_steps}
+use Rattle.std.proofs.Common.{get_or, sym, ap, ◌∙◌, arith}
 use Rattle.std.proofs.lemmas.List.Sums.{fold_more}
 use Rattle.cip_text_rules.specs.LpBytes.{byte_taken}
 use Rattle.cip_lp.specs.LpTexts.{shown_of}
@@ -11,3 +12,6 @@ loop-byte-preserved c =
     c.in_ok-take_byte.ensures
     ∙ ap (λ p. byte_taken p (get_or piece index 0)) c.loop-byte.invariant
     ∙ sym (fold_more byte_taken (shown_of c.args.self.now) piece index 0 c.loop-byte-test.true)
+
+pub returns : goal.returns
+returns c = grind (arith, common_steps)

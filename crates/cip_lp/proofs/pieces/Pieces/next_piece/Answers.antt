@@ -1,3 +1,4 @@
+use Rattle.std.proofs.lemmas.Grind.{common_steps}
 use Rattle.std.proofs.Common.{sym, ◌∙◌, arith}
 use Rattle.cip_lp.specs.LpPieces.{piece_shown}
 use Rattle.cip_lp.proofs.PieceLaws.{first_cut}
@@ -8,3 +9,9 @@ returns-in-len1-up c =
     sym c.without_blanks-rest.ensures.same
     ∙ first_cut c.without_blanks-rest.result.now (piece_shown c.cut_first.result.0) c.cut_first.result.1.now (omega (arith, c.in-len1-up.len_at_least)) c.without_blanks-rest.ensures.starts
     c.cut_first.ensures.piece c.cut_first.ensures.rest
+
+pub bounds-rest-0 : goal.bounds-rest-0
+bounds-rest-0 c = omega arith
+
+pub cut_first-requires : goal.cut_first-requires
+cut_first-requires c = grind (arith, common_steps)

@@ -1,5 +1,6 @@
+use Rattle.std.proofs.lemmas.Grind.{common_steps}
 use Rattle.cip_mps.specs.DraftStates.{kept}
-use Rattle.std.proofs.Common.{◌≡◌, ◌<◌, List, true, length, refl, ◌∙◌, Some, Option, ℕ, sym, ap}
+use Rattle.std.proofs.Common.{◌≡◌, ◌<◌, List, true, length, refl, ◌∙◌, Some, Option, ℕ, sym, ap, arith}
 use Rattle.std.specs.Prelude.{slice_index_or}
 use Rattle.std.specs.List.{filter, list_all}
 use Rattle.std.proofs.Math.ListN.{length-set}
@@ -38,3 +39,6 @@ pub returns-in-None : goal.returns-in-None
 returns-in-None c =
     let self = c.args.self.now in
     ap (λ (row : Option ℕ). record (kept self) { rows = changed no_row self.rows row (with_held c.args.column c.args.value) }) (sym c.in-None.is)
+
+pub hold-requires-clause-within : goal.hold-requires-clause-within
+hold-requires-clause-within c = grind (arith, common_steps)

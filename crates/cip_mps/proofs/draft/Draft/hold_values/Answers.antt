@@ -1,8 +1,9 @@
+use Rattle.std.proofs.lemmas.Grind.{common_steps}
 use Rattle.std.specs.Prelude.{IfSome}
 use Rattle.std.proofs.lemmas.Result.{on_ok_weaker}
 use Rattle.cip_mps.proofs.ValueLaws.{put_one, put_two}
 use Rattle.cip_mps.specs.DraftStates.{kept}
-use Rattle.std.proofs.Common.{◌≡◌, false, ap, List, ◌∙◌, ℕ, ◌<◌, length, subst, sym}
+use Rattle.std.proofs.Common.{◌≡◌, false, ap, List, ◌∙◌, ℕ, ◌<◌, length, subst, sym, arith}
 use Rattle.std.specs.Str.{bytes_eq}
 use Rattle.cip_text_rules.specs.MpsWords.{number_in}
 use Rattle.cip_text_rules.proofs.Quiet.{left_false}
@@ -50,3 +51,6 @@ hold-requires-in-Some-clause-within c =
 pub hold-requires-in-Some-clause-is_column : goal.hold-requires-in-Some-clause-is_column
 hold-requires-in-Some-clause-is_column c =
     subst (λ (n : ℕ). c.args.column < n) (sym (ap (λ (s : State). length s.column_names) c.in_ok-hold.ensures)) c.requires.is_column
+
+pub hold-requires-clause-within : goal.hold-requires-clause-within
+hold-requires-clause-within c = grind (arith, common_steps)

@@ -63,3 +63,6 @@ returns c =
 pub hold_values-requires-clause-found : goal.hold_values-requires-clause-found
 hold_values-requires-clause-found c =
     subst (λ (names : List (List ℕ)). AreFound names c.args.values.now c.args.rows) (sym (ap (λ (s : State). s.row_names) c.in_ok-number.ensures.state)) c.requires.rows
+
+pub invariant_of-self-clause-rows_named : goal.invariant_of-self-clause-rows_named
+invariant_of-self-clause-rows_named c = omega arith

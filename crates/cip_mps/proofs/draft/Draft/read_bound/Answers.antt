@@ -1,3 +1,4 @@
+use Rattle.std.proofs.lemmas.Grind.{common_steps}
 use Rattle.cip_mps.proofs.TableLaws.{read_at}
 use Rattle.std.specs.Prelude.{vec_len, slice_set}
 use Rattle.cip_text_rules.specs.MpsBounds.{unbounded, with_bound, Bounded}
@@ -45,3 +46,6 @@ returns-else-is_none c =
     let value = c.args.value.now in
     faulty_step old (BoundLine kind c.args.set_name.now c.args.name.now value) c.bound_fault-fault.result
     (c.bound_fault-fault.ensures c.args.name.now c.find_column-column.ensures.number ∙ sym (c.lines_have_tests.ensures.bound old kind c.args.set_name.now c.args.name.now value)) c.if-is_none.ensures
+
+pub invariant_of-self : goal.invariant_of-self
+invariant_of-self c = grind (arith, common_steps)

@@ -1,4 +1,5 @@
-use Rattle.std.proofs.Common.{sym, ◌∙◌}
+use Rattle.std.proofs.lemmas.Grind.{common_steps}
+use Rattle.std.proofs.Common.{sym, ◌∙◌, arith}
 use Rattle.cip_mps_lines.specs.MpsLines.{values_of}
 use Rattle.cip_text_rules.specs.MpsSayings.{ColumnLine}
 use Rattle.cip_mps.specs.DraftStates.{kept}
@@ -38,3 +39,12 @@ returns-else-is_none c =
 pub put_column-requires-clause-passed : goal.put_column-requires-clause-passed
 put_column-requires-clause-passed c =
     sym c.column_fault-fault.ensures ∙ no_fault c.column_fault-fault.result c.if-is_none.ensures
+
+pub put_column-requires-clause-column : goal.put_column-requires-clause-column
+put_column-requires-clause-column c = grind (arith, common_steps)
+
+pub put_column-requires-clause-rows : goal.put_column-requires-clause-rows
+put_column-requires-clause-rows c = grind (arith, common_steps)
+
+pub put_column-requires-clause-within : goal.put_column-requires-clause-within
+put_column-requires-clause-within c = grind (arith, common_steps)

@@ -1,5 +1,6 @@
+use Rattle.std.proofs.lemmas.Grind.{common_steps}
 use Rattle.cip_mps.specs.DraftStates.{kept}
-use Rattle.std.proofs.Common.{◌≡◌, ◌<◌, List, true, length, refl, sym, subst, ◌∙◌, Option, ℕ, ap}
+use Rattle.std.proofs.Common.{◌≡◌, ◌<◌, List, true, length, refl, sym, subst, ◌∙◌, Option, ℕ, ap, arith}
 use Rattle.std.specs.Prelude.{slice_index_or}
 use Rattle.std.specs.List.{filter, list_all}
 use Rattle.std.proofs.Math.ListN.{length-set}
@@ -37,3 +38,6 @@ pub returns-in_default : goal.returns-in_default
 returns-in_default c =
     let self = c.args.self.now in
     ap (λ (row : Option ℕ). record (kept self) { rows = changed no_row self.rows row (with_range c.args.value) }) (sym c.in_default.is)
+
+pub set_range-requires-clause-within : goal.set_range-requires-clause-within
+set_range-requires-clause-within c = grind (arith, common_steps)

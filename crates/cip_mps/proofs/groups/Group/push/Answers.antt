@@ -1,3 +1,4 @@
+use Rattle.std.proofs.lemmas.Grind.{common_steps}
 use Rattle.std.proofs.Common.{◌≡◌, ◌++◌, ◌∷◌, [], ap, sym, subst, ◌∙◌, arith, List}
 use Rattle.std.specs.Prelude.{vec_len}
 use Rattle.std.proofs.lemmas.Bool.{eqb-true}
@@ -45,3 +46,9 @@ returns-clause-ok c =
     let e : Entry = record { row = c.args.row; held = c.args.held } in
     let is : ◌≡◌ {A = Entry} (record { row = c.args.row; held = record { column = c.held.inside.column; value = c.held.inside.value } }) e = ap (λ (h : Held). record { row = c.args.row; held = h }) c.held.view_is in
     ap (entries_of near) c.in_ok-push-2.ensures.items ∙ far_pushed near far _ ∙ ap (λ (x : Entry). entries_of near far ++ x ∷ []) is ∙ ap (λ (es : List Entry). es ++ e ∷ []) c.self.view_is
+
+pub invariant_of-self : goal.invariant_of-self
+invariant_of-self c = grind (arith, common_steps)
+
+pub invariant_of-self-in_err-push-2 : goal.invariant_of-self-in_err-push-2
+invariant_of-self-in_err-push-2 c = grind (arith, common_steps)

@@ -1,3 +1,5 @@
+use Rattle.std.proofs.lemmas.Grind.{common_steps}
+use Rattle.std.proofs.Common.{arith}
 use Rattle.cip_text.proofs.Streams.{ends_with}
 use Rattle.cip_text_rules.specs.MpsOutcome.{mps_reading}
 use Rattle.cip_text_rules.specs.MpsSteps.{mps_steps}
@@ -9,3 +11,6 @@ returns-clause-outcome c = λ text h.
     let now = c.args.self.now in
     let after = c.read_last.new.self in
     ends_with mps_reading mps_steps c.texts_are_read.ensures text (kept_of now) (kept_of after) (stage_of now) (stage_of after) c.in_ok-last_kind.last_kind c.end_kind-end_kind.result c.fault_at_end.result h c.in_ok-last_kind.ensures.read c.read_last.ensures.kept c.end_kind-end_kind.ensures.fault c.fault_at_end.ensures
+
+pub returns-clause-kinds : goal.returns-clause-kinds
+returns-clause-kinds c = grind (arith, common_steps)

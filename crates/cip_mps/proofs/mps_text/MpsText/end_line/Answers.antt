@@ -1,4 +1,5 @@
-use Rattle.std.proofs.Common.{◌+◌, ◌∙◌, sym}
+use Rattle.std.proofs.lemmas.Grind.{common_steps}
+use Rattle.std.proofs.Common.{◌+◌, ◌∙◌, sym, arith}
 use Rattle.cip_text.proofs.Streams.{line_ended_with}
 use Rattle.cip_text_rules.specs.MpsSteps.{mps_steps}
 use Rattle.cip_mps.specs.MpsTexts.{kept_of, stage_of}
@@ -12,3 +13,6 @@ returns-clause-reads c = λ s h.
     line_ended_with mps_steps (kept_of text) (kept_of after) (stage_of text) (stage_of after) kind s c.args.tail.now c.requires.no_feed h
     (λ none. c.in_ok-kind.ensures.read none ∙ sym (c.let_go.ensures.stage ((kept_of text).ended + 1)))
     (c.let_go.ensures.kept ∙ c.end_line_with.ensures ∙ c.in_ok-kind.ensures.kept kind)
+
+pub returns-clause-size : goal.returns-clause-size
+returns-clause-size c = grind (arith, common_steps)

@@ -1,5 +1,6 @@
+use Rattle.std.proofs.lemmas.Grind.{common_steps}
 use Rattle.cip_mps.proofs.RowLaws.{always_ok}
-use Rattle.std.proofs.Common.{refl}
+use Rattle.std.proofs.Common.{refl, arith}
 use Rattle.cip_mps.proofs.mps_text.MpsText.read_line.Goals as goal
 
 pub returns-in-Some-clause-kept : goal.returns-in-Some-clause-kept
@@ -7,3 +8,18 @@ returns-in-Some-clause-kept c = always_ok c.take_line.result (λ kind. refl)
 
 pub returns-in-None-clause-read : goal.returns-in-None-clause-read
 returns-in-None-clause-read c = λ none. absurd (c.in-None.ensures.line none)
+
+pub returns-in-Some-clause-read : goal.returns-in-Some-clause-read
+returns-in-Some-clause-read c = grind (arith, common_steps)
+
+pub returns-in-Some-clause-size : goal.returns-in-Some-clause-size
+returns-in-Some-clause-size c = grind (arith, common_steps)
+
+pub returns-then-has_bytes-clause-kept : goal.returns-then-has_bytes-clause-kept
+returns-then-has_bytes-clause-kept c = grind (arith, common_steps)
+
+pub returns-then-has_bytes-clause-read : goal.returns-then-has_bytes-clause-read
+returns-then-has_bytes-clause-read c = grind (arith, common_steps)
+
+pub returns-then-has_bytes-clause-size : goal.returns-then-has_bytes-clause-size
+returns-then-has_bytes-clause-size c = grind (arith, common_steps)

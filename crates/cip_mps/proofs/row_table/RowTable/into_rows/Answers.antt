@@ -1,3 +1,4 @@
+use Rattle.std.proofs.lemmas.Grind.{common_steps}
 use Rattle.std.proofs.Common.{◌≡◌, ◌++◌, ◌∷◌, ◌∙◌, List, map, take, length, rules, ap, sym, arith}
 use Rattle.std.specs.List.{filter}
 use Rattle.std.specs.Vec.Iter.{into_iter_items}
@@ -26,3 +27,15 @@ loop-group-preserved c =
       enough = parts.1.1;
       left = search rules;
     }
+
+pub into_rows-requires : goal.into_rows-requires
+into_rows-requires c = grind (arith, common_steps)
+
+pub loop-group-init : goal.loop-group-init
+loop-group-init c = grind (arith, common_steps)
+
+pub returns : goal.returns
+returns c = grind (arith, common_steps)
+
+pub split_at-requires : goal.split_at-requires
+split_at-requires c = grind (arith, common_steps)

@@ -1,3 +1,4 @@
+use Rattle.std.proofs.lemmas.Grind.{common_steps}
 use Rattle.std.proofs.Common.{◌≡◌, ℕ, ◌+◌, ◌-◌, List, length, take, ap, sym, subst, ◌∙◌, arith}
 use Rattle.std.specs.Prelude.{slice_index_or}
 use Rattle.cip_text_rules.specs.MpsState.{RowRead, no_row}
@@ -37,3 +38,6 @@ returns c =
     let last : n ≡ length c.args.self.now - 1 = omega (arith, count.0, count.1) in
     ap (λ (hs : List RowRead). rows_of hs groups) c.truncate.ensures.items ∙ rows_popped heads groups n ∙ ap (take n) c.self.view_is
     ∙ ap (λ (k : ℕ). take k c.args.self.now) last
+
+pub overflow_sub-count : goal.overflow_sub-count
+overflow_sub-count c = grind (arith, common_steps)

@@ -1,3 +1,4 @@
+use Rattle.std.proofs.lemmas.Grind.{common_steps}
 use Rattle.std.proofs.Common.{◌≡◌, ◌*◌, ◌<◌, ◌≤◌, ℕ, List, [], ◌∷◌, ◌++◌, length, refl, ap, ◌∙◌, arith}
 use Rattle.cip_mps_lines.specs.MpsKinds.{row_kind_in}
 use Rattle.cip_text_rules.specs.MpsState.{RowRead}
@@ -59,3 +60,9 @@ returns-in_default-reserve-clause-err c =
 pub returns-in_default-clause-err : goal.returns-in_default-clause-err
 returns-in_default-clause-err c =
     ap (λ (hs : List RowRead). rows_of hs c.self.inside.groups.items) c.in_default.ensures.items ∙ c.self.view_is
+
+pub push_reserved-requires : goal.push_reserved-requires
+push_reserved-requires c = grind (arith, common_steps)
+
+pub push_reserved-requires-2 : goal.push_reserved-requires-2
+push_reserved-requires-2 c = grind (arith, common_steps)

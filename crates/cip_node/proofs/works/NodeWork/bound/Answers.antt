@@ -1,4 +1,5 @@
-use Rattle.std.proofs.Common.{sym, subst}
+use Rattle.std.proofs.lemmas.Grind.{common_steps}
+use Rattle.std.proofs.Common.{sym, subst, arith}
 use Rattle.cip_core.specs.CoreStates.{CoreState}
 use Rattle.cip_core.specs.Later.{IsLaterAt}
 use Rattle.cip_core.proofs.Relations.{later_at_itself}
@@ -7,3 +8,6 @@ use Rattle.cip_node.proofs.works.NodeWork.bound.Goals as goal
 pub returns-in_err-relaxed-clause-later : goal.returns-in_err-relaxed-clause-later
 returns-in_err-relaxed-clause-later c =
     subst (λ (k : CoreState). IsLaterAt c.args.self.now.core c.args.node.now k c.args.node.now) (sym c.relaxed.ensures.core) (later_at_itself c.args.self.now.core c.args.node.now c.requires)
+
+pub leave-requires-clause-at_work : goal.leave-requires-clause-at_work
+leave-requires-clause-at_work c = grind (arith, common_steps)

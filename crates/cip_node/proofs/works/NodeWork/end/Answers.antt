@@ -1,4 +1,5 @@
-use Rattle.std.proofs.Common.{sym, subst}
+use Rattle.std.proofs.lemmas.Grind.{common_steps}
+use Rattle.std.proofs.Common.{sym, subst, arith}
 use Rattle.cip_tree.specs.Nodes.{box_of}
 use Rattle.cip_core.specs.CoreStates.{IsGivenBound}
 use Rattle.cip_core.specs.Steps.{IsBack}
@@ -22,3 +23,9 @@ end_leaf-ended-requires-clause-given c = subst (IsGivenBound c.args.self.now.cor
 
 pub returns-in-Err-clause-ended : goal.returns-in-Err-clause-ended
 returns-in-Err-clause-ended c = subst (IsBack c.args.self.now.core c.end_leaf-ended.new.core c.args.node.number) c.bound-given.ensures c.in-Err.ensures.ended
+
+pub end_leaf-ended-requires-clause-leaf : goal.end_leaf-ended-requires-clause-leaf
+end_leaf-ended-requires-clause-leaf c = grind (arith, common_steps)
+
+pub end_open-requires-clause-open_ : goal.end_open-requires-clause-open_
+end_open-requires-clause-open_ c = grind (arith, common_steps)

@@ -1,4 +1,5 @@
-use Rattle.std.proofs.Common.{◌≡◌, sym, ap, ◌∙◌, subst}
+use Rattle.std.proofs.lemmas.Grind.{common_steps}
+use Rattle.std.proofs.Common.{◌≡◌, sym, ap, ◌∙◌, subst, arith}
 use Rattle.std.specs.Prelude.{Bool, MatchResult}
 use Rattle.cip_rows.specs.RowPools.{Pool}
 use Rattle.cip_core.specs.CoreStates.{CoreState, IsTakenUp, IsGivenBound}
@@ -52,3 +53,6 @@ returns-in-Ok-clause-aged c =
 pub returns-in-Ok-clause-touched : goal.returns-in-Ok-clause-touched
 returns-in-Ok-clause-touched c =
     ap (λ (rows : Pool × Bool). rows.1) c.end.ensures.rows ∙ ap (λ (k : CoreState). k.touched) c.look.ensures.frame ∙ ap (λ (k : CoreState). k.touched) c.age.ensures.frame
+
+pub look-requires : goal.look-requires
+look-requires c = grind (arith, common_steps)

@@ -1,3 +1,5 @@
+use Rattle.std.proofs.lemmas.Grind.{common_steps}
+use Rattle.std.proofs.Common.{arith}
 use Rattle.cip_plugin.proofs.Parts.{cuts_first, cuts_past, guesses_first, guesses_past, priced_first, priced_past, reductions_first, reductions_past}
 use Rattle.cip_plugin.proofs.asking.Given.cut_short.Goals as goal
 
@@ -38,3 +40,12 @@ pub returns-in-Guesses-clause-past : goal.returns-in-Guesses-clause-past
 returns-in-Guesses-clause-past c =
     rw c.in-Guesses.is (guesses_past c.in-Guesses.guesses.items c.first_part_of-in-Guesses.result
     c.first_part_of-in-Guesses.ensures.past)
+
+pub returns-in-Enforced-clause-first : goal.returns-in-Enforced-clause-first
+returns-in-Enforced-clause-first c = grind (arith, common_steps)
+
+pub returns-in-Split-clause-first : goal.returns-in-Split-clause-first
+returns-in-Split-clause-first c = grind (arith, common_steps)
+
+pub returns-in-Wishes-clause-first : goal.returns-in-Wishes-clause-first
+returns-in-Wishes-clause-first c = grind (arith, common_steps)

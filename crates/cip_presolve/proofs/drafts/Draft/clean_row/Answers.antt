@@ -1,4 +1,5 @@
-use Rattle.std.proofs.Common.{List, length, subst, sym, ◌∙◌, ap}
+use Rattle.std.proofs.lemmas.Grind.{common_steps}
+use Rattle.std.proofs.Common.{List, length, subst, sym, ◌∙◌, ap, arith}
 use Rattle.cip_problem.specs.Program.{Sides, Program}
 use Rattle.cip_problem.specs.Activity.{StandsBelow}
 use Rattle.cip_presolve.specs.RowReading.{IsLeftRow}
@@ -31,3 +32,6 @@ without_fixed-requires c = subst (λ (box : List Sides). StandsBelow (length box
 
 pub returns-in-Ok-Some-clause-rows : goal.returns-in-Ok-Some-clause-rows
 returns-in-Ok-Some-clause-rows c = ap (λ (p : Program). length p.rows) c.set_row.ensures ∙ count_same c.args.self.now.rows c.args.number c.in-Ok-Some.row
+
+pub has_fixed-requires : goal.has_fixed-requires
+has_fixed-requires c = grind (arith, common_steps)

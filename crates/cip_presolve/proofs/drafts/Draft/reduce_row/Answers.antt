@@ -1,4 +1,4 @@
-use Rattle.std.proofs.Common.{◌∙◌}
+use Rattle.std.proofs.Common.{◌∙◌, arith}
 use Rattle.cip_presolve.proofs.drafts.Draft.reduce_row.Goals as goal
 use Rattle.cip_search.proofs.Pairing.{exact_after}
 
@@ -13,3 +13,9 @@ returns-in_default c = record {
   end = c.try_redundant.ensures.end;
   rows = c.try_redundant.ensures.rows ∙ c.clean_row.ensures.rows;
 }
+
+pub try_redundant-requires : goal.try_redundant-requires
+try_redundant-requires c = omega arith
+
+pub try_single-requires : goal.try_single-requires
+try_single-requires c = omega arith

@@ -1,4 +1,5 @@
-use Rattle.std.proofs.Common.{◌≡◌, false, List, length, Some, slice_get, sym, ap, ◌∙◌, subst}
+use Rattle.std.proofs.lemmas.Grind.{common_steps}
+use Rattle.std.proofs.Common.{◌≡◌, false, List, length, Some, slice_get, sym, ap, ◌∙◌, subst, arith}
 use Rattle.cip_problem.specs.Program.{Term, Sides}
 use Rattle.cip_problem.specs.Box.{sides_at}
 use Rattle.cip_problem.specs.Choices.{met, choice_at, is_open}
@@ -19,3 +20,6 @@ returns c =
     subst (λ n. IsSingled c.args.self.now c.args.number n c.met.result) (sym column_2)
     (singled c.args.self.now c.args.number c.row-row.result.now c.in-Some.term c.is_whole.result c.met.result c.row-row.ensures.row c.in-Some.ensures.0 c.in-Some.ensures.1
     (one_stands (length c.args.self.now.bounds) c.row-row.result.now.terms c.in-Some.term c.row-row.ensures.stands c.in-Some.ensures.0) whole are plain)
+
+pub single_sides-requires : goal.single_sides-requires
+single_sides-requires c = grind (arith, common_steps)

@@ -1,4 +1,5 @@
-use Rattle.std.proofs.Common.{List, subst}
+use Rattle.std.proofs.lemmas.Grind.{common_steps}
+use Rattle.std.proofs.Common.{List, subst, arith}
 use Rattle.cip_problem.specs.Program.{Sides}
 use Rattle.cip_search.specs.RowSteps.{HoldsInAll, HoldsNowhere}
 use Rattle.cip_presolve.proofs.Ruled.{dropped_by, broken_by}
@@ -13,3 +14,9 @@ pub returns-in-HoldsNever-clause-end : goal.returns-in-HoldsNever-clause-end
 returns-in-HoldsNever-clause-end c =
     broken_by c.args.self.now c.args.number c.row.result.now c.row.ensures.row
     (subst (λ (box : List Sides). HoldsNowhere box c.row.result.now) c.bounds.ensures.bounds c.in-HoldsNever.ensures)
+
+pub returns-in-HoldsAlways-clause-rows : goal.returns-in-HoldsAlways-clause-rows
+returns-in-HoldsAlways-clause-rows c = grind (arith, common_steps)
+
+pub row_says-requires : goal.row_says-requires
+row_says-requires c = grind (arith, common_steps)

@@ -1,3 +1,4 @@
+use Rattle.std.proofs.lemmas.Grind.{common_steps}
 use Rattle.std.proofs.Common.{length, refl, sym, ap, ◌∙◌, arith}
 use Rattle.cip_problem.specs.Program.{Program, no_row}
 use Rattle.cip_presolve.specs.NarrowedPrograms.{with_row}
@@ -45,3 +46,6 @@ returns-clause-step c =
 pub returns-clause-rows : goal.returns-clause-rows
 returns-clause-rows c = ap (λ (p : Program). length p.rows) c.clear_row.ensures ∙ count_same _ _ _
     ∙ ap (λ (p : Program). length p.rows) c.set_sides.ensures
+
+pub is_whole-requires : goal.is_whole-requires
+is_whole-requires c = grind (arith, common_steps)

@@ -1,4 +1,5 @@
-use Rattle.std.proofs.Common.{◌≡◌, [], ◌++◌, ◌∙◌, subst}
+use Rattle.std.proofs.lemmas.Grind.{common_steps}
+use Rattle.std.proofs.Common.{◌≡◌, [], ◌++◌, ◌∙◌, subst, arith}
 use Rattle.cip_io.specs.Sink.{PushesPart}
 use Rattle.cip_report.specs.Writing.{Passes}
 use Rattle.cip_report.proofs.WritingLemmas.{Passes-held, Passes-more, Writes-err, Writes-pushed}
@@ -33,3 +34,6 @@ returns-then-put-2-clause-taken g c =
     subst (λ text. Passes (g.K.Sink.tells c.args.out.now) (g.K.Sink.tells c.flush.new.out) text c.flush.new.self) same c.in_ok-flush.ensures.taken in
     Passes-more _ _ _ c.args.self.now c.flush.new.self c.args.bytes.now c.put-2.new.self flushed
     (Passes-held (g.K.Sink.tells c.flush.new.out) (c.flush.new.self ++ c.args.bytes.now) c.put-2.new.self put)
+
+pub returns-clause-faults : goal.returns-clause-faults
+returns-clause-faults g c = grind (arith, common_steps)

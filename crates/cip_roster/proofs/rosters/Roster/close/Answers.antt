@@ -1,3 +1,4 @@
+use Rattle.std.proofs.lemmas.Grind.{common_steps}
 use Rattle.std.proofs.Common.{arith, ap, map, refl}
 use Rattle.cip_roster.specs.Shelves.{shown}
 use Rattle.cip_roster.proofs.Ending.{many_held, many_seats, went_back}
@@ -39,3 +40,6 @@ returns-clause-closed g c = record {
   lines = refl;
   kept = refl;
 }
+
+pub end_all-requires : goal.end_all-requires
+end_all-requires g c = grind (arith, common_steps)

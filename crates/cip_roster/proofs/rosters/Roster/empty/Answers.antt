@@ -1,4 +1,5 @@
-use Rattle.std.proofs.Common.{◌∙◌, ap, map}
+use Rattle.std.proofs.lemmas.Grind.{common_steps}
+use Rattle.std.proofs.Common.{◌∙◌, ap, map, arith}
 use Rattle.cip_roster.specs.Shelves.{shown}
 use Rattle.cip_roster.proofs.rosters.Roster.empty.Goals as goal
 
@@ -39,3 +40,6 @@ returns-in-Err g c = record {
   room = tt;
   unranked = tt;
 }
+
+pub returns-in-Ok-clause-spare : goal.returns-in-Ok-clause-spare
+returns-in-Ok-clause-spare g c = grind (arith, common_steps)

@@ -1,3 +1,4 @@
+use Rattle.std.proofs.lemmas.Grind.{common_steps}
 use Rattle.std.proofs.Common.{◌∙◌, arith, refl}
 use Rattle.cip_roster.proofs.Beginning.{begun_kept, same_most, same_room, shelf_kept, shelf_places}
 use Rattle.cip_roster.proofs.rosters.Roster.start.Goals as goal
@@ -90,3 +91,12 @@ returns-in_default-empty-clause-err g c = (refl, refl)
 
 pub returns-clause-err : goal.returns-clause-err
 returns-clause-err g c = tt
+
+pub empty-requires : goal.empty-requires
+empty-requires g c = omega arith
+
+pub overflow_add-start : goal.overflow_add-start
+overflow_add-start g c = omega arith
+
+pub shelve-requires : goal.shelve-requires
+shelve-requires g c = grind (arith, common_steps)

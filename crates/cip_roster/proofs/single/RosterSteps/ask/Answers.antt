@@ -1,4 +1,4 @@
-use Rattle.std.proofs.Common.{◌∙◌, [], ◌∷◌, ◌++◌, cond, ap, refl}
+use Rattle.std.proofs.Common.{◌∙◌, [], ◌∷◌, ◌++◌, cond, ap, refl, arith}
 use Rattle.cip_events.specs.declared.words.Word.{Word}
 use Rattle.cip_plugin.specs.Calls.{Asked}
 use Rattle.cip_plugin.specs.Answers.{answer}
@@ -38,3 +38,6 @@ pub ask-given-requires : goal.ask-given-requires
 ask-given-requires g c =
     ap (λ (s : Seat). asks s.who.kind (ask_of c.args.question)) (seat_there _ c.args.self.now.slots.items c.args.id
     c.index_mut.result.now c.requires.ready.seat c.requires.ready.at c.index_mut.ensures.value) ∙ c.requires.ready.fits
+
+pub note-requires : goal.note-requires
+note-requires g c = omega arith

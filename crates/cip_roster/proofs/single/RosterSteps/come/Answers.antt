@@ -32,3 +32,6 @@ returns-clause-room g c = ap (λ (room : Room). room.lines) c.seat.ensures.room
 
 pub returns-clause-rankings : goal.returns-clause-rankings
 returns-clause-rankings g c = ap (λ (room : Room). room.rankings) c.seat.ensures.room ∙ c.clear.ensures
+
+pub unreachable-unreachable : goal.unreachable-unreachable
+unreachable-unreachable g c = omega arith

@@ -1,4 +1,5 @@
-use Rattle.std.proofs.Common.{◌≡◌, refl}
+use Rattle.std.proofs.lemmas.Grind.{common_steps}
+use Rattle.std.proofs.Common.{◌≡◌, refl, arith}
 use Rattle.cip_plugin.specs.Calls.{ExitSolve}
 use Rattle.cip_plugin.specs.declared.stages.Stage.TheVariants as stages
 use Rattle.cip_plugin.specs.Steps.{IsCalled}
@@ -28,3 +29,12 @@ returns-clause-at g c =
     stands_there _ c.args.self.now.slots.items c.args.id _ c.requires.at.seat _ stages.Left
     c.requires.at.at
     c.note.ensures.seats refl
+
+pub note-requires : goal.note-requires
+note-requires g c = omega arith
+
+pub returns-clause-rankings : goal.returns-clause-rankings
+returns-clause-rankings g c = grind (arith, common_steps)
+
+pub returns-clause-room : goal.returns-clause-room
+returns-clause-room g c = omega arith

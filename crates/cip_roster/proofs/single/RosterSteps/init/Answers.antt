@@ -1,4 +1,4 @@
-use Rattle.std.proofs.Common.{◌≡◌, refl}
+use Rattle.std.proofs.Common.{◌≡◌, refl, arith}
 use Rattle.cip_plugin.specs.Calls.{Init}
 use Rattle.cip_plugin.specs.declared.stages.Stage.TheVariants as stages
 use Rattle.cip_plugin.specs.Steps.{IsCalled}
@@ -29,3 +29,9 @@ returns-clause-at g c =
     stands_there _ c.args.self.now.slots.items c.args.id _ c.requires.at.seat _ stages.Begun
     c.requires.at.at
     c.note.ensures.seats refl
+
+pub note-requires : goal.note-requires
+note-requires g c = omega arith
+
+pub returns-clause-room : goal.returns-clause-room
+returns-clause-room g c = omega arith

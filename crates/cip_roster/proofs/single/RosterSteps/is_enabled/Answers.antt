@@ -1,3 +1,5 @@
+use Rattle.std.proofs.lemmas.Grind.{common_steps}
+use Rattle.std.proofs.Common.{arith}
 use Rattle.cip_plugin.specs.Wishing.{is_enabled}
 use Rattle.cip_roster.proofs.Sitting.{said_past, said_there}
 use Rattle.cip_roster.proofs.single.RosterSteps.is_enabled.Goals as goal
@@ -10,3 +12,6 @@ pub returns-in-Some : goal.returns-in-Some
 returns-in-Some g c =
     said_there _ is_enabled c.args.self.now.slots.items _ c.args.id c.in-Some.slot.now c.deref.ensures.value
     c.in-Some.ensures.lookup.3.0 c.in-Some.ensures.lookup.1
+
+pub get-requires : goal.get-requires
+get-requires g c = grind (arith, common_steps)

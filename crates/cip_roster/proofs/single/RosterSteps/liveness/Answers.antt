@@ -1,4 +1,5 @@
-use Rattle.std.proofs.Common.{Some, ap, ◌∙◌}
+use Rattle.std.proofs.lemmas.Grind.{common_steps}
+use Rattle.std.proofs.Common.{Some, ap, ◌∙◌, arith}
 use Rattle.std.specs.Prelude.{option_map}
 use Rattle.cip_plugin.specs.Seats.{is_live}
 use Rattle.cip_roster.proofs.Sitting.{said_past, said_there}
@@ -12,3 +13,6 @@ pub returns-in-Some : goal.returns-in-Some
 returns-in-Some g c =
     ap Some c.is_live.ensures ∙ said_there _ (option_map is_live) c.args.self.now.slots.items _ c.args.id c.in-Some.slot.now c.deref.ensures.value
     c.in-Some.ensures.lookup.3.0 c.in-Some.ensures.lookup.1
+
+pub get-requires : goal.get-requires
+get-requires g c = grind (arith, common_steps)

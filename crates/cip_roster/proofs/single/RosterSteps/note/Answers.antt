@@ -1,4 +1,4 @@
-use Rattle.std.proofs.Common.{refl}
+use Rattle.std.proofs.Common.{refl, arith}
 use Rattle.cip_roster.proofs.single.RosterSteps.note.Goals as goal
 
 pub returns-clause-seats : goal.returns-clause-seats
@@ -18,3 +18,9 @@ returns-clause-lines g c = c.write.ensures.lines
 
 pub returns-clause-rankings : goal.returns-clause-rankings
 returns-clause-rankings g c = refl
+
+pub returns-clause-room : goal.returns-clause-room
+returns-clause-room g c = omega arith
+
+pub write-requires : goal.write-requires
+write-requires g c = omega arith

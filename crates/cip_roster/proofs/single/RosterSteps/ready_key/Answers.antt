@@ -1,4 +1,5 @@
-use Rattle.std.proofs.Common.{Bool, None, Some, ap, cond, ◌∙◌}
+use Rattle.std.proofs.lemmas.Grind.{common_steps}
+use Rattle.std.proofs.Common.{Bool, None, Some, ap, cond, ◌∙◌, arith}
 use Rattle.cip_roster.specs.Turns.{ready_key}
 use Rattle.cip_roster.proofs.Sitting.{said_there}
 use Rattle.cip_roster.proofs.single.RosterSteps.ready_key.Goals as goal
@@ -20,3 +21,6 @@ returns-in_default g c =
     })) None) c.if-is_ready.ensures
     ∙ said_there _ (ready_key c.args.kind c.args.id) c.args.self.now.slots.items _ c.args.id c.in-Some.slot.now
     c.deref.ensures.value c.in-Some.ensures.lookup.3.0 c.in-Some.ensures.lookup.1
+
+pub get-requires : goal.get-requires
+get-requires g c = grind (arith, common_steps)

@@ -1,4 +1,5 @@
-use Rattle.std.proofs.Common.{rules}
+use Rattle.std.proofs.lemmas.Grind.{common_steps}
+use Rattle.std.proofs.Common.{rules, arith}
 use Rattle.cip_roster.proofs.Coming.{turns_room}
 use Rattle.cip_roster.proofs.single.RosterSteps.reserve_turns.Goals as goal
 
@@ -6,3 +7,12 @@ pub returns-in-Some-clause-room : goal.returns-in-Some-clause-room
 returns-in-Some-clause-room g c =
     turns_room _ c.args.self.now.slots.items c.reserve.result c.args.turns c.len-seats.result c.in-Some.sum _ _
     c.reserve.ensures.room c.in-Some.ensures.1 (search (rules, c.len-seats.ensures))
+
+pub overflow_mul-sum : goal.overflow_mul-sum
+overflow_mul-sum g c = omega arith
+
+pub returns-in-Some-clause-grows : goal.returns-in-Some-clause-grows
+returns-in-Some-clause-grows g c = omega arith
+
+pub returns-in-Some-clause-state : goal.returns-in-Some-clause-state
+returns-in-Some-clause-state g c = grind (arith, common_steps)

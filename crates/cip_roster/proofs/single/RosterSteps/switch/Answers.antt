@@ -1,4 +1,5 @@
-use Rattle.std.proofs.Common.{◌∙◌, [], ◌∷◌, ◌++◌, cond, ap}
+use Rattle.std.proofs.lemmas.Grind.{common_steps}
+use Rattle.std.proofs.Common.{◌∙◌, [], ◌∷◌, ◌++◌, cond, ap, arith}
 use Rattle.cip_events.specs.declared.words.Word.{Word}
 use Rattle.cip_plugin.specs.declared.stages.Stage.TheVariants as stages
 use Rattle.cip_plugin.specs.Steps.{IsTurned, line}
@@ -34,3 +35,12 @@ pub returns-clause-at : goal.returns-clause-at
 returns-clause-at g c =
     stands_there _ c.args.self.now.slots.items c.args.id c.turn.new.self c.requires.at.seat _ stages.Playing
     c.requires.at.at c.note.ensures.seats c.turn.ensures.stage
+
+pub note-requires : goal.note-requires
+note-requires g c = omega arith
+
+pub returns-clause-rankings : goal.returns-clause-rankings
+returns-clause-rankings g c = grind (arith, common_steps)
+
+pub returns-clause-room : goal.returns-clause-room
+returns-clause-room g c = omega arith

@@ -1,5 +1,6 @@
+use Rattle.std.proofs.lemmas.Grind.{common_steps}
 use Rattle.cip_solve.specs.Turns.{IsSound}
-use Rattle.std.proofs.Common.{subst, sym, ◌∙◌}
+use Rattle.std.proofs.Common.{subst, sym, ◌∙◌, arith}
 use Rattle.cip_solve.specs.Wished.{Ran}
 use Rattle.cip_solve.specs.SplitsServed.{splits_by}
 use Rattle.cip_solve.proofs.Working.{done_worked}
@@ -25,3 +26,30 @@ tell_end-told-requires g c = record { sound = subst (λ r. IsSound (g.R.Seated.s
 
 pub go_back-requires-clause-given : goal.go_back-requires-clause-given
 go_back-requires-clause-given g c = λ given at. c.bound-given.ensures ∙ c.requires.can.given given at
+
+pub returns-clause-plain : goal.returns-clause-plain
+returns-clause-plain g c = grind (arith, common_steps)
+
+pub returns-clause-ready : goal.returns-clause-ready
+returns-clause-ready g c = grind (arith, common_steps)
+
+pub returns-in_err-done-clause-ready : goal.returns-in_err-done-clause-ready
+returns-in_err-done-clause-ready g c = grind (arith, common_steps)
+
+pub returns-in_err-done-clause-served : goal.returns-in_err-done-clause-served
+returns-in_err-done-clause-served g c = grind (arith, common_steps)
+
+pub returns-in_err-done-clause-settled : goal.returns-in_err-done-clause-settled
+returns-in_err-done-clause-settled g c = omega arith
+
+pub returns-then-self-clause-ended : goal.returns-then-self-clause-ended
+returns-then-self-clause-ended g c = grind (arith, common_steps)
+
+pub returns-then-self-clause-plain : goal.returns-then-self-clause-plain
+returns-then-self-clause-plain g c = grind (arith, common_steps)
+
+pub returns-then-self-clause-ready : goal.returns-then-self-clause-ready
+returns-then-self-clause-ready g c = grind (arith, common_steps)
+
+pub returns-then-self-clause-served : goal.returns-then-self-clause-served
+returns-then-self-clause-served g c = grind (arith, common_steps)

@@ -1,4 +1,5 @@
-use Rattle.std.proofs.Common.{◌<◌, length, rules}
+use Rattle.std.proofs.lemmas.Grind.{common_steps}
+use Rattle.std.proofs.Common.{◌<◌, length, rules, arith}
 use Rattle.cip_solve.proofs.Renamed.{next_renamed}
 use Rattle.cip_solve.proofs.logs.Log.rename.Goals as goal
 
@@ -10,3 +11,6 @@ loop-place-preserved c =
           c.index_mut.result.now c.index.result.now c.renamed_end-end.result c.index_mut.ensures.value c.index.ensures c.renamed_end-end.ensures;
       marks = c.loop-place.invariant.marks;
     }
+
+pub returns-clause-taken : goal.returns-clause-taken
+returns-clause-taken c = grind (arith, common_steps)

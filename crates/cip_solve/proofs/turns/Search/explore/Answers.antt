@@ -1,3 +1,4 @@
+use Rattle.std.proofs.lemmas.Grind.{common_steps}
 use Rattle.std.proofs.Common.{◌+◌, ◌∙◌, None, ap, arith, length, inr, refl, sym, subst}
 use Rattle.cip_solve.specs.SplitsServed.{splits_in, HasServed}
 use Rattle.cip_solve.proofs.SameSearches.{same_itself, same_further, still_of}
@@ -82,3 +83,15 @@ loop-init g c =
       ready = c.requires.ready;
       served = subst (λ l. HasServed (splits_in l) a a) (sym c.requires.empty) (served_none a);
     }
+
+pub returns-in-Some-clause-most : goal.returns-in-Some-clause-most
+returns-in-Some-clause-most g c = omega arith
+
+pub returns-in-Some-clause-written : goal.returns-in-Some-clause-written
+returns-in-Some-clause-written g c = grind (arith, common_steps)
+
+pub returns-then-has_reached_gap-clause-most : goal.returns-then-has_reached_gap-clause-most
+returns-then-has_reached_gap-clause-most g c = omega arith
+
+pub returns-then-has_reached_gap-clause-written : goal.returns-then-has_reached_gap-clause-written
+returns-then-has_reached_gap-clause-written g c = grind (arith, common_steps)

@@ -1,4 +1,5 @@
-use Rattle.std.proofs.Common.{None, refl, sym, subst}
+use Rattle.std.proofs.lemmas.Grind.{common_steps}
+use Rattle.std.proofs.Common.{None, refl, sym, subst, arith}
 use Rattle.cip_solve.specs.Stops.{IsKeptAs}
 use Rattle.cip_endings.specs.Worst.{IsWorse}
 use Rattle.cip_endings.specs.declared.worst.Worst.{Worst}
@@ -17,3 +18,9 @@ returns-in-Parked-clause-kept c =
       },
       refl,
     )
+
+pub returns-in-Pruned : goal.returns-in-Pruned
+returns-in-Pruned c = grind (arith, common_steps)
+
+pub returns-in-Ray-clause-kept : goal.returns-in-Ray-clause-kept
+returns-in-Ray-clause-kept c = grind (arith, common_steps)

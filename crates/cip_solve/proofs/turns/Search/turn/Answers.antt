@@ -1,3 +1,4 @@
+use Rattle.std.proofs.lemmas.Grind.{common_steps}
 use Rattle.std.specs.Prelude.{OnOk, is_err}
 use Rattle.std.proofs.Common.{◌≡◌, ◌+◌, ◌≤◌, ◌∙◌, ◌++◌, [], MatchOption, refl, add-zero, ap, sym, subst, arith, length, true≢false, false, Result, Ok, Err}
 use Rattle.cip_endings.specs.LeastBounds.{least_of, bound_held, flat}
@@ -224,3 +225,6 @@ pub settle-requires : goal.settle-requires
 settle-requires g c =
     let room = when_ok c.reserve.result _ (sym c.is_err.ensures.value ∙ c.if-is_err.false) c.reserve.ensures.ok in
     omega (arith, c.reserve.ensures.len, room)
+
+pub work_on-ended-requires-clause-can : goal.work_on-ended-requires-clause-can
+work_on-ended-requires-clause-can g c = grind (arith, common_steps)
