@@ -33,3 +33,6 @@ returns-clause-steps c = grind (arith, common_steps)
 
 pub returns-in-Err-clause-steps : goal.returns-in-Err-clause-steps
 returns-in-Err-clause-steps c = grind (arith, common_steps)
+
+pub returns-in-Err-clause-columns : goal.returns-in-Err-clause-columns
+returns-in-Err-clause-columns c = grind (arith, common_steps)

@@ -1,3 +1,4 @@
+use Rattle.std.proofs.lemmas.Grind.{common_steps}
 use Rattle.std.proofs.Common.{◌≡◌, ◌+◌, refl, ap, ◌∙◌, arith}
 use Rattle.cip_problem.specs.Aggregate.{Inequality}
 use Rattle.cip_cert.specs.Checks.{add_low, add_lows}
@@ -46,3 +47,9 @@ returns-clause-steps c =
 
 pub returns-clause-columns : goal.returns-clause-columns
 returns-clause-columns c = c.loop-at.invariant.columns
+
+pub offset_bounds-multiples-at : goal.offset_bounds-multiples-at
+offset_bounds-multiples-at c = grind (arith, common_steps)
+
+pub overflow_add-first : goal.overflow_add-first
+overflow_add-first c = grind (arith, common_steps)

@@ -1,3 +1,4 @@
+use Rattle.std.proofs.lemmas.Grind.{common_steps}
 use Rattle.std.proofs.Common.{◌+◌, refl, sym, ◌∙◌, arith, add-one}
 use Rattle.cip_cert.specs.Lent.{lent_of}
 use Rattle.cip_cert.specs.Checks.{add_row, add_rows}
@@ -45,3 +46,6 @@ returns-clause-steps c =
 
 pub returns-clause-columns : goal.returns-clause-columns
 returns-clause-columns c = c.loop-at.invariant.columns
+
+pub offset_bounds-multiples-at : goal.offset_bounds-multiples-at
+offset_bounds-multiples-at c = grind (arith, common_steps)

@@ -69,3 +69,6 @@ offset_bounds-entries-term-inside c = omega arith
 
 pub set-requires : goal.set-requires
 set-requires c = grind (arith, common_steps)
+
+pub offset_bounds-terms-term-index : goal.offset_bounds-terms-term-index
+offset_bounds-terms-term-index c = grind (arith, common_steps)

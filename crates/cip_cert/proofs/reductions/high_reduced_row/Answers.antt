@@ -1,3 +1,4 @@
+use Rattle.std.proofs.lemmas.Grind.{common_steps}
 use Rattle.std.proofs.Common.{◌≡◌, ◌<◌, false, List, length, get_or, Option, Result, arith, sym, ap, ◌∙◌}
 use Rattle.std.proofs.lemmas.List.{get_or_default}
 use Rattle.cip_rational.specs.Rational.{ℚ, zeroℚ}
@@ -76,3 +77,6 @@ returns-in-Ok-high_side-clause-columns c = c.in-Ok.ensures.columns
 
 pub returns-in-Err-high_side-clause-columns : goal.returns-in-Err-high_side-clause-columns
 returns-in-Err-high_side-clause-columns c = c.in-Ok.ensures.columns
+
+pub offset_bounds-entries-column : goal.offset_bounds-entries-column
+offset_bounds-entries-column c = grind (arith, common_steps)

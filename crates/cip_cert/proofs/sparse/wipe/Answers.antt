@@ -1,3 +1,4 @@
+use Rattle.std.proofs.lemmas.Grind.{common_steps}
 use Rattle.std.proofs.Common.{◌<◌, ◌+◌, ◌∙◌, length, get_or, set, drop, replicate, refl, sym, ap, subst, arith}
 use Rattle.std.proofs.Math.ListN.{drop_of_length-le}
 use Rattle.std.proofs.lemmas.List.{length-set}
@@ -41,3 +42,6 @@ returns c =
     covers_end c.loop-column.entries _ (drop_of_length-le c.args.touched.now c.loop-column-test.false)
     c.loop-column.invariant.covers
     ∙ ap (λ n. replicate n zeroℚ) c.loop-column.invariant.same
+
+pub offset_bounds-entries-column : goal.offset_bounds-entries-column
+offset_bounds-entries-column c = grind (arith, common_steps)

@@ -1,3 +1,4 @@
+use Rattle.std.proofs.lemmas.Grind.{common_steps}
 use Rattle.std.proofs.Common.{◌≡◌, ◌∙◌, ap₂, arith, refl}
 use Rattle.cip_cert.specs.Checks.{chain, rest_of, rest_added}
 use Rattle.cip_cert.proofs.Stepwise.{same_item, column_added, column_failed, columns_added}
@@ -67,3 +68,12 @@ offset_bounds-entries-at-then-not-step c = omega arith
 
 pub offset_bounds-sides-at-then-not-step : goal.offset_bounds-sides-at-then-not-step
 offset_bounds-sides-at-then-not-step c = omega arith
+
+pub offset_bounds-sides-at : goal.offset_bounds-sides-at
+offset_bounds-sides-at c = grind (arith, common_steps)
+
+pub offset_bounds-entries-at : goal.offset_bounds-entries-at
+offset_bounds-entries-at c = grind (arith, common_steps)
+
+pub offset_bounds-costs-at : goal.offset_bounds-costs-at
+offset_bounds-costs-at c = grind (arith, common_steps)

@@ -1,3 +1,4 @@
+use Rattle.std.proofs.lemmas.Grind.{common_steps}
 use Rattle.std.proofs.Common.{◌≡◌, ◌<◌, false, ◌∙◌, arith, length, get_or, sym, refl}
 use Rattle.std.proofs.lemmas.List.{get_or_default}
 use Rattle.cip_rational.specs.Rational.{zeroℚ}
@@ -30,3 +31,12 @@ returns-then-stops c =
 
 pub returns : goal.returns
 returns c = sym (none_found c.args.whole.now c.args.entries.now c.args.touched.now c.loop-column.column-index c.requires.tells c.loop-column-test.false c.loop-column.invariant)
+
+pub bounds-entries-column : goal.bounds-entries-column
+bounds-entries-column c = grind (arith, common_steps)
+
+pub bounds-whole-column : goal.bounds-whole-column
+bounds-whole-column c = grind (arith, common_steps)
+
+pub offset_bounds-entries-column : goal.offset_bounds-entries-column
+offset_bounds-entries-column c = grind (arith, common_steps)

@@ -76,3 +76,9 @@ offset_bounds-entries-column c = omega arith
 
 pub offset_bounds-sides-column : goal.offset_bounds-sides-column
 offset_bounds-sides-column c = omega arith
+
+pub overflow_add-next : goal.overflow_add-next
+overflow_add-next c = grind (arith, common_steps)
+
+pub offset_bounds-touched-column-index : goal.offset_bounds-touched-column-index
+offset_bounds-touched-column-index c = grind (arith, common_steps)

@@ -1,3 +1,4 @@
+use Rattle.std.proofs.lemmas.Grind.{common_steps}
 use Rattle.std.proofs.Common.{◌≡◌, arith, subst, sym}
 use Rattle.std.specs.Int.{IsGcd}
 use Rattle.std.proofs.lemmas.Nat.Gcd.{IsGcd-swap, IsGcd-from_zero}
@@ -19,3 +20,9 @@ returns-then-rest-eq0 c = c.narrowed-low.ensures.same _ (IsGcd-from_zero _ _ c.i
 
 pub returns : goal.returns
 returns c = c.narrowed-low.ensures.same _ c.stripped_gcd.ensures
+
+pub returns-then-b-eq0 : goal.returns-then-b-eq0
+returns-then-b-eq0 c = grind (arith, common_steps)
+
+pub returns-then-a-eq0 : goal.returns-then-a-eq0
+returns-then-a-eq0 c = grind (arith, common_steps)

@@ -1,4 +1,5 @@
-use Rattle.std.proofs.Common.{◌≡◌, rules}
+use Rattle.std.proofs.lemmas.Grind.{common_steps}
+use Rattle.std.proofs.Common.{◌≡◌, rules, arith}
 use Rattle.cip_frac.proofs.ShortSums.{word, under_some, fraction_step_is}
 use Rattle.cip_frac.proofs.in_place.fraction_step.Goals as goal
 
@@ -15,3 +16,15 @@ returns-in-Some-short_sum c =
     fraction_step_is c.args.start c.args.left.now c.args.right.now _ _ _ _ _ _ c.in-Some.ensures c.in-Some-short_terms.ensures c.in-Some-short_terms-2.ensures kn ka kc
     c.in-Some-checked_mul.over c.in-Some-short_common.under c.in-Some-checked_mul.ensures c.in-Some-short_common.ensures
     c.in-Some-short_sum.total c.in-Some-short_sum.common c.reduced.result c.in-Some-short_sum.ensures.1 kt c.reduced.ensures
+
+pub short_sum-requires-clause-small : goal.short_sum-requires-clause-small
+short_sum-requires-clause-small c = grind (arith, common_steps)
+
+pub short_sum-requires-clause-positive : goal.short_sum-requires-clause-positive
+short_sum-requires-clause-positive c = grind (arith, common_steps)
+
+pub reduced-requires : goal.reduced-requires
+reduced-requires c = grind (arith, common_steps)
+
+pub short_sum-requires-clause-other_small : goal.short_sum-requires-clause-other_small
+short_sum-requires-clause-other_small c = omega arith

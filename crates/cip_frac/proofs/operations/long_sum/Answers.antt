@@ -1,4 +1,4 @@
-use Rattle.std.proofs.Common.{◌∙◌}
+use Rattle.std.proofs.Common.{◌∙◌, arith}
 use Rattle.cip_frac.proofs.Divisors.{positive_from_IsGcd}
 use Rattle.cip_frac.proofs.SumSteps.{known, first_none, second_none, total_none, common_none, all_fit, short_lowest, short_ratio, rest_is_some, rest_small, last_fits, last_lowest, last_ratio}
 use Rattle.cip_frac.proofs.operations.long_sum.Goals as goal
@@ -70,3 +70,9 @@ pub returns : goal.returns
 returns c =
     let k = known c.terms-a.ensures.over c.terms-a.ensures.under c.terms-a.ensures.lowest c.terms-c.ensures.over c.terms-c.ensures.under c.terms-c.ensures.lowest c.gcd-g.ensures c.part_of-over.ensures c.part_of-under.ensures in
     (all_fit k c.in-Some.ensures c.in-Some-raised.ensures c.in-Some-bounded_sum.ensures c.in-Some-bounded_common.ensures, c.of_lowest-2.ensures ∙ last_ratio k c.in-Some.ensures c.in-Some-raised.ensures c.in-Some-bounded_sum.ensures c.in-Some-bounded_common.ensures c.unsigned_abs.ensures.value c.gcd-rest.ensures c.signed_part_of-numerator.ensures c.part_of-last.ensures)
+
+pub raised-requires : goal.raised-requires
+raised-requires c = omega arith
+
+pub raised-requires-2 : goal.raised-requires-2
+raised-requires-2 c = omega arith

@@ -1,4 +1,5 @@
-use Rattle.std.proofs.Common.{◌≡◌, ◌∙◌, rules}
+use Rattle.std.proofs.lemmas.Grind.{common_steps}
+use Rattle.std.proofs.Common.{◌≡◌, ◌∙◌, rules, arith}
 use Rattle.cip_frac.proofs.Divisors.{positive_from_IsGcd}
 use Rattle.cip_frac.proofs.ShortSums.{word}
 use Rattle.cip_frac.proofs.ShortParts.{lowest_of, over_short, under_short, sum_fits, sum_lowest, sum_is, rest_some, rest_bounded, rest_lowest, rest_is}
@@ -63,3 +64,9 @@ returns c =
     let ka : word c.in-Some.a ≡ c.in-Some.a = search rules in
     let kc : word c.in-Some-short_terms.c ≡ c.in-Some-short_terms.c = search rules in
     (sum_fits c.args.left c.args.right c.in-Some.a c.in-Some-short_terms.c _ _ _ _ _ c.in-Some.ensures c.in-Some-short_terms.ensures ka kc c.denominators_gcd-g.ensures c.short_part_of-over.ensures c.short_part_of-under.ensures c.cross_sum-total.result c.cross_sum-total.ensures, c.of_lowest-2.ensures ∙ rest_is c.args.left c.args.right c.in-Some.a c.in-Some-short_terms.c _ _ _ _ _ c.in-Some.ensures c.in-Some-short_terms.ensures ka kc c.denominators_gcd-g.ensures c.short_part_of-over.ensures c.short_part_of-under.ensures c.cross_sum-total.result c.cross_sum-total.ensures _ _ c.unsigned_abs.ensures.value c.gcd-rest.ensures _ _ c.signed_part_of-numerator.ensures c.part_of-last.ensures)
+
+pub overflow_mul-under : goal.overflow_mul-under
+overflow_mul-under c = grind (arith, common_steps)
+
+pub overflow_cast-under : goal.overflow_cast-under
+overflow_cast-under c = omega arith

@@ -1,3 +1,5 @@
+use Rattle.std.proofs.lemmas.Grind.{common_steps}
+use Rattle.std.proofs.Common.{arith}
 use Rattle.cip_frac.proofs.SumSteps.{read}
 use Rattle.cip_frac.proofs.WholeNumbers.{made_product, product_made}
 use Rattle.cip_frac.proofs.operations.whole_product.Goals as goal
@@ -7,3 +9,6 @@ of_lowest-requires c = made_product (read c.args.a) (read c.args.c) c.in-Some.pr
 
 pub returns-in-Some : goal.returns-in-Some
 returns-in-Some c = product_made c.args.a c.args.c _ _ c.ranges.a c.ranges.c c.in-Some.ensures c.of_lowest.ensures
+
+pub returns-in-None : goal.returns-in-None
+returns-in-None c = grind (arith, common_steps)

@@ -1,3 +1,4 @@
+use Rattle.std.proofs.lemmas.Grind.{common_steps}
 use Rattle.std.proofs.Common.{◌≡◌, ◌∙◌, ap, sym, get_or, arith}
 use Rattle.std.proofs.lemmas.List.{get_or_read, drop_all}
 use Rattle.cip_frac.specs.Rational.{zeroℚ}
@@ -42,3 +43,9 @@ pub returns : goal.returns
 returns c = record {
   steps = sym (ap (λ ts. activity_from c.loop-term.sum ts c.args.point.now) (drop_all c.loop-term.term-index c.args.terms.now (omega (arith, c.loop-term-test.false)))) ∙ c.loop-term.invariant;
 }
+
+pub offset_bounds-point-term-inside : goal.offset_bounds-point-term-inside
+offset_bounds-point-term-inside c = grind (arith, common_steps)
+
+pub offset_bounds-terms-term-index : goal.offset_bounds-terms-term-index
+offset_bounds-terms-term-index c = grind (arith, common_steps)

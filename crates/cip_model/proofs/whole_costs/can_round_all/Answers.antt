@@ -1,3 +1,4 @@
+use Rattle.std.proofs.lemmas.Grind.{common_steps}
 use Rattle.std.proofs.Common.{false, get_or, sym, subst, arith}
 use Rattle.cip_rational.specs.Rational.{zeroℚ}
 use Rattle.cip_problem.specs.Cuts.{CanRoundAt}
@@ -14,3 +15,6 @@ pub returns : goal.returns
 returns c =
     zip_from CanRoundAt c.args.whole.now c.args.costs.now false zeroℚ c.requires
     (λ k l. c.loop-at.invariant k (omega (arith, l)))
+
+pub loop-at-init : goal.loop-at-init
+loop-at-init c = grind (arith, common_steps)

@@ -1,3 +1,4 @@
+use Rattle.std.proofs.lemmas.Grind.{common_steps}
 use Rattle.std.proofs.Common.{true, false, arith}
 use Rattle.cip_problem.specs.Box.{no_sides}
 use Rattle.cip_problem.specs.Wholes.{HasWhole}
@@ -10,3 +11,15 @@ pub returns : goal.returns
 returns c =
     zip_from (λ (whole : Bool) (sides : Sides). whole ≡ true → HasWhole sides) c.args.whole.now c.args.bounds.now false no_sides c.requires.long
     (λ k l. c.loop-column.invariant k (omega (arith, l)))
+
+pub loop-column-preserved : goal.loop-column-preserved
+loop-column-preserved c = grind (arith, common_steps)
+
+pub sides-requires : goal.sides-requires
+sides-requires c = grind (arith, common_steps)
+
+pub loop-column-init : goal.loop-column-init
+loop-column-init c = grind (arith, common_steps)
+
+pub returns-then-lacks_whole : goal.returns-then-lacks_whole
+returns-then-lacks_whole c = grind (arith, common_steps)

@@ -1,3 +1,4 @@
+use Rattle.std.proofs.lemmas.Grind.{common_steps}
 use Rattle.std.proofs.Common.{◌≡◌, ◌∙◌, ap, arith}
 use Rattle.std.proofs.lemmas.Int.{ints}
 use Rattle.cip_rational.specs.Rational.{numerator, ceil}
@@ -8,3 +9,6 @@ pub returns-clause-value : goal.returns-clause-value
 returns-clause-value c =
     let e : c.numerator.result ≡ ceil c.args.low = c.numerator.ensures.value ∙ ap numerator c.rounded_up.ensures ∙ numerator-integer _ in
     omega (arith, ints, e)
+
+pub returns-clause-bounded : goal.returns-clause-bounded
+returns-clause-bounded c = grind (arith, common_steps)

@@ -1,3 +1,4 @@
+use Rattle.std.proofs.lemmas.Grind.{common_steps}
 use Rattle.std.proofs.Common.{◌≡◌, true, false, Bool, get_or, sym, subst, arith}
 use Rattle.cip_rational.specs.Rational.{ℚ, zeroℚ, IsWhole}
 use Rattle.cip_problem.proofs.Zips.{zip_from, zip_at}
@@ -13,3 +14,9 @@ pub returns : goal.returns
 returns c =
     zip_from (λ (whole : Bool) (value : ℚ). whole ≡ true → IsWhole value) c.args.whole.now c.args.point.now false zeroℚ c.requires
     (λ k l. c.loop-at.invariant k (omega (arith, l)))
+
+pub loop-at-preserved : goal.loop-at-preserved
+loop-at-preserved c = grind (arith, common_steps)
+
+pub loop-at-init : goal.loop-at-init
+loop-at-init c = grind (arith, common_steps)

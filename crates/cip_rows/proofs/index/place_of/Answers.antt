@@ -1,3 +1,4 @@
+use Rattle.std.proofs.lemmas.Grind.{common_steps}
 use Rattle.std.proofs.Common.{arith}
 use Rattle.cip_rows.proofs.IndexedRows.{no_such_id}
 use Rattle.cip_rows.proofs.index.place_of.Goals as goal
@@ -11,3 +12,6 @@ returns-else-place-rows c =
       | else-place-rows-via-then-place-rows+else-rows-place w ↦ other_default _ _ _ w.index-rows-place.result w.if-rows-place.false
       | else-place-rows-via-else-place-rows w ↦ λ d l. absurd (omega (arith, l, w.if-place-rows.false))
     ])
+
+pub returns-then-rows-place : goal.returns-then-rows-place
+returns-then-rows-place c = grind (arith, common_steps)

@@ -1,3 +1,4 @@
+use Rattle.std.proofs.lemmas.Grind.{common_steps}
 use Rattle.std.proofs.Common.{◌≡◌, ◌+◌, ◌<◌, ◌++◌, ◌^◌, length, sym, subst, arith, cond}
 use Rattle.cip_rational.specs.Numeral.{Huge, TooFine, scaled, size_of, zeros_at_end}
 use Rattle.cip_text.proofs.Decided.{far_down, far_up}
@@ -18,3 +19,6 @@ returns-else-is_down c = λ amount big.
     let short : length c.args.whole.now + length c.args.decimals.now < 2 ^ 64 = omega arith in
     subst (λ b. Huge n ≡ scaled n (size_of (xs ++ ys)) (cond b 0 amount + zeros_at_end (xs ++ ys)) (cond b amount 0 + length ys)) (sym c.if-is_down.false)
     (far_up n xs ys c.zeros_at_both_ends-zeros.result c.requires.are_digits c.zeros_at_both_ends-zeros.ensures.value some amount short big)
+
+pub returns-then-zeros-whole : goal.returns-then-zeros-whole
+returns-then-zeros-whole c = grind (arith, common_steps)

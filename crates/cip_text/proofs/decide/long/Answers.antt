@@ -1,3 +1,4 @@
+use Rattle.std.proofs.lemmas.Grind.{common_steps}
 use Rattle.std.proofs.Common.{◌++◌, sym, arith}
 use Rattle.cip_text.proofs.Amounts.{capped_value, capped_over}
 use Rattle.cip_text.proofs.Decided.{whole_long, fraction_fine, kept_some, long_fine, long_huge}
@@ -30,3 +31,6 @@ returns-in_default-2 c =
     let v = capped_over _ c.in_default.ensures in
     sym (long_huge c.args.negative (c.args.whole.now ++ c.args.decimals.now) c.args.kept c.args.up c.args.down c.requires.are_digits c.requires.kept_are
     c.if-down-up.false c.if-places-kept.false (omega (arith, v)))
+
+pub number_of_first-requires-clause-within : goal.number_of_first-requires-clause-within
+number_of_first-requires-clause-within c = grind (arith, common_steps)

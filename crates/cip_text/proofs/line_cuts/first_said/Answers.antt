@@ -1,3 +1,4 @@
+use Rattle.std.proofs.lemmas.Grind.{common_steps}
 use Rattle.std.proofs.Common.{◌<◌, length, sym, ◌∙◌, arith}
 use Rattle.cip_text.specs.TextLines.{content_of}
 use Rattle.cip_text.proofs.Cuts.{filled, behind_shorter, silent_line, said_line_at}
@@ -18,3 +19,15 @@ loop-rest-preserved c =
           sym (silent_line c.args.comment c.loop-rest.number c.loop-rest.rest.now c.cut.result.0.now c.cut.result.1.now some c.cut.ensures.before c.cut.ensures.after (sym c.in_default.ensures.says))
           ∙ c.loop-rest.invariant.same;
     }
+
+pub loop-rest-smaller : goal.loop-rest-smaller
+loop-rest-smaller c = grind (arith, common_steps)
+
+pub returns-in-Some-clause-counted : goal.returns-in-Some-clause-counted
+returns-in-Some-clause-counted c = grind (arith, common_steps)
+
+pub returns-clause-says : goal.returns-clause-says
+returns-clause-says c = grind (arith, common_steps)
+
+pub overflow_add-number : goal.overflow_add-number
+overflow_add-number c = grind (arith, common_steps)

@@ -1,4 +1,5 @@
-use Rattle.std.proofs.Common.{◌+◌}
+use Rattle.std.proofs.lemmas.Grind.{common_steps}
+use Rattle.std.proofs.Common.{◌+◌, arith}
 use Rattle.cip_text.proofs.FeedCuts.{no_feed, cut_at_feed, before_feed, whole_rest}
 use Rattle.cip_text.proofs.piece_cuts.cut_line.Goals as goal
 
@@ -10,3 +11,6 @@ returns-in-Some c =
     let bytes = c.args.bytes.now in
     let found = c.in-Some.ensures in
     rw (whole_rest bytes (c.in-Some.at + 1)) (cut_at_feed bytes c.in-Some.at found.0.high found.1, before_feed bytes c.in-Some.at found.0.high found.0.before)
+
+pub slice_bounds-result-end : goal.slice_bounds-result-end
+slice_bounds-result-end c = grind (arith, common_steps)

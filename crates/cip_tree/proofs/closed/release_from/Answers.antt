@@ -1,4 +1,5 @@
-use Rattle.std.proofs.Common.{◌∙◌}
+use Rattle.std.proofs.lemmas.Grind.{common_steps}
+use Rattle.std.proofs.Common.{◌∙◌, arith}
 use Rattle.cip_tree.proofs.Freeing.{next_stands, next_released}
 use Rattle.cip_tree.proofs.closed.release_from.Goals as goal
 
@@ -11,3 +12,9 @@ loop-node-preserved c = record {
   kept = c.release_dear.ensures.kept;
   capacity = c.release_dear.ensures.capacity ∙ c.loop-node.invariant.capacity;
 }
+
+pub returns-clause-slots : goal.returns-clause-slots
+returns-clause-slots c = grind (arith, common_steps)
+
+pub offset_bounds-nodes-node-index : goal.offset_bounds-nodes-node-index
+offset_bounds-nodes-node-index c = grind (arith, common_steps)

@@ -1,4 +1,5 @@
-use Rattle.std.proofs.Common.{◌≡◌, Some, None, sym, ap, ◌∙◌}
+use Rattle.std.proofs.lemmas.Grind.{common_steps}
+use Rattle.std.proofs.Common.{◌≡◌, Some, None, sym, ap, ◌∙◌, arith}
 use Rattle.std.proofs.lemmas.Option.{same_Some}
 use Rattle.cip_tree.specs.Slots.{Slot}
 use Rattle.cip_tree.proofs.Keeping.{root_kept, child_kept, child_released, child_next, parent_used}
@@ -58,3 +59,15 @@ returns-clause-kept c =
     subst (λ b. IsKeptBut (cond b (Some c.in-Some.origin.parent) None) c.lower.new.kept.slots) c.if-lower.false
     (child_kept c.args.kept.now.slots c.lower.new.kept.slots c.args.place c.remove-gone.result c.requires.kept c.remove-gone.ensures.value empty c.remove-gone.new.self.slots c.in-Some.origin
     (sym (ap (λ (s : Slot). s.origin) c.gone.view_is) ∙ c.in-Some.is) c.remove-gone.ensures.updates.changed c.remove-gone.ensures.updates.others c.lower.result lowered)
+
+pub returns-clause-capacity : goal.returns-clause-capacity
+returns-clause-capacity c = grind (arith, common_steps)
+
+pub returns-then-lower-clause-capacity : goal.returns-then-lower-clause-capacity
+returns-then-lower-clause-capacity c = grind (arith, common_steps)
+
+pub returns-clause-len : goal.returns-clause-len
+returns-clause-len c = grind (arith, common_steps)
+
+pub returns-then-lower-clause-len : goal.returns-then-lower-clause-len
+returns-then-lower-clause-len c = grind (arith, common_steps)

@@ -1,4 +1,5 @@
-use Rattle.std.proofs.Common.{◌∙◌, subst, IfSome}
+use Rattle.std.proofs.lemmas.Grind.{common_steps}
+use Rattle.std.proofs.Common.{◌∙◌, subst, IfSome, arith}
 use Rattle.cip_tree.specs.Slots.{IsUnused}
 use Rattle.cip_tree.proofs.Keeping.{released_more}
 use Rattle.cip_tree.proofs.kept.release.Goals as goal
@@ -12,3 +13,12 @@ loop-next-preserved c =
       unused = c.let_go-next-in-Some.ensures.next;
       capacity = c.let_go-next-in-Some.ensures.capacity ∙ c.loop-next.invariant.capacity;
     }
+
+pub returns-clause-kept : goal.returns-clause-kept
+returns-clause-kept c = grind (arith, common_steps)
+
+pub let_go-next-requires-in-Some-clause-kept : goal.let_go-next-requires-in-Some-clause-kept
+let_go-next-requires-in-Some-clause-kept c = grind (arith, common_steps)
+
+pub let_go-next-requires-in-Some-clause-idle : goal.let_go-next-requires-in-Some-clause-idle
+let_go-next-requires-in-Some-clause-idle c = grind (arith, common_steps)

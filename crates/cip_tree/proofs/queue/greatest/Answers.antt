@@ -1,4 +1,5 @@
-use Rattle.std.proofs.Common.{subst}
+use Rattle.std.proofs.lemmas.Grind.{common_steps}
+use Rattle.std.proofs.Common.{subst, arith}
 use Rattle.std.proofs.lemmas.List.{take_all}
 use Rattle.std.specs.Prelude.{All}
 use Rattle.cip_tree.specs.Bounds.{IsBoundAtMost}
@@ -10,3 +11,6 @@ loop-node-preserved c = greatest_step c.loop-node.most c.greater-most.result c.a
 
 pub returns : goal.returns
 returns c = subst (All (λ node. IsBoundAtMost node.bound c.loop-node.most)) (take_all c.loop-node.node-index c.args.nodes.now c.loop-node-test.false) c.loop-node.invariant
+
+pub loop-node-init : goal.loop-node-init
+loop-node-init c = grind (arith, common_steps)

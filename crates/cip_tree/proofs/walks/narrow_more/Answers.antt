@@ -1,4 +1,5 @@
-use Rattle.std.proofs.Common.{subst}
+use Rattle.std.proofs.lemmas.Grind.{common_steps}
+use Rattle.std.proofs.Common.{subst, arith}
 use Rattle.cip_domain.specs.Domain.{region_of}
 use Rattle.cip_domain.specs.Narrowing.{ArePlainPast}
 use Rattle.cip_domain.proofs.Marks.{keeps_trans}
@@ -20,3 +21,6 @@ pub returns-else-branch-clause-narrowed : goal.returns-else-branch-clause-narrow
 returns-else-branch-clause-narrowed c = λ p.
     none_more (region_of c.args.domain.now) c.args.change (noted c.args.notes.now)
     (subst (λ b. AreNarrowed (region_of c.args.domain.now) (region_of c.narrow_by.new.domain) (noted c.args.notes.now) b) c.if-branch.false (c.in_ok-narrow_by.ensures.narrowed p))
+
+pub returns-else-branch-clause-marks : goal.returns-else-branch-clause-marks
+returns-else-branch-clause-marks c = grind (arith, common_steps)

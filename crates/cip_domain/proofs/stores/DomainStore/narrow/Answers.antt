@@ -34,3 +34,6 @@ returns-in_default c = grind (arith, common_steps)
 
 pub returns-then-change-len-clause-narrowed : goal.returns-then-change-len-clause-narrowed
 returns-then-change-len-clause-narrowed c = grind (arith, common_steps)
+
+pub same-change : goal.same-change
+same-change c = grind (arith, common_steps)

@@ -30,3 +30,9 @@ returns c = grind (arith, common_steps)
 
 pub sides-sides-requires : goal.sides-sides-requires
 sides-sides-requires c = grind (arith, common_steps)
+
+pub step-requires-clause-column : goal.step-requires-clause-column
+step-requires-clause-column c = grind (arith, common_steps)
+
+pub step-requires-clause-room : goal.step-requires-clause-room
+step-requires-clause-room c = grind (arith, common_steps)

@@ -1,4 +1,5 @@
-use Rattle.std.proofs.Common.{◌∙◌}
+use Rattle.std.proofs.lemmas.Grind.{common_steps}
+use Rattle.std.proofs.Common.{◌∙◌, arith}
 use Rattle.cip_frac.proofs.Reduced.{divisor_some, whole_lowest, part_lowest, part_ratio}
 use Rattle.cip_frac.proofs.fraction.Frac.reduced.Goals as goal
 
@@ -23,3 +24,9 @@ pub returns : goal.returns
 returns c =
     c.of_lowest-2.ensures ∙ part_ratio c.args.total c.args.common _ _ c.ranges.total c.ranges.common.fits c.unsigned_abs-size.ensures.value c.requires c.short_gcd-g.ensures
     _ c.with_sign-numerator.ensures
+
+pub returns-then-g-eq1 : goal.returns-then-g-eq1
+returns-then-g-eq1 c = grind (arith, common_steps)
+
+pub overflow_cast-total : goal.overflow_cast-total
+overflow_cast-total c = grind (arith, common_steps)

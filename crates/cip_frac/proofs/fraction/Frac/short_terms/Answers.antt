@@ -12,3 +12,6 @@ returns-in-Some c =
       subst (λ z. unsigned_abs z ≤ 2 ^ 63) e c.in-Some.ensures.1,
       omega arith,
     )
+
+pub overflow_cast-result : goal.overflow_cast-result
+overflow_cast-result c = omega arith

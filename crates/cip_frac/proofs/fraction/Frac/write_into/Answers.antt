@@ -1,3 +1,4 @@
+use Rattle.std.proofs.lemmas.Grind.{common_steps}
 use Rattle.std.proofs.Common.{◌++◌, ◌∷◌, [], arith, ap, ◌∙◌}
 use Rattle.cip_frac.proofs.TextParts.{same_after, whole_text, quotient_text}
 use Rattle.cip_frac.proofs.fraction.Frac.write_into.Goals as goal
@@ -17,3 +18,18 @@ returns-clause-rest c =
     let second = same_after _ _ c.put-start.result c.put.result (omega (arith, c.put.ensures.end)) c.put-start.ensures.rest in
     let first = same_after _ _ c.put-end.result c.put.result (omega (arith, c.put.ensures.end, c.put-start.ensures.end)) c.put-end.ensures.rest in
     third ∙ second ∙ first
+
+pub returns-clause-within : goal.returns-clause-within
+returns-clause-within c = omega arith
+
+pub returns-then-denominator-eq1-clause-rest : goal.returns-then-denominator-eq1-clause-rest
+returns-then-denominator-eq1-clause-rest c = grind (arith, common_steps)
+
+pub put-requires : goal.put-requires
+put-requires c = omega arith
+
+pub returns-then-denominator-eq1-clause-within : goal.returns-then-denominator-eq1-clause-within
+returns-then-denominator-eq1-clause-within c = omega arith
+
+pub put-start-requires : goal.put-start-requires
+put-start-requires c = omega arith

@@ -1,4 +1,5 @@
-use Rattle.std.proofs.Common.{ap, sym, subst, ◌∙◌}
+use Rattle.std.proofs.lemmas.Grind.{common_steps}
+use Rattle.std.proofs.Common.{ap, sym, subst, ◌∙◌, arith}
 use Rattle.cip_rational.specs.Rational.{ratio}
 use Rattle.cip_frac.specs.LowestTerms.{AreLowest}
 use Rattle.cip_frac.proofs.Casts.{widened, widened_small}
@@ -12,3 +13,6 @@ of_lowest-requires c =
 
 pub returns : goal.returns
 returns c = c.of_lowest.ensures ∙ ap (λ n. ratio n 1) (widened c.args.p c.ranges.p) ∙ integer_ratio c.args.p
+
+pub overflow_cast-p : goal.overflow_cast-p
+overflow_cast-p c = grind (arith, common_steps)

@@ -1,5 +1,6 @@
+use Rattle.std.proofs.lemmas.Grind.{common_steps}
 use Rattle.cip_lin.proofs.BuiltRows.{none_built, more_built, fault_built, more_terms}
-use Rattle.std.proofs.Common.{◌≡◌, ap, subst, take}
+use Rattle.std.proofs.Common.{◌≡◌, ap, subst, take, arith}
 use Rattle.cip_lin.specs.RowFaults.{CanStandAfter, IsAppendFault}
 use Rattle.cip_lin.proofs.rows.Row.build.Goals as goal
 
@@ -17,3 +18,6 @@ pub returns-in-Err : goal.returns-in-Err
 returns-in-Err c =
     let front : c.loop-term.row.terms ≡ take c.loop-term.term-index c.args.terms.now = ap (λ r. r.terms) c.loop-term.invariant.0 in
     fault_built c.loop-term.term-index c.args.terms.now c.term-item.result c.loop-term-test.true c.term-item.is c.in-Err.fault c.loop-term.invariant.1 (subst (λ ts. IsAppendFault ts c.term-item.result c.in-Err.fault) front c.in-Err.ensures.1)
+
+pub returns : goal.returns
+returns c = grind (arith, common_steps)

@@ -1,3 +1,4 @@
+use Rattle.std.proofs.lemmas.Grind.{common_steps}
 use Rattle.std.proofs.Common.{◌<◌, ap, take, ◌∙◌, arith}
 use Rattle.cip_model.specs.NumberLists.{lists_of}
 use Rattle.cip_model.proofs.GroupLaws.{grouped_first, step_none, step_some, below_at, many}
@@ -26,3 +27,18 @@ loop-number-preserved c =
           (ap (λ g. lists_of g.items) w.groups-is ∙ w.in_ok-put-in-Some.ensures) (ap (λ r. r.items) w.rest-is) in
           record { groups = told.0; rest = told.1 })
     ]
+
+pub returns : goal.returns
+returns c = grind (arith, common_steps)
+
+pub overflow_cast-number-in-Some : goal.overflow_cast-number-in-Some
+overflow_cast-number-in-Some c = grind (arith, common_steps)
+
+pub bounds-owners-number : goal.bounds-owners-number
+bounds-owners-number c = grind (arith, common_steps)
+
+pub overflow_cast-number : goal.overflow_cast-number
+overflow_cast-number c = grind (arith, common_steps)
+
+pub offset_bounds-owners-number : goal.offset_bounds-owners-number
+offset_bounds-owners-number c = grind (arith, common_steps)

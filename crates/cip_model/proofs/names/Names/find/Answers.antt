@@ -1,4 +1,5 @@
-use Rattle.std.proofs.Common.{◌≡◌, ◌∙◌}
+use Rattle.std.proofs.lemmas.Grind.{common_steps}
+use Rattle.std.proofs.Common.{◌≡◌, ◌∙◌, arith}
 use Rattle.cip_problem.specs.Names.{number_of}
 use Rattle.cip_model.proofs.NamePlaces.{number_within}
 use Rattle.cip_model.proofs.names.Names.find.Goals as goal
@@ -8,3 +9,12 @@ returns-in-None-clause-within c =
     let number : c.get.result ≡ number_of c.args.self.now c.args.name.now =
     rw (← c.self.view_is) (c.get.ensures ∙ c.self.invariant.found c.args.name.now) in
     number_within c.args.self.now c.args.name.now c.get.result number
+
+pub find-requires : goal.find-requires
+find-requires c = grind (arith, common_steps)
+
+pub returns-in-Some-clause-number : goal.returns-in-Some-clause-number
+returns-in-Some-clause-number c = grind (arith, common_steps)
+
+pub returns-in-None-clause-number : goal.returns-in-None-clause-number
+returns-in-None-clause-number c = grind (arith, common_steps)

@@ -1,4 +1,5 @@
-use Rattle.std.proofs.Common.{◌≡◌, ◌∙◌, true, false, Bool, List, rules, sym, ap, subst}
+use Rattle.std.proofs.lemmas.Grind.{common_steps}
+use Rattle.std.proofs.Common.{◌≡◌, ◌∙◌, true, false, Bool, List, rules, sym, ap, subst, arith}
 use Rattle.cip_problem.specs.Program.{Sides, Row}
 use Rattle.cip_rational.specs.Rational.{zeroℚ}
 use Rattle.cip_frac.specs.Outcomes.{dot_from}
@@ -61,3 +62,27 @@ returns-clause-falls c =
     (VerdictHolds c.args.self.now c.args.point.now) c.in-Feasible.is c.check.ensures.meaning in
     λ h. feasible_along c.args.self.now c.args.point.now c.args.ray.now c.costs.ensures.formed m.0
     ((returns-clause-shown c).0 h)
+
+pub keeps_rows-requires : goal.keeps_rows-requires
+keeps_rows-requires c = grind (arith, common_steps)
+
+pub returns-in_default : goal.returns-in_default
+returns-in_default c = grind (arith, common_steps)
+
+pub lowers_cost-requires : goal.lowers_cost-requires
+lowers_cost-requires c = grind (arith, common_steps)
+
+pub returns-then-not-keeps_rows-clause-falls : goal.returns-then-not-keeps_rows-clause-falls
+returns-then-not-keeps_rows-clause-falls c = grind (arith, common_steps)
+
+pub returns-then-not-keeps_wholes-clause-falls : goal.returns-then-not-keeps_wholes-clause-falls
+returns-then-not-keeps_wholes-clause-falls c = grind (arith, common_steps)
+
+pub keeps_wholes-requires : goal.keeps_wholes-requires
+keeps_wholes-requires c = grind (arith, common_steps)
+
+pub returns-then-not-keeps_bounds-clause-falls : goal.returns-then-not-keeps_bounds-clause-falls
+returns-then-not-keeps_bounds-clause-falls c = grind (arith, common_steps)
+
+pub keeps_bounds-requires : goal.keeps_bounds-requires
+keeps_bounds-requires c = grind (arith, common_steps)

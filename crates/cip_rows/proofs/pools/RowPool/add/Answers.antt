@@ -1,4 +1,5 @@
-use Rattle.std.proofs.Common.{◌≡◌, ◌∙◌, List, MatchResult, sym, ap, subst, length}
+use Rattle.std.proofs.lemmas.Grind.{common_steps}
+use Rattle.std.proofs.Common.{◌≡◌, ◌∙◌, List, MatchResult, sym, ap, subst, length, arith}
 use Rattle.cip_rational.specs.Rational.{ℚ}
 use Rattle.cip_problem.specs.Program.{Row}
 use Rattle.cip_problem.specs.Activity.{StandsBelow}
@@ -40,3 +41,9 @@ returns-in-None-clause-added c =
 
 pub returns-in-None-clause-columns : goal.returns-in-None-clause-columns
 returns-in-None-clause-columns c = c.push.ensures.columns
+
+pub row_from-requires : goal.row_from-requires
+row_from-requires c = grind (arith, common_steps)
+
+pub returns-in-Some-clause-columns : goal.returns-in-Some-clause-columns
+returns-in-Some-clause-columns c = grind (arith, common_steps)

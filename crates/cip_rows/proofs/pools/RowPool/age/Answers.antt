@@ -1,3 +1,4 @@
+use Rattle.std.proofs.lemmas.Grind.{common_steps}
 use Rattle.std.proofs.Common.{◌≡◌, ◌-◌, ◌∙◌, ap, sym, subst, take, drop, arith, length, List, Contains}
 use Rattle.std.specs.Prelude.{All}
 use Rattle.std.proofs.lemmas.List.Elements.{All-drop}
@@ -21,3 +22,9 @@ pub returns : goal.returns
 returns c =
     let same : c.len-count.result ≡ length c.self.inside.rows.items = omega (arith, c.len-count.ensures, c.self.inside.rows.ok.0) in
     rw (← c.self.view_is) (ap (λ (rows : List PoolRow). record { columns = c.self.inside.columns; rows = rows; next = c.self.inside.next }) (c.truncate.ensures.items ∙ ap (take 4096) c.rotate_left.ensures.items ∙ turned 4096 c.len-count.result c.self.inside.rows.items same c.if-count-le-KEPT_POOL_ROWS.false))
+
+pub returns-then-count-le-KEPT_POOL_ROWS : goal.returns-then-count-le-KEPT_POOL_ROWS
+returns-then-count-le-KEPT_POOL_ROWS c = grind (arith, common_steps)
+
+pub index-requires : goal.index-requires
+index-requires c = grind (arith, common_steps)

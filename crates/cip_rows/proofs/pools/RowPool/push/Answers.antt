@@ -1,4 +1,5 @@
-use Rattle.std.proofs.Common.{◌≡◌, ◌∙◌, ◌++◌, ◌∷◌, [], ◌+◌, List, false, length, sym, ap, subst, subst₂}
+use Rattle.std.proofs.lemmas.Grind.{common_steps}
+use Rattle.std.proofs.Common.{◌≡◌, ◌∙◌, ◌++◌, ◌∷◌, [], ◌+◌, List, false, length, sym, ap, subst, subst₂, arith}
 use Rattle.cip_problem.specs.Program.{Sides}
 use Rattle.cip_problem.specs.Activity.{StandsBelow}
 use Rattle.cip_cert.specs.declared.rows.PoolRow.{PoolRow}
@@ -51,3 +52,6 @@ returns-in-Err-clause-added c = ap (λ (xs : List PoolRow). (let p : Pool = reco
 
 pub returns-in-Err-clause-columns : goal.returns-in-Err-clause-columns
 returns-in-Err-clause-columns c = ap (λ (p : Pool). p.columns) c.self.view_is
+
+pub overflow_add-self : goal.overflow_add-self
+overflow_add-self c = grind (arith, common_steps)

@@ -1,5 +1,6 @@
+use Rattle.std.proofs.lemmas.Grind.{common_steps}
 use Rattle.cip_tree.specs.Nodes.{node_in}
-use Rattle.std.proofs.Common.{ap, subst, sym, filter, refl, ◌≤◌, ℕ, count_by}
+use Rattle.std.proofs.Common.{ap, subst, sym, filter, refl, ◌≤◌, ℕ, count_by, arith}
 use Rattle.std.specs.List.Sorted.{IsPermutation}
 use Rattle.cip_tree.specs.Entries.{entries_of}
 use Rattle.cip_tree.specs.Nodes.{filled_base, Nodes}
@@ -48,3 +49,6 @@ returns-else-reaches-clause-nodes c =
     subst (λ (t : Nodes). IsPermutation (filter (is_cheaper c.args.cost) t.open_) t.open_) c.self.view_is
     (closed_nodes c.self.inside.root c.self.inside.kept.slots c.args.cost c.self.inside.queue.nodes c.self.inside.queue.nodes
     (none_closed c.args.cost c.self.inside.queue.nodes (c.reaches.ensures c.if-reaches.false)))
+
+pub release_from-requires-clause-waiting : goal.release_from-requires-clause-waiting
+release_from-requires-clause-waiting c = grind (arith, common_steps)

@@ -1,4 +1,5 @@
-use Rattle.std.proofs.Common.{◌≡◌, ◌++◌, None, List, get_or, refl, ap, ◌∙◌, subst, IfOk}
+use Rattle.std.proofs.lemmas.Grind.{common_steps}
+use Rattle.std.proofs.Common.{◌≡◌, ◌++◌, None, List, get_or, refl, ap, ◌∙◌, subst, IfOk, arith}
 use Rattle.cip_tree.specs.Origins.{after}
 use Rattle.cip_domain.specs.Domain.{region_of as region_in_work}
 use Rattle.cip_tree.specs.declared.notes.Note.{Note}
@@ -37,3 +38,6 @@ returns-clause-entered c =
     ∙ ap (λ (x : TakenNode). region_of c.args.self.now x) c.node.view_is in
     subst (λ r. IfOk c.enter.result (IsEntered (region_in_work c.enter.new.self.domain) r)) region_is
     (c.enter.ensures.entered c.self.inside.ids s.slot c.self.invariant.3 s.found)
+
+pub returns-clause-rest : goal.returns-clause-rest
+returns-clause-rest c = grind (arith, common_steps)

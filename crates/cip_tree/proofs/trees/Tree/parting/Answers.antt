@@ -1,3 +1,4 @@
+use Rattle.std.proofs.lemmas.Grind.{common_steps}
 use Rattle.std.proofs.Common.{◌≡◌, [], length, arith, true, false, Some, List, Bool, MatchResult, rules, to_z, of_z, to_z-of_z, sym, ap, ◌∙◌, subst}
 use Rattle.std.specs.Int.{w128}
 use Rattle.std.specs.Prelude.{slice_get}
@@ -40,3 +41,9 @@ returns-then-is_open c = λ node same.
     let open_ : choice_at (choices_of tree node) c.args.col ≡ Open own.0 = ap (λ (r : Region). choice_at r.choices c.args.col) (sym same) ∙ ap (λ h. choice_at h c.args.col) (sym c.choices.ensures) ∙ sym c.at-choice.ensures ∙ own.1 in
     let wholes : AllHaveWholes tree.integral (box_of tree node) = subst (λ (r : Region). AllHaveWholes tree.integral r.box) same c.requires.wholes in
     chosen_are tree node c.args.col c.args.at wholes own.0 whole open_
+
+pub returns-else-not-whole : goal.returns-else-not-whole
+returns-else-not-whole c = grind (arith, common_steps)
+
+pub flag_at-whole-requires : goal.flag_at-whole-requires
+flag_at-whole-requires c = grind (arith, common_steps)

@@ -1,3 +1,4 @@
+use Rattle.std.proofs.lemmas.Grind.{common_steps}
 use Rattle.std.proofs.Common.{◌≡◌, ◌+◌, ◌-◌, ◌∷◌, ◌++◌, [], Some, None, map, get_or, length, arith, rules, to_z, of_z, to_z-of_z, sym, ap, ◌∙◌, subst, refl}
 use Rattle.std.specs.List.Sorted.{IsPermutation}
 use Rattle.std.specs.Int.{w128}
@@ -177,3 +178,15 @@ split_entry-requires c = omega (arith, ap (λ (t : Nodes). t.ids) c.self.view_is
 
 pub push_reserved-requires : goal.push_reserved-requires
 push_reserved-requires c = omega (arith, c.in_ok-make_room.ensures.room.3)
+
+pub high-high_origin-requires : goal.high-high_origin-requires
+high-high_origin-requires c = grind (arith, common_steps)
+
+pub low-low_origin-requires : goal.low-low_origin-requires
+low-low_origin-requires c = grind (arith, common_steps)
+
+pub same-self-in_err-notes : goal.same-self-in_err-notes
+same-self-in_err-notes c = grind (arith, common_steps)
+
+pub same-self : goal.same-self
+same-self c = grind (arith, common_steps)

@@ -1,4 +1,5 @@
-use Rattle.std.proofs.Common.{◌≡◌, ◌≢◌, List, ◌++◌, [], ◌∷◌, sym, ap, ◌∙◌, subst}
+use Rattle.std.proofs.lemmas.Grind.{common_steps}
+use Rattle.std.proofs.Common.{◌≡◌, ◌≢◌, List, ◌++◌, [], ◌∷◌, sym, ap, ◌∙◌, subst, arith}
 use Rattle.cip_domain.specs.Domain.{region_of as region_in_work}
 use Rattle.cip_domain.specs.declared.stores.Tightened.TheVariants.{Yes}
 use Rattle.cip_tree.specs.declared.notes.Note.{Note}
@@ -40,3 +41,12 @@ returns-clause-tightened c =
     let work = subst (λ (t : Nodes). t.work ≡ region_of t c.args.node.now) (sym c.self.view_is) c.requires.work in
     rw (← c.self.view_is)
     (tightened_so c.in_ok-answer.answer _ (region_in_work c.tighten.new.self.domain) c.args.node.now c.match-answer.node note work c.in_ok-answer.ensures.region noted still)
+
+pub tighten-requires : goal.tighten-requires
+tighten-requires c = grind (arith, common_steps)
+
+pub returns-clause-outcome : goal.returns-clause-outcome
+returns-clause-outcome c = grind (arith, common_steps)
+
+pub push_reserved-requires : goal.push_reserved-requires
+push_reserved-requires c = grind (arith, common_steps)

@@ -1,4 +1,5 @@
-use Rattle.std.proofs.Common.{◌∙◌, sym, subst, MatchOption}
+use Rattle.std.proofs.lemmas.Grind.{common_steps}
+use Rattle.std.proofs.Common.{◌∙◌, sym, subst, MatchOption, arith}
 use Rattle.cip_tree.specs.Walks.{EndsThere, IsParent, Climbs}
 use Rattle.cip_tree.proofs.Walking.{climbs_more, parent_kept, parent_lower}
 use Rattle.cip_tree.proofs.walks.Walk.climb.Goals as goal
@@ -28,3 +29,18 @@ loop-places-preserved c =
       slot = h.parent;
       found = h.found;
     }
+
+pub returns-clause-ends : goal.returns-clause-ends
+returns-clause-ends c = grind (arith, common_steps)
+
+pub returns-clause-domain : goal.returns-clause-domain
+returns-clause-domain c = grind (arith, common_steps)
+
+pub loop-places-init : goal.loop-places-init
+loop-places-init c = grind (arith, common_steps)
+
+pub returns-in_err-push-clause-domain : goal.returns-in_err-push-clause-domain
+returns-in_err-push-clause-domain c = grind (arith, common_steps)
+
+pub returns-clause-climbs : goal.returns-clause-climbs
+returns-clause-climbs c = grind (arith, common_steps)

@@ -1,3 +1,4 @@
+use Rattle.std.proofs.lemmas.Grind.{common_steps}
 use Rattle.std.proofs.Common.{subst, arith}
 use Rattle.std.specs.Prelude.{Ok}
 use Rattle.std.specs.declared.alloc.AllocError.{AllocError}
@@ -29,3 +30,6 @@ pub returns : goal.returns
 returns c = λ ids place top st cl.
     let now = c.loop-place.invariant ids place top st cl in
     arrives_here c.args.root.now c.args.kept.now.slots ids c.loop-place.self place c.loop-place.places.items now.top now.stands now.climbs (no_items c.loop-place.places.items (omega (arith, c.in_default.ensures.cases.0, c.loop-place.places.ok.0)))
+
+pub loop-place-smaller : goal.loop-place-smaller
+loop-place-smaller c = grind (arith, common_steps)

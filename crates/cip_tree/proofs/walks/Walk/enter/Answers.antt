@@ -1,4 +1,5 @@
-use Rattle.std.proofs.Common.{◌≡◌, ◌∙◌, ap, refl, sym, subst, IfOk}
+use Rattle.std.proofs.lemmas.Grind.{common_steps}
+use Rattle.std.proofs.Common.{◌≡◌, ◌∙◌, ap, refl, sym, subst, IfOk, arith}
 use Rattle.std.specs.Prelude.{Ok}
 use Rattle.std.specs.declared.alloc.AllocError.{AllocError}
 use Rattle.cip_domain.specs.Changes.{narrowed}
@@ -57,3 +58,6 @@ returns-clause-entered c = λ ids slot w f.
     let now : region_of c.self.inside.domain ≡ after root changes = ap (λ (t : Way). region_of t.domain) c.self.view_is ∙ come.reached slot f in
     let plain : ArePlainPast (region_of c.self.inside.domain) = subst ArePlainPast (sym now) (after_plain root changes w.plain) in
     subst (λ r. IfOk c.narrow_by.result (IsEntered (region_of c.narrow_by.new.domain) r)) (ap (λ r. narrowed r (noted c.args.notes.now)) now ∙ sym (after_notes root c.args.notes.now changes)) (c.narrow_by.ensures.narrowed plain)
+
+pub invariant_of-self : goal.invariant_of-self
+invariant_of-self c = grind (arith, common_steps)

@@ -1,3 +1,4 @@
+use Rattle.std.proofs.lemmas.Grind.{common_steps}
 use Rattle.std.proofs.Common.{◌≡◌, ◌∙◌, length, ap, refl, sym, subst, arith, Some}
 use Rattle.std.proofs.lemmas.List.{length-take-le}
 use Rattle.cip_tree.specs.Walks.{Way, last_stop, IsWalked, EndsThere, IsRegionAt}
@@ -24,3 +25,6 @@ returns-in-Some c = λ root slots ids place w e.
       walked = walked_kept root slots ids old new refl (λ mark l. c.undo_to.ensures.earlier mark (omega (arith, l))) (λ k d l. c.undo_to.ensures.earlier _ (rising k d l)) walked;
       region = subst (IsRegionAt root slots place) (sym c.undo_to.ensures.restored) (there_at_last root slots ids old place c.in-Some.stop walked ends last);
     }
+
+pub returns-in_default : goal.returns-in_default
+returns-in_default c = grind (arith, common_steps)

@@ -1,4 +1,5 @@
-use Rattle.std.proofs.Common.{◌∙◌, [], ◌∷◌, Some, ap, sym}
+use Rattle.std.proofs.lemmas.Grind.{common_steps}
+use Rattle.std.proofs.Common.{◌∙◌, [], ◌∷◌, Some, ap, sym, arith}
 use Rattle.cip_tree.specs.declared.walks.Stop.{Stop}
 use Rattle.cip_tree.specs.Origins.{Origin}
 use Rattle.cip_tree.specs.Slots.{Slot}
@@ -38,3 +39,18 @@ returns-in-Some-origin-clause-next c = record {
       ∙ c.in-Some-origin.is
       ∙ ap (λ n. Some (let o : Origin = record { parent = n; change = c.in-Some-origin.origin.change } in o)) (sym c.parent.ensures);
 }
+
+pub returns-in_ok-start_over-in-None-clause-domain : goal.returns-in_ok-start_over-in-None-clause-domain
+returns-in_ok-start_over-in-None-clause-domain c = grind (arith, common_steps)
+
+pub returns-then-turn_back-clause-next : goal.returns-then-turn_back-clause-next
+returns-then-turn_back-clause-next c = grind (arith, common_steps)
+
+pub returns-in_default-clause-next : goal.returns-in_default-clause-next
+returns-in_default-clause-next c = grind (arith, common_steps)
+
+pub returns-in-Some-origin-clause-domain : goal.returns-in-Some-origin-clause-domain
+returns-in-Some-origin-clause-domain c = grind (arith, common_steps)
+
+pub returns-then-turn_back-clause-domain : goal.returns-then-turn_back-clause-domain
+returns-then-turn_back-clause-domain c = grind (arith, common_steps)

@@ -1,0 +1,9 @@
+use Rattle.std.proofs.lemmas.Grind.{common_steps}
+use Rattle.std.proofs.Common.{arith}
+use Rattle.cip_domain.proofs.regions.Region.set.Goals as goal
+
+pub returns : goal.returns
+returns c = grind (arith, common_steps)
+
+pub set_sides-requires : goal.set_sides-requires
+set_sides-requires c = grind (arith, common_steps)

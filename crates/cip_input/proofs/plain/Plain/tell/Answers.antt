@@ -1,0 +1,9 @@
+use Rattle.std.proofs.lemmas.Grind.{common_steps}
+use Rattle.std.proofs.Common.{arith}
+use Rattle.cip_input.proofs.plain.Plain.tell.Goals as goal
+
+pub returns-clause-taken : goal.returns-clause-taken
+returns-clause-taken g c = grind (arith, common_steps)
+
+pub slice_bounds-push_all-end : goal.slice_bounds-push_all-end
+slice_bounds-push_all-end g c = grind (arith, common_steps)

@@ -1,0 +1,9 @@
+use Rattle.std.proofs.lemmas.Grind.{common_steps}
+use Rattle.std.proofs.Common.{arith}
+use Rattle.cip_input.proofs.point_text.PointText.new.Goals as goal
+
+pub returns-clause-program : goal.returns-clause-program
+returns-clause-program c = grind (arith, common_steps)
+
+pub returns-clause-values : goal.returns-clause-values
+returns-clause-values c = grind (arith, common_steps)

@@ -1,0 +1,9 @@
+use Rattle.std.proofs.lemmas.Grind.{common_steps}
+use Rattle.std.proofs.Common.{arith}
+use Rattle.cip_input.proofs.point_text.PointText.read_last.Goals as goal
+
+pub returns-else-is_filled-clause-read : goal.returns-else-is_filled-clause-read
+returns-else-is_filled-clause-read c = grind (arith, common_steps)
+
+pub returns-then-is_filled-clause-read : goal.returns-then-is_filled-clause-read
+returns-then-is_filled-clause-read c = grind (arith, common_steps)

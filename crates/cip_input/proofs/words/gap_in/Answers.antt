@@ -1,0 +1,9 @@
+use Rattle.std.proofs.lemmas.Grind.{common_steps}
+use Rattle.std.proofs.Common.{arith}
+use Rattle.cip_input.proofs.words.gap_in.Goals as goal
+
+pub returns-in-None : goal.returns-in-None
+returns-in-None c = grind (arith, common_steps)
+
+pub returns-in-Some-gap_said : goal.returns-in-Some-gap_said
+returns-in-Some-gap_said c = grind (arith, common_steps)

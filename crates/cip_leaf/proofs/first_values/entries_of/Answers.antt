@@ -1,0 +1,9 @@
+use Rattle.std.proofs.lemmas.Grind.{common_steps}
+use Rattle.std.proofs.Common.{arith}
+use Rattle.cip_leaf.proofs.first_values.entries_of.Goals as goal
+
+pub loop-r-init : goal.loop-r-init
+loop-r-init c = grind (arith, common_steps)
+
+pub returns : goal.returns
+returns c = grind (arith, common_steps)

@@ -1,0 +1,15 @@
+use Rattle.std.proofs.lemmas.Grind.{common_steps}
+use Rattle.std.proofs.Common.{arith}
+use Rattle.cip_leaf.proofs.lists.made_sides.Goals as goal
+
+pub returns-in-Some-Some-false : goal.returns-in-Some-Some-false
+returns-in-Some-Some-false c = grind (arith, common_steps)
+
+pub returns-in-Some-Some-true : goal.returns-in-Some-Some-true
+returns-in-Some-Some-true c = grind (arith, common_steps)
+
+pub returns-in_default : goal.returns-in_default
+returns-in_default c = grind (arith, common_steps)
+
+pub returns-in_default-2 : goal.returns-in_default-2
+returns-in_default-2 c = grind (arith, common_steps)

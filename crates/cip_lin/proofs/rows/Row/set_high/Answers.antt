@@ -1,0 +1,9 @@
+use Rattle.std.proofs.lemmas.Grind.{common_steps}
+use Rattle.std.proofs.Common.{arith}
+use Rattle.cip_lin.proofs.rows.Row.set_high.Goals as goal
+
+pub returns : goal.returns
+returns c = grind (arith, common_steps)
+
+pub invariant_of-self : goal.invariant_of-self
+invariant_of-self c = grind (arith, common_steps)

@@ -1,0 +1,9 @@
+use Rattle.std.proofs.lemmas.Grind.{common_steps}
+use Rattle.std.proofs.Common.{arith}
+use Rattle.cip_model.proofs.programs.Program.choices.Goals as goal
+
+pub returns-clause-formed : goal.returns-clause-formed
+returns-clause-formed c = grind (arith, common_steps)
+
+pub returns-clause-choices : goal.returns-clause-choices
+returns-clause-choices c = grind (arith, common_steps)

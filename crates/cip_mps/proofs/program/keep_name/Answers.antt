@@ -1,0 +1,6 @@
+use Rattle.std.proofs.lemmas.Grind.{common_steps}
+use Rattle.std.proofs.Common.{arith}
+use Rattle.cip_mps.proofs.program.keep_name.Goals as goal
+
+pub returns-in_ok-add : goal.returns-in_ok-add
+returns-in_ok-add c = grind (arith, common_steps)

@@ -1,0 +1,9 @@
+use Rattle.std.proofs.lemmas.Grind.{common_steps}
+use Rattle.std.proofs.Common.{arith}
+use Rattle.cip_mps.proofs.row_terms.put_number.Goals as goal
+
+pub returns-else-place-len : goal.returns-else-place-len
+returns-else-place-len c = grind (arith, common_steps)
+
+pub returns-in_ok-append : goal.returns-in_ok-append
+returns-in_ok-append c = grind (arith, common_steps)

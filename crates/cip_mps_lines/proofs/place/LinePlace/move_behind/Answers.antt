@@ -1,0 +1,12 @@
+use Rattle.std.proofs.lemmas.Grind.{common_steps}
+use Rattle.std.proofs.Common.{arith}
+use Rattle.cip_mps_lines.proofs.place.LinePlace.move_behind.Goals as goal
+
+pub returns-in-RightSideLine-clause-ok : goal.returns-in-RightSideLine-clause-ok
+returns-in-RightSideLine-clause-ok c = grind (arith, common_steps)
+
+pub returns-in-Opens-clause-ok : goal.returns-in-Opens-clause-ok
+returns-in-Opens-clause-ok c = grind (arith, common_steps)
+
+pub returns-in_default : goal.returns-in_default
+returns-in_default c = grind (arith, common_steps)

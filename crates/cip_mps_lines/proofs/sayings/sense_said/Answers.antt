@@ -1,0 +1,12 @@
+use Rattle.std.proofs.lemmas.Grind.{common_steps}
+use Rattle.std.proofs.Common.{arith}
+use Rattle.cip_mps_lines.proofs.sayings.sense_said.Goals as goal
+
+pub returns-in-len1 : goal.returns-in-len1
+returns-in-len1 c = grind (arith, common_steps)
+
+pub bounds-words-0 : goal.bounds-words-0
+bounds-words-0 c = grind (arith, common_steps)
+
+pub returns-in_default : goal.returns-in_default
+returns-in_default c = grind (arith, common_steps)

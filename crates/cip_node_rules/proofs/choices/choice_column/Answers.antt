@@ -1,0 +1,12 @@
+use Rattle.std.proofs.lemmas.Grind.{common_steps}
+use Rattle.std.proofs.Common.{arith}
+use Rattle.cip_node_rules.proofs.choices.choice_column.Goals as goal
+
+pub returns : goal.returns
+returns c = grind (arith, common_steps)
+
+pub bounds-as_slice-column : goal.bounds-as_slice-column
+bounds-as_slice-column c = grind (arith, common_steps)
+
+pub returns-then-is_open : goal.returns-then-is_open
+returns-then-is_open c = grind (arith, common_steps)

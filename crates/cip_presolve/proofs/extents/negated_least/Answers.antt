@@ -1,0 +1,18 @@
+use Rattle.std.proofs.lemmas.Grind.{common_steps}
+use Rattle.std.proofs.Common.{arith}
+use Rattle.cip_presolve.proofs.extents.negated_least.Goals as goal
+
+pub loop-term-init : goal.loop-term-init
+loop-term-init c = grind (arith, common_steps)
+
+pub loop-term-preserved : goal.loop-term-preserved
+loop-term-preserved c = grind (arith, common_steps)
+
+pub returns : goal.returns
+returns c = grind (arith, common_steps)
+
+pub returns-in_default : goal.returns-in_default
+returns-in_default c = grind (arith, common_steps)
+
+pub sides-requires : goal.sides-requires
+sides-requires c = grind (arith, common_steps)

@@ -1,0 +1,6 @@
+use Rattle.std.proofs.lemmas.Grind.{common_steps}
+use Rattle.std.proofs.Common.{arith}
+use Rattle.cip_presolve.proofs.open.open_places.Goals as goal
+
+pub sides-sides-requires : goal.sides-sides-requires
+sides-sides-requires c = grind (arith, common_steps)

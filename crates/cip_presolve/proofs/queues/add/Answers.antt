@@ -1,0 +1,5 @@
+use Rattle.std.proofs.Common.{arith}
+use Rattle.cip_presolve.proofs.queues.add.Goals as goal
+
+pub index_mut-requires : goal.index_mut-requires
+index_mut-requires c = omega arith

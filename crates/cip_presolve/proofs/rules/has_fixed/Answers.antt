@@ -1,0 +1,6 @@
+use Rattle.std.proofs.lemmas.Grind.{common_steps}
+use Rattle.std.proofs.Common.{arith}
+use Rattle.cip_presolve.proofs.rules.has_fixed.Goals as goal
+
+pub is_fixed-requires : goal.is_fixed-requires
+is_fixed-requires c = grind (arith, common_steps)

@@ -1,0 +1,12 @@
+use Rattle.std.proofs.lemmas.Grind.{common_steps}
+use Rattle.std.proofs.Common.{arith}
+use Rattle.cip_presolve.proofs.staying.keep_source.Goals as goal
+
+pub keep_column-requires : goal.keep_column-requires
+keep_column-requires c = omega arith
+
+pub overflow_cast-source : goal.overflow_cast-source
+overflow_cast-source c = omega arith
+
+pub returns-else-source-len-clause-source : goal.returns-else-source-len-clause-source
+returns-else-source-len-clause-source c = grind (arith, common_steps)

@@ -1,0 +1,8 @@
+use Rattle.std.proofs.Common.{arith}
+use Rattle.cip_presolve.proofs.substituting.found_by.Goals as goal
+
+pub bounds-first-0 : goal.bounds-first-0
+bounds-first-0 c = omega arith
+
+pub bounds-second-1 : goal.bounds-second-1
+bounds-second-1 c = omega arith

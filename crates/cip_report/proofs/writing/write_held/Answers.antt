@@ -1,0 +1,12 @@
+use Rattle.std.proofs.lemmas.Grind.{common_steps}
+use Rattle.std.proofs.Common.{arith}
+use Rattle.cip_report.proofs.writing.write_held.Goals as goal
+
+pub returns-in-None-clause-taken : goal.returns-in-None-clause-taken
+returns-in-None-clause-taken g c = grind (arith, common_steps)
+
+pub returns-in-Some-clause-taken : goal.returns-in-Some-clause-taken
+returns-in-Some-clause-taken g c = grind (arith, common_steps)
+
+pub write_point-requires : goal.write_point-requires
+write_point-requires g c = grind (arith, common_steps)

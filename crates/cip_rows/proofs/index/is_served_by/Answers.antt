@@ -1,0 +1,12 @@
+use Rattle.std.proofs.lemmas.Grind.{common_steps}
+use Rattle.std.proofs.Common.{arith}
+use Rattle.cip_rows.proofs.index.is_served_by.Goals as goal
+
+pub returns-then-is_same : goal.returns-then-is_same
+returns-then-is_same c = grind (arith, common_steps)
+
+pub returns-else-is_same : goal.returns-else-is_same
+returns-else-is_same c = grind (arith, common_steps)
+
+pub inside-requires : goal.inside-requires
+inside-requires c = grind (arith, common_steps)

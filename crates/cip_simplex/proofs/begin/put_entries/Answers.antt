@@ -1,0 +1,9 @@
+use Rattle.std.proofs.lemmas.Grind.{common_steps}
+use Rattle.std.proofs.Common.{arith}
+use Rattle.cip_simplex.proofs.begin.put_entries.Goals as goal
+
+pub loop-term-preserved : goal.loop-term-preserved
+loop-term-preserved c = grind (arith, common_steps)
+
+pub returns : goal.returns
+returns c = grind (arith, common_steps)

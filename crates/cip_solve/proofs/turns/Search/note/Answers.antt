@@ -1,0 +1,9 @@
+use Rattle.std.proofs.lemmas.Grind.{common_steps}
+use Rattle.std.proofs.Common.{arith}
+use Rattle.cip_solve.proofs.turns.Search.note.Goals as goal
+
+pub returns-in-Some-clause-marked : goal.returns-in-Some-clause-marked
+returns-in-Some-clause-marked c = grind (arith, common_steps)
+
+pub returns-in_default-clause-marked : goal.returns-in_default-clause-marked
+returns-in_default-clause-marked c = grind (arith, common_steps)

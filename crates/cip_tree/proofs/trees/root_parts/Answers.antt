@@ -1,0 +1,24 @@
+use Rattle.std.proofs.lemmas.Grind.{common_steps}
+use Rattle.std.proofs.Common.{arith}
+use Rattle.cip_tree.proofs.trees.root_parts.Goals as goal
+
+pub returns-clause-started : goal.returns-clause-started
+returns-clause-started c = grind (arith, common_steps)
+
+pub returns-clause-whole : goal.returns-clause-whole
+returns-clause-whole c = grind (arith, common_steps)
+
+pub same-queue : goal.same-queue
+same-queue c = grind (arith, common_steps)
+
+pub returns-in_default-with_capacity-2-clause-started : goal.returns-in_default-with_capacity-2-clause-started
+returns-in_default-with_capacity-2-clause-started c = grind (arith, common_steps)
+
+pub returns-in_default-with_capacity-2-clause-whole : goal.returns-in_default-with_capacity-2-clause-whole
+returns-in_default-with_capacity-2-clause-whole c = grind (arith, common_steps)
+
+pub returns-in_default-with_capacity-clause-started : goal.returns-in_default-with_capacity-clause-started
+returns-in_default-with_capacity-clause-started c = grind (arith, common_steps)
+
+pub returns-in_default-with_capacity-clause-whole : goal.returns-in_default-with_capacity-clause-whole
+returns-in_default-with_capacity-clause-whole c = grind (arith, common_steps)
