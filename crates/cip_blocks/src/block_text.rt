@@ -1,16 +1,12 @@
 //! A text of blocks, in whatever pieces it comes.
-ghost use Rattle.std.specs.Prelude.{◌≡◌, ◌+◌, ◌<◌, ◌≤◌, ◌∷◌, ◌++◌, [], ℕ, List, length, true, false, IfSome, OnOk, IfOk, MatchResult, fold};
-ghost use Rattle.std.specs.List.{list_any};
-ghost use Rattle.cip_problem.specs.Limits.{longest_text};
-ghost use Rattle.cip_text_rules.specs.Lines.{is_line_feed};
+ghost use Rattle.std.specs.Prelude.{◌≡◌, ◌<◌, ◌≤◌, ℕ, List, true, IfSome, IfOk, MatchResult};
 ghost use Rattle.cip_text_rules.specs.LineTexts.{HasResult};
-ghost use Rattle.cip_text_rules.specs.LineStream.{Stream, byte_read, stream_of};
+ghost use Rattle.cip_text_rules.specs.LineStream.{stream_of};
 ghost use Rattle.cip_text.specs.PieceFaults.{has_kind_to};
-ghost use Rattle.cip_text.specs.PieceCuts.{no_bytes, cut_of, known_fault, end_fault};
+ghost use Rattle.cip_text.specs.PieceCuts.{cut_of, end_fault};
 ghost use Rattle.cip_text.specs.PieceStands.{IsRead, IsLastRead};
 ghost use Rattle.cip_problem.specs.NamesOnce.{StandOnce};
 ghost use Rattle.cip_text_rules.specs.BlockRules.{block_reading};
-ghost use Rattle.cip_text_rules.specs.BlockSteps.{BlockState, no_state};
 ghost use Rattle.cip_blocks.specs.Endings.{IsEnding};
 
 use crate::block_words::BlockWords;
@@ -36,19 +32,6 @@ impl<'a> BlockText<'a> {
     ghost use Rattle.cip_blocks.specs.BlockTexts.{kept_of, state_of, program_of, steps_of, StandsFor};
     ghost use Rattle.cip_blocks.specs.EndedBlocks.{IsFaultOf, IsEnded};
 
-    /// Before the first byte.
-    pub(crate) fn new(alloc: Global, program: &'a Program) -> Result<BlockText<'a>, AllocError>
-        ensures kept { IfOk result (λ text. kept_of text ≡ no_bytes) }
-        ensures program { IfOk result (λ text. program_of text ≡ program.now) }
-        ensures state { IfOk result (λ text. state_of text ≡ no_state program.now) }
-    {
-        let words = BlockWords::new(alloc, program)?;
-        Ok(BlockText {
-            pieces: Pieces::new(alloc),
-            words,
-        })
-    }
-
     /// Reads the line that has not ended, and says the kind of its fault, if it has one.
     fn read_unread(&mut self) -> Result<Option<u32>, AllocError>
         ensures read { IfOk result
@@ -61,51 +44,6 @@ impl<'a> BlockText<'a> {
             None => Ok(None),
             Some(line) => self.words.take_line(line),
         }
-    }
-
-    /// Takes the last bytes of a line, and the line feed behind them.
-    fn end_line(&mut self, tail: &[u8]) -> Result<(), AllocError>
-        requires no_feed { list_any is_line_feed tail.now ≡ false }
-        requires few { (kept_of self.old).size + length tail.now ≤ longest_text }
-        ensures reads { (s : Stream BlockState) → StandsFor self.old s
-            → OnOk result (StandsFor self.new (fold (byte_read (steps_of self.old)) s (tail.now ++ 10 ∷ []))) }
-        ensures size { OnOk result ((kept_of self.new).size ≡ (kept_of self.old).size + length tail.now + 1) }
-        ensures same { program_of self.new ≡ program_of self.old }
-    {
-        self.pieces.keep(tail)?;
-        let kind = self.read_unread()?;
-        self.pieces.end_line(kind);
-        Ok(())
-    }
-
-    /// Takes bytes of the text that are looked at.
-    fn take_bytes(&mut self, bytes: &[u8]) -> Result<(), AllocError>
-        requires { (kept_of self.old).size + length bytes.now ≤ longest_text + 1 }
-        ensures reads { (s : Stream BlockState) → StandsFor self.old s
-            → OnOk result (StandsFor self.new (fold (byte_read (steps_of self.old)) s bytes.now)) }
-        ensures same { program_of self.new ≡ program_of self.old }
-    {
-        let mut rest = bytes;
-        while let Some((tail, behind)) = cut_line(rest) {
-            self.end_line(tail)?;
-            rest = behind;
-        }
-        self.pieces.keep(rest)
-    }
-
-    /// No name of the program's rows stands twice.
-    fn names_stand_once(&self)
-        ensures { StandOnce (program_of self.now).row_names }
-    {
-        self.words.program.row_names().stand_once();
-    }
-
-    /// The fault at a line that has ended.
-    fn known_fault(&self) -> Option<KnownFault>
-        ensures fault { result ≡ known_fault 9 (kept_of self.now) }
-        ensures kinds { has_kind_to 9 result ≡ true }
-    {
-        self.pieces.known_fault(TOO_LONG)
     }
 
     /// Reads the last line where it has no line feed, and says the kind of its fault, if it has one.
@@ -123,18 +61,6 @@ impl<'a> BlockText<'a> {
         }
     }
 
-    /// The fault at the end, where the last line has a fault of this kind or none.
-    fn last_fault(&self, last_kind: Option<u32>, ending: &Ending) -> Option<KnownFault>
-        requires kinds { IfSome last_kind (λ kind. (0 < kind) × (kind ≤ 9)) }
-        requires ending { IsEnding (program_of self.now) (state_of self.now) ending.now }
-        ensures fault { result
-            ≡ end_fault 9 (kept_of self.now) last_kind ((steps_of self.now).end_fault (state_of self.now)) }
-        ensures kinds { has_kind_to 9 result ≡ true }
-    {
-        let end_kind = self.words.end_kind(ending);
-        self.pieces.fault_at_end(last_kind, end_kind, TOO_LONG)
-    }
-
     /// What the text comes to, where the last line has a fault of this kind or none.
     fn answer(
         &self,
@@ -147,7 +73,8 @@ impl<'a> BlockText<'a> {
             (end_fault 9 (kept_of self.now) last_kind ((steps_of self.now).end_fault (state_of self.now)))
             ((steps_of self.now).result (state_of self.now)) result }
     {
-        told::<BlockKind>(self.last_fault(last_kind, ending))?;
+        let end_kind = self.words.end_kind(ending);
+        told::<BlockKind>(self.pieces.fault_at_end(last_kind, end_kind, TOO_LONG))?;
         Ok(self.words.blocks(ending)?)
     }
 
@@ -198,24 +125,35 @@ impl<'a> PieceText for BlockText<'a> {
     /// None where the room for the places of the rows was refused.
     fn begin(start: (Global, &'a Program)) -> Option<BlockText<'a>> {
         let (alloc, program) = start;
-        BlockText::new(alloc, program).ok()
+        let words = BlockWords::new(alloc, program).ok()?;
+        Some(BlockText {
+            pieces: Pieces::new(alloc),
+            words,
+        })
     }
 
     fn take(&mut self, piece: &[u8]) -> Result<(), AllocError> {
         let looked = self.pieces.looked_at(piece);
-        self.take_bytes(looked)
+        let mut rest = looked;
+        while let Some((tail, behind)) = cut_line(rest) {
+            self.pieces.keep(tail)?;
+            let kind = self.read_unread()?;
+            self.pieces.end_line(kind);
+            rest = behind;
+        }
+        self.pieces.keep(rest)
     }
 
     /// A fault is known where a line that has ended is faulty.
     fn known(&self) -> Result<(), TextFault<BlockKind>> {
         block_faults_of_ended_lines();
-        self.names_stand_once();
-        told(self.known_fault())
+        self.words.program.row_names().stand_once();
+        told(self.pieces.known_fault(TOO_LONG))
     }
 
     fn finish(self) -> Result<Blocks, ReadFault<BlockKind>> {
         let mut text = self;
-        text.names_stand_once();
+        text.words.program.row_names().stand_once();
         let blocks = text.end();
         drop(text);
         blocks

@@ -1,9 +1,8 @@
 //! The words of a text of blocks, one after another.
-ghost use Rattle.std.specs.Prelude.{◌≡◌, ◌+◌, ◌<◌, ◌≤◌, ℕ, vec_len, length, replicate, fold, true, false, None, Some, IfSome, IfOk, unwrap_or};
+ghost use Rattle.std.specs.Prelude.{◌≡◌, ◌<◌, ◌≤◌, ℕ, vec_len, length, true, false, None, IfSome, IfOk, unwrap_or};
 ghost use Rattle.std.specs.List.{list_any, list_all};
 ghost use Rattle.cip_text_rules.specs.Lines.{is_line_feed};
-ghost use Rattle.cip_text.specs.TextLines.{fields_left};
-ghost use Rattle.cip_text_rules.specs.LineStream.{Going, line_read, item_read};
+ghost use Rattle.cip_text_rules.specs.LineStream.{Going, line_read};
 ghost use Rattle.cip_text.specs.PieceStands.{progress_after};
 ghost use Rattle.cip_text_rules.specs.BlockWords as text;
 ghost use Rattle.cip_text_rules.specs.BlockSteps.{no_state};
@@ -13,7 +12,7 @@ ghost use Rattle.cip_blocks.specs.Keywords.{keyword_shown};
 use crate::word_places::{RowPlace, WordPlace};
 use crate::words::{Keyword, block_number, keyword_of};
 use cip_model::Program;
-use cip_text::{Fields, fields_of};
+use cip_text::fields_of;
 use cip_text_rules::block_steps::block_words_have_tests;
 use cip_text_rules::step_laws::numbers_are_of_names;
 use std::alloc::{AllocError, Global};
@@ -35,24 +34,6 @@ pub(crate) struct BlockWords<'a> {
     ghost placed: { is_sound_place count place ≡ true },
 }
 
-/// The places of so many rows, of which none was named.
-fn unnamed(alloc: Global, rows: usize) -> Result<Vec<RowPlace>, AllocError>
-    ensures { IfOk result (λ places. places.items ≡ replicate rows RowPlace.Unnamed) }
-{
-    let mut places = Vec::new(alloc);
-    places.resize(rows, RowPlace::Unnamed)?;
-    Ok(places)
-}
-
-/// The marks of so many blocks, of which none was begun.
-fn not_begun(alloc: Global, count: usize) -> Result<Vec<bool>, AllocError>
-    ensures { IfOk result (λ begun. begun.items ≡ replicate count false) }
-{
-    let mut begun = Vec::new(alloc);
-    begun.resize(count, false)?;
-    Ok(begun)
-}
-
 impl<'a> BlockWords<'a> {
     ghost use Rattle.cip_blocks.specs.BlockWordsRead.{program_of, state_of, steps_of, IsTaken};
 
@@ -61,7 +42,8 @@ impl<'a> BlockWords<'a> {
         ensures program { IfOk result (λ words. program_of words ≡ program.now) }
         ensures state { IfOk result (λ words. state_of words ≡ no_state program.now) }
     {
-        let rows = unnamed(alloc, program.row_names().len())?;
+        let mut rows = Vec::new(alloc);
+        rows.resize(program.row_names().len(), RowPlace::Unnamed)?;
         Ok(BlockWords {
             alloc,
             program,
@@ -95,22 +77,6 @@ impl<'a> BlockWords<'a> {
         None
     }
 
-    /// Takes the word behind `PRESOLVED`.
-    fn take_zero(&mut self, word: &[u8]) -> Option<u32>
-        ensures taken { IsTaken (program_of self.old) (state_of self.old) (state_of self.new)
-            (text.other_said text.ZeroDue word.now) result }
-        ensures same { program_of self.new ≡ program_of self.old }
-        ensures kinds { IfSome result (λ kind. (0 < kind) × (kind ≤ 9)) }
-    {
-        block_words_have_tests();
-        if word == b"0".as_slice() {
-            self.place = WordPlace::KeywordDue;
-            None
-        } else {
-            Some(1)
-        }
-    }
-
     /// Takes the word behind `NBLOCKS`.
     fn take_count(&mut self, word: &[u8]) -> Result<Option<u32>, AllocError>
         requires { self.old.count ≡ None }
@@ -122,7 +88,9 @@ impl<'a> BlockWords<'a> {
         block_words_have_tests();
         match block_number(word) {
             Some(count) if count > 0 => {
-                self.begun = not_begun(self.alloc, count as usize)?;
+                let mut begun = Vec::new(self.alloc);
+                begun.resize(count as usize, false)?;
+                self.begun = begun;
                 self.count = Some(count);
                 self.place = WordPlace::KeywordDue;
                 Ok(None)
@@ -139,20 +107,10 @@ impl<'a> BlockWords<'a> {
         ensures kinds { IfSome result (λ kind. (0 < kind) × (kind ≤ 9)) }
     {
         block_words_have_tests();
-        match block_number(word) {
-            Some(number) if number > 0 => self.begin(number - 1),
-            _ => Some(3),
-        }
-    }
-
-    /// Begins a block, by its number from 0.
-    fn begin(&mut self, block: u32) -> Option<u32>
-        ensures taken { IsTaken (program_of self.old) (state_of self.old) (state_of self.new)
-            (text.Number (Some (block + 1))) result }
-        ensures same { program_of self.new ≡ program_of self.old }
-        ensures kinds { IfSome result (λ kind. (0 < kind) × (kind ≤ 9)) }
-    {
-        block_words_have_tests();
+        let block = match block_number(word) {
+            Some(number) if number > 0 => number - 1,
+            _ => return Some(3),
+        };
         let at = block as usize;
         if at >= self.begun.len() || self.begun[at] {
             return Some(3);
@@ -175,27 +133,12 @@ impl<'a> BlockWords<'a> {
         let Some(number) = self.program.row_names().find(name) else {
             return Some(4);
         };
-        if self.rows[number].is_named() {
-            return Some(5);
-        }
-        self.rows[number] = RowPlace::Named(block);
-        None
-    }
-
-    /// Takes a word that is none of the four.
-    fn take_other(&mut self, word: &[u8]) -> Result<Option<u32>, AllocError>
-        ensures taken { IfOk result (IsTaken (program_of self.old) (state_of self.old) (state_of self.new)
-            (text.other_said (place_shown self.old.place) word.now)) }
-        ensures same { program_of self.new ≡ program_of self.old }
-        ensures kinds { IfOk result (λ kind. IfSome kind (λ k. (0 < k) × (k ≤ 9))) }
-    {
-        block_words_have_tests();
-        match self.place {
-            WordPlace::KeywordDue => Ok(Some(1)),
-            WordPlace::ZeroDue => Ok(self.take_zero(word)),
-            WordPlace::CountDue => self.take_count(word),
-            WordPlace::BlockDue => Ok(self.take_number(word)),
-            WordPlace::NamesOf(block) => Ok(self.take_name(block, word)),
+        match self.rows[number] {
+            RowPlace::Named(_) => Some(5),
+            RowPlace::Unnamed => {
+                self.rows[number] = RowPlace::Named(block);
+                None
+            }
         }
     }
 
@@ -206,27 +149,20 @@ impl<'a> BlockWords<'a> {
         ensures same { program_of self.new ≡ program_of self.old }
         ensures kinds { IfOk result (λ kind. IfSome kind (λ k. (0 < k) × (k ≤ 9))) }
     {
-        match keyword_of(word) {
-            Some(keyword) => Ok(self.open(keyword)),
-            None => self.take_other(word),
+        block_words_have_tests();
+        if let Some(keyword) = keyword_of(word) {
+            return Ok(self.open(keyword));
         }
-    }
-
-    /// Takes the words of a line, up to the first that has a fault.
-    fn take_words(&mut self, fields: Fields<'_>) -> Result<Option<u32>, AllocError>
-        ensures read { IfOk result (λ kind. (number : ℕ)
-            → fold (λ p word. item_read (steps_of self.old) p number word) (Going (state_of self.old))
-            (fields_left fields.entry) ≡ progress_after number kind (state_of self.new)) }
-        ensures same { program_of self.new ≡ program_of self.old }
-        ensures kinds { IfOk result (λ kind. IfSome kind (λ k. (0 < k) × (k ≤ 9))) }
-    {
-        let mut left = fields;
-        while let Some(word) = left.next_field() {
-            if let Some(kind) = self.take_word(word)? {
-                return Ok(Some(kind));
+        match self.place {
+            WordPlace::ZeroDue if word == b"0".as_slice() => {
+                self.place = WordPlace::KeywordDue;
+                Ok(None)
             }
+            WordPlace::KeywordDue | WordPlace::ZeroDue => Ok(Some(1)),
+            WordPlace::CountDue => self.take_count(word),
+            WordPlace::BlockDue => Ok(self.take_number(word)),
+            WordPlace::NamesOf(block) => Ok(self.take_name(block, word)),
         }
-        Ok(None)
     }
 
     /// Takes one line more, and says the kind of its fault, if it has one.
@@ -238,9 +174,14 @@ impl<'a> BlockWords<'a> {
         ensures same { program_of self.new ≡ program_of self.old }
         ensures kinds { IfOk result (λ kind. IfSome kind (λ k. (0 < k) × (k ≤ 9))) }
     {
-        match fields_of(line, b'\\') {
-            None => Ok(None),
-            Some(fields) => self.take_words(fields),
+        let Some(mut left) = fields_of(line, b'\\') else {
+            return Ok(None);
+        };
+        while let Some(word) = left.next_field() {
+            if let Some(kind) = self.take_word(word)? {
+                return Ok(Some(kind));
+            }
         }
+        Ok(None)
     }
 }

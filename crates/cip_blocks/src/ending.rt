@@ -1,14 +1,13 @@
 //! The end of a text of blocks.
-ghost use Rattle.std.specs.Prelude.{◌≡◌, ◌||◌, ◌<◌, ◌≤◌, map, not, None, is_none, IfSome, IfOk};
+ghost use Rattle.std.specs.Prelude.{◌≡◌, ◌||◌, ◌<◌, ◌≤◌, not, None, is_none, IfSome, IfOk};
 ghost use Rattle.std.specs.List.{list_any};
-ghost use Rattle.cip_blocks.specs.WordPlaces.{block_of};
 
 use crate::block_words::BlockWords;
 use crate::owners::Owners;
-use crate::word_places::{RowPlace, WordPlace};
+use crate::word_places::WordPlace;
 use cip_model::Blocks;
 use cip_text_rules::block_steps::owners_are_right;
-use std::alloc::{AllocError, Global};
+use std::alloc::AllocError;
 
 /// What the words come to where the text ends.
 #[derive(Drop)]
@@ -17,54 +16,32 @@ pub(crate) struct Ending {
     pub(crate) owners: Owners,
 }
 
-/// The block of each row, if it has one.
-fn row_blocks(alloc: Global, rows: &[RowPlace]) -> Result<Vec<Option<u32>>, AllocError>
-    ensures { IfOk result (λ blocks. blocks.items ≡ map block_of rows.now) }
-{
-    let mut blocks = Vec::new(alloc);
-    for row in rows {
-        blocks.push(row.block())?;
-    }
-    Ok(blocks)
-}
-
-/// Whether a block was not begun.
-fn has_missing(begun: &[bool]) -> bool
-    ensures { result ≡ list_any not begun.now }
-{
-    begun.iter().any(|mark| !*mark)
-}
-
 impl BlockWords<'_> {
     ghost use Rattle.cip_blocks.specs.BlockWordsRead.{program_of, state_of, steps_of};
-    ghost use Rattle.cip_blocks.specs.Endings.{IsEnding, place_fault};
+    ghost use Rattle.cip_blocks.specs.Endings.{IsEnding};
 
     /// What the words come to where the text ends.
     pub(crate) fn ending(&self) -> Result<Ending, AllocError>
         ensures { IfOk result (IsEnding (program_of self.now) (state_of self.now)) }
     {
-        let row_blocks = row_blocks(self.alloc, self.rows.as_slice())?;
+        let mut row_blocks = Vec::new(self.alloc);
+        for row in &self.rows {
+            row_blocks.push(row.block())?;
+        }
         let owners = Owners::of(self.alloc, self.program, row_blocks.as_slice())?;
         Ok(Ending { row_blocks, owners })
-    }
-
-    /// The kind of the fault of a number that is due.
-    fn place_kind(&self) -> Option<u32>
-        ensures { result ≡ place_fault (state_of self.now).place }
-    {
-        match self.place {
-            WordPlace::ZeroDue => Some(1),
-            WordPlace::CountDue => Some(2),
-            WordPlace::BlockDue => Some(3),
-            WordPlace::KeywordDue | WordPlace::NamesOf(_) => None,
-        }
     }
 
     /// Whether there is no number of blocks, or a block was not begun.
     fn lacks_block(&self) -> bool
         ensures { result ≡ (is_none self.now.count || list_any not self.now.begun.items) }
     {
-        self.count.is_none() || has_missing(self.begun.as_slice())
+        for is_begun in &self.begun {
+            if !*is_begun {
+                return true;
+            }
+        }
+        self.count.is_none()
     }
 
     /// The kind of the fault behind the last line, if there is one.
@@ -74,8 +51,14 @@ impl BlockWords<'_> {
         ensures kinds { IfSome result (λ kind. (0 < kind) × (kind ≤ 9)) }
     {
         owners_are_right();
-        if let Some(kind) = self.place_kind() {
-            return Some(kind);
+        let due = match self.place {
+            WordPlace::ZeroDue => Some(1),
+            WordPlace::CountDue => Some(2),
+            WordPlace::BlockDue => Some(3),
+            WordPlace::KeywordDue | WordPlace::NamesOf(_) => None,
+        };
+        if due.is_some() {
+            return due;
         }
         if ending.owners.links {
             return Some(6);

@@ -1,12 +1,11 @@
 //! The blocks of columns, found in one pass over the rows.
-ghost use Rattle.std.specs.Prelude.{◌≡◌, ◌&&◌, ◌<◌, length, vec_len, replicate, fold, not, is_some, IfOk, None};
+ghost use Rattle.std.specs.Prelude.{◌≡◌, length, vec_len, IfOk};
 ghost use Rattle.cip_problem.specs.Activity.{StandsBelow};
 ghost use Rattle.cip_problem.specs.WellFormed.{IsWellFormed, columns};
-ghost use Rattle.cip_problem.specs.BlockParts.{is_bounded};
 ghost use Rattle.cip_text_rules.specs.BlockOwners as plain;
 ghost use Rattle.cip_blocks.specs.OpenColumns.{has_open_owned};
 
-use cip_lin::{Row, Sides};
+use cip_lin::Row;
 use cip_model::Program;
 use std::alloc::{AllocError, Global};
 
@@ -18,75 +17,24 @@ pub(crate) struct Owners {
     pub(crate) links: bool,
 }
 
-/// So many columns of no block.
-fn no_blocks(alloc: Global, count: usize) -> Result<Vec<Option<u32>>, AllocError>
-    ensures { IfOk result (λ blocks. blocks.items ≡ replicate count None) }
-{
-    let mut blocks = Vec::new(alloc);
-    blocks.resize(count, None)?;
-    Ok(blocks)
-}
-
-/// Whether both bounds are there.
-fn is_bounded(sides: &Sides) -> bool
-    ensures { result ≡ is_bounded sides.now }
-{
-    sides.low.is_some() && sides.high.is_some()
-}
-
-/// Whether a column of a block lacks a bound.
-fn is_open(block: Option<u32>, sides: &Sides) -> bool
-    ensures { result ≡ (is_some block && not (is_bounded sides.now)) }
-{
-    block.is_some() && !is_bounded(sides)
-}
-
 impl Owners {
     ghost use Rattle.cip_blocks.specs.OwnersKept.{owners_shown};
 
-    /// Before the first row.
-    fn new(alloc: Global, columns: usize) -> Result<Owners, AllocError>
-        ensures { IfOk result (λ owners. owners_shown owners ≡ plain.no_owners columns) }
-    {
-        let blocks = no_blocks(alloc, columns)?;
-        Ok(Owners {
-            blocks,
-            links: false,
-        })
-    }
-
-    /// Takes an entry of a row of a block.
-    fn own(&mut self, block: u32, column: usize)
-        requires { column < vec_len self.old.blocks }
-        ensures owned { owners_shown self.new ≡ plain.entry_owned block (owners_shown self.old) column }
-        ensures same { vec_len self.new.blocks ≡ vec_len self.old.blocks }
-    {
-        match self.blocks[column] {
-            None => self.blocks[column] = Some(block),
-            Some(owner) => self.links = self.links || owner != block,
-        }
-    }
-
-    /// Takes the entries of a row of a block.
-    fn take_entries(&mut self, block: u32, row: &Row)
+    /// Takes a row, whose entries count where it is of a block.
+    fn take_row(&mut self, row_block: Option<u32>, row: &Row)
         requires { StandsBelow (vec_len self.old.blocks) row.now.terms }
-        ensures owned { owners_shown self.new
-            ≡ fold (λ o t. plain.entry_owned block o t.column) (owners_shown self.old) row.now.terms }
+        ensures owned { owners_shown self.new ≡ plain.row_owned row_block row.now (owners_shown self.old) }
         ensures same { vec_len self.new.blocks ≡ vec_len self.old.blocks }
     {
+        let Some(block) = row_block else {
+            return;
+        };
         for term in row.terms() {
-            self.own(block, term.col as usize);
-        }
-    }
-
-    /// Takes a row, which counts where it is of a block.
-    fn take_row(&mut self, block: Option<u32>, row: &Row)
-        requires { StandsBelow (vec_len self.old.blocks) row.now.terms }
-        ensures owned { owners_shown self.new ≡ plain.row_owned block row.now (owners_shown self.old) }
-        ensures same { vec_len self.new.blocks ≡ vec_len self.old.blocks }
-    {
-        if let Some(block) = block {
-            self.take_entries(block, row);
+            let column = term.col as usize;
+            match self.blocks[column] {
+                None => self.blocks[column] = Some(block),
+                Some(owner) => self.links = self.links || owner != block,
+            }
         }
     }
 
@@ -102,7 +50,12 @@ impl Owners {
         ensures sized { IfOk result (λ owners. vec_len owners.blocks ≡ columns program.now) }
     {
         let rows = program.rows();
-        let mut owners = Owners::new(alloc, program.columns())?;
+        let mut blocks = Vec::new(alloc);
+        blocks.resize(program.columns(), None)?;
+        let mut owners = Owners {
+            blocks,
+            links: false,
+        };
         for at in 0..rows.len() {
             owners.take_row(row_blocks[at], &rows[at]);
         }
@@ -116,7 +69,9 @@ impl Owners {
     {
         let bounds = program.bounds().as_slice();
         for column in 0..self.blocks.len() {
-            if is_open(self.blocks[column], &bounds[column]) {
+            let sides = &bounds[column];
+            let is_open = sides.low.is_none() || sides.high.is_none();
+            if self.blocks[column].is_some() && is_open {
                 return true;
             }
         }

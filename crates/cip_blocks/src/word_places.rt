@@ -1,7 +1,6 @@
 //! Where words stand, and the places of rows.
 ghost use Rattle.std.specs.Prelude.{◌≡◌};
-ghost use Rattle.cip_text_rules.specs.BlockSteps.{is_placed};
-ghost use Rattle.cip_blocks.specs.WordPlaces.{row_shown, block_of};
+ghost use Rattle.cip_blocks.specs.WordPlaces.{block_of};
 
 /// Where the next word stands.
 #[derive(Clone, Copy)]
@@ -28,16 +27,6 @@ pub(crate) enum RowPlace {
 }
 
 impl RowPlace {
-    /// Whether the row was named.
-    pub(crate) fn is_named(self) -> bool
-        ensures { result ≡ is_placed (row_shown self) }
-    {
-        match self {
-            RowPlace::Unnamed => false,
-            RowPlace::Named(_) => true,
-        }
-    }
-
     /// The block of the row, if it has one.
     pub(crate) fn block(self) -> Option<u32>
         ensures { result ≡ block_of self }

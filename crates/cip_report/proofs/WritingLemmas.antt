@@ -1,13 +1,15 @@
 -- Texts that are written one after another.
-use Rattle.std.proofs.Common.{◌≡◌, ◌+◌, ◌<◌, ◌≤◌, ℕ, List, [], ◌++◌, length, take, drop, get_or, zero, suc, refl, sym, ap, ◌∙◌, Some, None, Ok, Err, arith, append_assoc, append-nil, length-append, ◌∷◌, subst}
-use Rattle.std.specs.Prelude.{Option, Result, IsErr, OnOk, MatchResult, slice_get}
+use Rattle.std.proofs.Common.{◌≡◌, ◌+◌, ◌<◌, ◌≤◌, ℕ, List, [], ◌++◌, length, take, drop, get_or, map, Bor, zero, suc, refl, sym, ap, ◌∙◌, Some, None, Ok, Err, arith, append_assoc, append-nil, length-append, ◌∷◌, subst}
+use Rattle.std.specs.Prelude.{Option, Result, IsErr, OnOk, MatchResult, slice_get, flat_map}
 use Rattle.std.specs.Io.KnownBytes.{append_known}
 use Rattle.std.proofs.Math.Seq.{take-append-add}
-use Rattle.std.proofs.lemmas.List.{take-append-le}
+use Rattle.std.proofs.lemmas.Grind.{flat_map-append}
+use Rattle.std.proofs.lemmas.List.{take-append-le, take_more, take-append-drop}
+use Rattle.std.proofs.lemmas.Option.{same_Some}
 use Rattle.cip_io.specs.Sink.{SinkTells, TakesAll, PushesPart}
 use Rattle.cip_rational.specs.Rational.{ℚ}
 use Rattle.cip_rational.specs.NumberText.{fraction_text}
-use Rattle.cip_search.specs.Figures.{line, point_lines, ray_name, ray_lines}
+use Rattle.cip_search.specs.Figures.{line, point_lines}
 use Rattle.cip_report.specs.Writing.{Passes, Writes}
 
 -- the name of what has none
@@ -60,7 +62,7 @@ PushesPart-front old new text rest part =
     }
 
 -- a text, and then one more
-pub Writes-more : {T E : Type 0} (result : Result T E) (old mid new : SinkTells) (text held more buffered : List ℕ) → Passes old mid text held → Writes result mid new (held ++ more) buffered → Writes result old new (text ++ more) buffered
+Writes-more : {T E : Type 0} (result : Result T E) (old mid new : SinkTells) (text held more buffered : List ℕ) → Passes old mid text held → Writes result mid new (held ++ more) buffered → Writes result old new (text ++ more) buffered
 Writes-more (Ok x) old mid new text held more buffered first next = Passes-more old mid new text held more buffered first next
 Writes-more (Err e) old mid new text held more buffered first next = PushesPart-more old mid new text held more first next
 
@@ -70,7 +72,7 @@ Writes-err (Ok x) old new text rest buffered failed part = absurd (cc)
 Writes-err (Err e) old new text rest buffered failed part = PushesPart-front old new text rest part
 
 -- a text, and then one more that failed
-pub Writes-more_err : {T E : Type 0} (result : Result T E) (old mid new : SinkTells) (text held more rest buffered : List ℕ) → IsErr result → Passes old mid text held → PushesPart mid new (held ++ more) → Writes result old new (text ++ more ++ rest) buffered
+Writes-more_err : {T E : Type 0} (result : Result T E) (old mid new : SinkTells) (text held more rest buffered : List ℕ) → IsErr result → Passes old mid text held → PushesPart mid new (held ++ more) → Writes result old new (text ++ more ++ rest) buffered
 Writes-more_err result old mid new text held more rest buffered failed first next =
     Writes-err result old new (text ++ more) rest buffered failed (PushesPart-more old mid new text held more first next)
 
@@ -85,10 +87,6 @@ Writes-pushed (Ok x) old mid new text held bytes buffered first none empty pushe
     }
 Writes-pushed (Err e) old mid new text held bytes buffered first none empty pushed =
     PushesPart-more old mid new text held bytes first (subst (λ held. PushesPart mid new (held ++ bytes)) (sym none) pushed)
-
--- a line, by its parts
-pub line_parts : (front word figure : List ℕ) → front ++ line word figure ≡ front ++ word ++ 32 ∷ [] ++ figure ++ 10 ∷ []
-line_parts front word figure = simp append_assoc
 
 -- three texts, by their parts
 pub three_parts : (front first second third : List ℕ) → front ++ (first ++ second ++ third) ≡ front ++ first ++ second ++ third
@@ -144,27 +142,11 @@ point_lines-more (first ∷ names) (only ∷ values) (suc number) name value wit
     ap (λ text. line first (fraction_text only) ++ text) (point_lines-more names values number name value (omega arith) named same)
     ∙ sym (append_assoc (line first (fraction_text only)) _ _)
 
--- the lines of a ray, by those of the columns before one, its own and those after it
-pub ray_parts : (names : List (List ℕ)) (ray : List ℚ) (number : ℕ) (name : List ℕ) (change : ℚ) → number < length ray → slice_get names number ≡ Some name → change ≡ get_or ray number change → ray_lines names ray ≡ ray_lines (take number names) (take number ray) ++ line (ray_name name) (fraction_text change) ++ ray_lines (drop (suc number) names) (drop (suc number) ray)
-ray_parts [] ray number name change within named same = absurd (cc)
-ray_parts (first ∷ names) [] number name change within named same = absurd (omega arith)
-ray_parts (first ∷ names) (only ∷ ray) zero name change within named same =
-    let first_same : first ≡ name = cc in
-    rw (first_same, same) refl
-ray_parts (first ∷ names) (only ∷ ray) (suc number) name change within named same =
-    ap (λ text. line (ray_name first) (fraction_text only) ++ text) (ray_parts names ray number name change (omega arith) named same)
-    ∙ three_parts (line (ray_name first) (fraction_text only)) _ _ _
-
--- the lines of the columns up to one
-pub ray_lines-more : (names : List (List ℕ)) (ray : List ℚ) (number : ℕ) (name : List ℕ) (change : ℚ) → number < length ray → slice_get names number ≡ Some name → change ≡ get_or ray number change → ray_lines (take (suc number) names) (take (suc number) ray) ≡ ray_lines (take number names) (take number ray) ++ line (ray_name name) (fraction_text change)
-ray_lines-more [] ray number name change within named same = absurd (cc)
-ray_lines-more (first ∷ names) [] number name change within named same = absurd (omega arith)
-ray_lines-more (first ∷ names) (only ∷ ray) zero name change within named same =
-    let first_same : first ≡ name = cc in
-    rw (first_same, same) (append-nil (line (ray_name name) (fraction_text only)))
-ray_lines-more (first ∷ names) (only ∷ ray) (suc number) name change within named same =
-    ap (λ text. line (ray_name first) (fraction_text only) ++ text) (ray_lines-more names ray number name change (omega arith) named same)
-    ∙ sym (append_assoc (line (ray_name first) (fraction_text only)) _ _)
+-- the name of a column with what stands in front of it
+pub named : (shown : List ℕ → List ℕ) (names : List (List ℕ)) (number : ℕ) (name : List ℕ) → slice_get names number ≡ Some name → slice_get (map shown names) number ≡ Some (shown name)
+named shown [] number name e = absurd (cc)
+named shown (first ∷ names) zero name e = ap (λ n. Some (shown n)) (same_Some first name e)
+named shown (first ∷ names) (suc number) name e = named shown names number name e
 
 -- of two texts the first failed
 pub first_of_two : {T E : Type 0} (result : Result T E) (old new : SinkTells) (front first second buffered : List ℕ) → IsErr result → PushesPart old new (front ++ first) → Writes result old new (front ++ (first ++ second)) buffered
@@ -177,3 +159,34 @@ pub second_of_two : {T E : Type 0} (result : Result T E) (old mid new : SinkTell
 second_of_two result old mid new front first second held buffered done last =
     subst (λ text. Writes result old new text buffered) (append_assoc front first second)
     (Writes-more result old mid new (front ++ first) held second buffered done last)
+
+-- ---- a list of texts
+
+-- the texts, one behind the other
+abbrev pub joined : List (Bor (List ℕ)) → List ℕ
+joined texts = flat_map (λ (text : Bor (List ℕ)). text.now) texts
+
+joined_more : (texts : List (Bor (List ℕ))) (k : ℕ) (text : Bor (List ℕ)) → k < length texts → joined (take (k + 1) texts) ≡ joined (take k texts) ++ (get_or texts k text).now
+joined_more texts k text l =
+    ap joined (take_more texts k text l)
+    ∙ flat_map-append (λ (t : Bor (List ℕ)). t.now) (take k texts) (get_or texts k text ∷ [])
+    ∙ ap (λ t. joined (take k texts) ++ t) (append-nil (get_or texts k text).now)
+
+joined_parts : (texts : List (Bor (List ℕ))) (k : ℕ) (text : Bor (List ℕ)) → k < length texts → joined texts ≡ joined (take k texts) ++ (get_or texts k text).now ++ joined (drop (k + 1) texts)
+joined_parts texts k text l =
+    ap joined (sym (take-append-drop (k + 1) texts))
+    ∙ flat_map-append (λ (t : Bor (List ℕ)). t.now) (take (k + 1) texts) (drop (k + 1) texts)
+    ∙ ap (λ t. t ++ joined (drop (k + 1) texts)) (joined_more texts k text l)
+
+-- one text more of a list
+pub joined_passes : (texts : List (Bor (List ℕ))) (k : ℕ) (text : Bor (List ℕ)) (old mid new : SinkTells) (front held buffered : List ℕ) → k < length texts → Passes old mid (front ++ joined (take k texts)) held → Passes mid new (held ++ (get_or texts k text).now) buffered → Passes old new (front ++ joined (take (k + 1) texts)) buffered
+joined_passes texts k text old mid new front held buffered l first next =
+    subst (λ t. Passes old new t buffered)
+    (append_assoc front (joined (take k texts)) (get_or texts k text).now ∙ ap (λ t. front ++ t) (sym (joined_more texts k text l)))
+    (Passes-more old mid new (front ++ joined (take k texts)) held (get_or texts k text).now buffered first next)
+
+-- one text of a list failed
+pub joined_fails : {T E : Type 0} (result : Result T E) (texts : List (Bor (List ℕ))) (k : ℕ) (text : Bor (List ℕ)) (old mid new : SinkTells) (front held buffered : List ℕ) → IsErr result → k < length texts → Passes old mid (front ++ joined (take k texts)) held → PushesPart mid new (held ++ (get_or texts k text).now) → Writes result old new (front ++ joined texts) buffered
+joined_fails result texts k text old mid new front held buffered failed l first part =
+    subst (λ t. Writes result old new (front ++ t) buffered) (sym (joined_parts texts k text l))
+    (second_of_three result old mid new front (joined (take k texts)) (get_or texts k text).now (joined (drop (k + 1) texts)) held buffered failed first part)

@@ -1,5 +1,5 @@
 //! Bytes on their way to a sink.
-ghost use Rattle.std.specs.Prelude.{◌≡◌, ◌++◌, [], OnOk};
+ghost use Rattle.std.specs.Prelude.{◌≡◌, ◌++◌, [], OnOk, flat_map};
 ghost use Rattle.std.specs.Bool.{OnTrue, OnFalse};
 ghost use Rattle.cip_io.specs.Faults.{CountsFaults};
 ghost use Rattle.cip_report.specs.Writing.{Writes};
@@ -38,13 +38,6 @@ impl Buffer {
         }
     }
 
-    /// The bytes held.
-    fn held(&self) -> &[u8]
-        ensures { result.now ≡ self.now }
-    {
-        &self.bytes[..self.used]
-    }
-
     /// Puts bytes at the end, where there is room for them.
     fn put(&mut self, bytes: &[u8]) -> bool
         ensures put { OnTrue result (self.new ≡ self.old ++ bytes.now) }
@@ -59,21 +52,14 @@ impl Buffer {
         true
     }
 
-    /// Lets go of the bytes held.
-    fn clear(&mut self)
-        ensures { self.new ≡ [] }
-    {
-        self.used = 0;
-    }
-
     /// Hands on the bytes held.
     pub(crate) fn flush<K: Sink>(&mut self, out: &mut K) -> Result<(), Failed>
         ensures taken { Writes result (K.tells out.old) (K.tells out.new) self.old self.new }
         ensures empty { OnOk result (self.new ≡ []) }
         ensures faults { CountsFaults result (K.tells out.old).faults (K.tells out.new).faults }
     {
-        push_all(out, self.held())?;
-        self.clear();
+        push_all(out, &self.bytes[..self.used])?;
+        self.used = 0;
         Ok(())
     }
 
@@ -90,5 +76,17 @@ impl Buffer {
             return Ok(());
         }
         push_all(out, bytes)
+    }
+
+    /// Writes texts, one behind the other.
+    pub(crate) fn write_all<K: Sink>(&mut self, out: &mut K, texts: &[&[u8]]) -> Result<(), Failed>
+        ensures taken { Writes result (K.tells out.old) (K.tells out.new)
+            (self.old ++ flat_map (λ text. text.now) texts.now) self.new }
+        ensures faults { CountsFaults result (K.tells out.old).faults (K.tells out.new).faults }
+    {
+        for text in texts {
+            self.write(out, text)?;
+        }
+        Ok(())
     }
 }

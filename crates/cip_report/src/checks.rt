@@ -1,6 +1,5 @@
 //! The verdict on a point as bytes, written to a sink from a fixed buffer.
-ghost use lib.Chars.{codes};
-ghost use Rattle.std.specs.Prelude.{◌≡◌, ◌<◌, ◌++◌, ◌∷◌, [], List, length, slice_get, MatchResult};
+ghost use Rattle.std.specs.Prelude.{◌≡◌, ◌<◌, ◌++◌, ◌∷◌, List, length, slice_get, MatchResult};
 ghost use Rattle.cip_io.specs.Faults.{CountsFaults};
 ghost use Rattle.cip_io.specs.Sink.{TakesAll, PushesPart};
 ghost use Rattle.cip_rational.specs.Rational.{ℚ, le_test};
@@ -49,42 +48,6 @@ fn check_word(verdict: &Verdict) -> &'static str
     }
 }
 
-/// Writes a word, a name and a blank.
-fn write_name<K: Sink>(
-    out: &mut K,
-    buffer: &mut Buffer,
-    word: &[u8],
-    name: &[u8],
-) -> Result<(), Failed>
-    ensures taken { Writes result (K.tells out.old) (K.tells out.new)
-        (buffer.old ++ (word.now ++ name.now ++ 32 ∷ [])) buffer.new }
-    ensures faults { CountsFaults result (K.tells out.old).faults (K.tells out.new).faults }
-{
-    buffer.write(out, word)?;
-    buffer.write(out, name)?;
-    buffer.write(out, b" ")
-}
-
-/// Writes a number.
-fn write_text<K: Sink>(out: &mut K, buffer: &mut Buffer, value: Frac) -> Result<(), Failed>
-    ensures taken { Writes result (K.tells out.old) (K.tells out.new) (buffer.old ++ fraction_text value) buffer.new }
-    ensures faults { CountsFaults result (K.tells out.old).faults (K.tells out.new).faults }
-{
-    let mut text = [0u8; 84];
-    let length = value.write_into(&mut text);
-    buffer.write(out, &text[..length])
-}
-
-/// Writes a number and a blank.
-fn write_value<K: Sink>(out: &mut K, buffer: &mut Buffer, value: Frac) -> Result<(), Failed>
-    ensures taken { Writes result (K.tells out.old) (K.tells out.new)
-        (buffer.old ++ (fraction_text value ++ 32 ∷ [])) buffer.new }
-    ensures faults { CountsFaults result (K.tells out.old).faults (K.tells out.new).faults }
-{
-    write_text(out, buffer, value)?;
-    buffer.write(out, b" ")
-}
-
 /// Whether a value is at least a low side.
 fn reaches(low: Frac, value: Frac) -> bool
     ensures { result ≡ le_test low value }
@@ -92,28 +55,22 @@ fn reaches(low: Frac, value: Frac) -> bool
     low <= value
 }
 
-/// Writes the end of a line: which side a value breaks.
-fn write_side<K: Sink>(
-    out: &mut K,
-    buffer: &mut Buffer,
-    sides: Sides,
-    value: Frac,
-) -> Result<(), Failed>
+/// The side that a value breaks, and its word with blanks around.
+fn side_broken(sides: Sides, value: Frac) -> (&'static [u8], Frac)
     requires { ¬ Between sides.low sides.high value }
-    ensures taken { Writes result (K.tells out.old) (K.tells out.new)
-        (buffer.old ++ (texts.broken_text (broken_side sides.low sides.high value) ++ 10 ∷ [])) buffer.new }
-    ensures faults { CountsFaults result (K.tells out.old).faults (K.tells out.new).faults }
+    ensures { result.0.now ++ fraction_text result.1
+        ≡ 32 ∷ texts.broken_text (broken_side sides.low sides.high value) }
 {
     match (sides.low, sides.high) {
         (Some(low), Some(high)) => {
             if reaches(low, value) {
-                write_number(out, buffer, b"above", high)
+                (b" above ", high)
             } else {
-                write_number(out, buffer, b"below", low)
+                (b" below ", low)
             }
         }
-        (Some(low), None) => write_number(out, buffer, b"below", low),
-        (None, Some(high)) => write_number(out, buffer, b"above", high),
+        (Some(low), None) => (b" below ", low),
+        (None, Some(high)) => (b" above ", high),
         (None, None) => unreachable!(),
     }
 }
@@ -132,9 +89,15 @@ fn write_broken<K: Sink>(
         (texts.figure_against value (broken_side sides.low sides.high value))) buffer.new }
     ensures faults { CountsFaults result (K.tells out.old).faults (K.tells out.new).faults }
 {
-    write_name(out, buffer, word, name)?;
-    write_value(out, buffer, value)?;
-    write_side(out, buffer, sides, value)
+    let (way, side) = side_broken(sides, value);
+    let mut figure = [0u8; 84];
+    let mut end = [0u8; 84];
+    let length = value.write_into(&mut figure);
+    let end_length = side.write_into(&mut end);
+    let figure = &figure[..length];
+    let end = &end[..end_length];
+    buffer.write_all(out, &[word, name, b" "])?;
+    buffer.write_all(out, &[figure, way, end, b"\n"])
 }
 
 /// The sides that a column's value is told to break: its own where it is semi-continuous, and else its bounds.
@@ -168,21 +131,6 @@ fn write_bound<K: Sink>(
     write_broken(out, buffer, b"bound ", name, point[number], sides)
 }
 
-/// Writes a line of `whole`, a name and a value.
-fn write_whole<K: Sink>(
-    out: &mut K,
-    buffer: &mut Buffer,
-    name: &[u8],
-    value: Frac,
-) -> Result<(), Failed>
-    ensures taken { Writes result (K.tells out.old) (K.tells out.new)
-        (buffer.old ++ line (codes "whole " ++ name.now) (fraction_text value)) buffer.new }
-    ensures faults { CountsFaults result (K.tells out.old).faults (K.tells out.new).faults }
-{
-    buffer.write(out, b"whole ")?;
-    write_number(out, buffer, name, value)
-}
-
 /// Writes the line of a whole column whose value is fractional.
 fn write_fractional<K: Sink>(
     out: &mut K,
@@ -199,7 +147,7 @@ fn write_fractional<K: Sink>(
 {
     let number = col as usize;
     let name = program.column_names().name(number);
-    write_whole(out, buffer, name, point[number])
+    write_number(out, buffer, b"whole ", name, point[number])
 }
 
 /// Writes the line of a row whose activity is outside its sides.
@@ -243,6 +191,7 @@ fn write_wide<K: Sink>(
             write_line(
                 out,
                 buffer,
+                b"",
                 b"row",
                 program.row_names().name(number as usize),
             )
@@ -266,7 +215,9 @@ fn write_verdict<K: Sink>(
     ensures faults { CountsFaults result (K.tells out.old).faults (K.tells out.new).faults }
 {
     match verdict {
-        Verdict::Feasible(cost) => write_number(out, buffer, b"cost", printed(program, *cost)),
+        Verdict::Feasible(cost) => {
+            write_number(out, buffer, b"", b"cost", printed(program, *cost))
+        },
         Verdict::BreaksBound { col } => write_bound(out, buffer, program, point, *col),
         Verdict::BreaksWhole { col } => write_fractional(out, buffer, program, point, *col),
         Verdict::BreaksRow { row, value } => write_row(out, buffer, program, *row, *value),
@@ -288,7 +239,7 @@ fn write_check<K: Sink>(
         (buffer.old ++ texts.check_text (checked_of program.now point.now verdict.now)) buffer.new }
     ensures faults { CountsFaults result (K.tells out.old).faults (K.tells out.new).faults }
 {
-    write_line(out, buffer, b"status", check_word(verdict).as_bytes())?;
+    write_line(out, buffer, b"", b"status", check_word(verdict).as_bytes())?;
     write_verdict(out, buffer, program, point, verdict)?;
     buffer.write(out, b"end\n")
 }

@@ -1,83 +1,28 @@
 //! The lines of a trace, written to a sink.
-ghost use Rattle.std.specs.Prelude.{◌≡◌, ◌++◌, ◌∷◌, map, slice_get};
+ghost use Rattle.std.specs.Prelude.{◌≡◌, ◌++◌, ◌∷◌, [], map, slice_get};
 ghost use Rattle.cip_io.specs.Faults.{CountsFaults};
-ghost use Rattle.cip_rational.specs.NumberText.{natural_text};
-ghost use Rattle.cip_search.specs.TraceTexts.{traced_front, trace_line, trace_lines};
-ghost use Rattle.cip_report.specs.Traces.{behind_word, word_text, name_or_mark, traced_line, kept_lines};
+ghost use Rattle.cip_search.specs.TraceTexts.{trace_line, trace_lines};
+ghost use Rattle.cip_report.specs.Traces.{word_text, name_or_mark, traced_line, kept_lines};
 ghost use Rattle.cip_report.specs.Writing.{Writes};
 
 use crate::buffer::Buffer;
+use crate::writing::{write_count, write_line};
 use cip_events::{Name, Trace, TraceLine, Word};
 use cip_io::{Failed, Sink};
 use itoa::Buffer as Digits;
 
-/// Writes two texts, one behind the other.
-fn write_both<K: Sink>(
-    out: &mut K,
-    buffer: &mut Buffer,
-    first: &[u8],
-    second: &[u8],
-) -> Result<(), Failed>
-    ensures taken { Writes result (K.tells out.old) (K.tells out.new)
-        (buffer.old ++ (first.now ++ second.now)) buffer.new }
-    ensures faults { CountsFaults result (K.tells out.old).faults (K.tells out.new).faults }
-{
-    buffer.write(out, first)?;
-    buffer.write(out, second)
-}
-
-/// Writes a text, and a number in decimal digits behind it.
-pub(crate) fn write_digits<K: Sink>(
-    out: &mut K,
-    buffer: &mut Buffer,
-    text: &[u8],
-    number: u64,
-) -> Result<(), Failed>
-    ensures taken { Writes result (K.tells out.old) (K.tells out.new)
-        (buffer.old ++ (text.now ++ natural_text number)) buffer.new }
-    ensures faults { CountsFaults result (K.tells out.old).faults (K.tells out.new).faults }
-{
-    let mut digits = Digits::new();
-    write_both(out, buffer, text, digits.format(number).as_bytes())
-}
-
-/// Writes the front of a line: its number, and the number and the name of the plugin.
-fn write_front<K: Sink>(
-    out: &mut K,
-    buffer: &mut Buffer,
-    number: u64,
-    id: u32,
-    name: &[u8],
-) -> Result<(), Failed>
-    ensures taken { Writes result (K.tells out.old) (K.tells out.new)
-        (buffer.old ++ traced_front number id name.now) buffer.new }
-    ensures faults { CountsFaults result (K.tells out.old).faults (K.tells out.new).faults }
-{
-    write_digits(out, buffer, b"trace ", number)?;
-    write_digits(out, buffer, b" ", id as u64)?;
-    write_both(out, buffer, b" ", name)
-}
-
-/// Writes what follows a word.
-fn write_behind<K: Sink>(out: &mut K, buffer: &mut Buffer, word: Word) -> Result<(), Failed>
-    ensures taken { Writes result (K.tells out.old) (K.tells out.new) (buffer.old ++ behind_word word) buffer.new }
-    ensures faults { CountsFaults result (K.tells out.old).faults (K.tells out.new).faults }
-{
-    match word {
-        Word::Dropped(count) => write_digits(out, buffer, b" ", count),
-        Word::Refused(fault) => write_both(out, buffer, b" ", fault.as_bytes()),
-        _ => Ok(()),
-    }
-}
-
-/// Writes a blank, and a word with what follows it.
+/// Writes a blank, a word with what follows it, and the end of the line.
 fn write_word<K: Sink>(out: &mut K, buffer: &mut Buffer, word: Word) -> Result<(), Failed>
     ensures taken { Writes result (K.tells out.old) (K.tells out.new)
-        (buffer.old ++ 32 ∷ word_text word) buffer.new }
+        (buffer.old ++ (32 ∷ (word_text word ++ 10 ∷ []))) buffer.new }
     ensures faults { CountsFaults result (K.tells out.old).faults (K.tells out.new).faults }
 {
-    write_both(out, buffer, b" ", word.text().as_bytes())?;
-    write_behind(out, buffer, word)
+    let text = word.text().as_bytes();
+    match word {
+        Word::Dropped(count) => write_count(out, buffer, b" ", text, count),
+        Word::Refused(fault) => write_line(out, buffer, b" ", text, fault.as_bytes()),
+        _ => buffer.write_all(out, &[b" ", text, b"\n"]),
+    }
 }
 
 /// The name of a plugin, and `?` where it has none.
@@ -102,9 +47,13 @@ fn write_traced<K: Sink>(
         (buffer.old ++ trace_line number (traced_line names.now traced)) buffer.new }
     ensures faults { CountsFaults result (K.tells out.old).faults (K.tells out.new).faults }
 {
-    write_front(out, buffer, number, traced.id, name_in(names, traced.id))?;
-    write_word(out, buffer, traced.word)?;
-    buffer.write(out, b"\n")
+    let mut digits = Digits::new();
+    let mut id_digits = Digits::new();
+    let number = digits.format(number).as_bytes();
+    let id = id_digits.format(traced.id as u64).as_bytes();
+    buffer.write_all(out, &[b"trace ", number, b" ", id, b" "])?;
+    buffer.write(out, name_in(names, traced.id))?;
+    write_word(out, buffer, traced.word)
 }
 
 /// Writes the lines, numbered from 1.

@@ -5,11 +5,12 @@ ghost use Rattle.cip_search.specs.Leaf.{at_wholes};
 ghost use Rattle.cip_io.specs.Faults.{CountsFaults};
 ghost use Rattle.cip_io.specs.Sink.{TakesAll, PushesPart};
 ghost use Rattle.cip_rational.specs.NumberText.{natural_text, fraction_text};
+ghost use Rattle.cip_problem.specs.Program as problem;
 ghost use Rattle.cip_problem.specs.WellFormed.{columns};
 ghost use Rattle.cip_problem.specs.Points.{printed};
 ghost use Rattle.cip_problem.specs.Choices.{choice_at, is_open};
-ghost use Rattle.cip_search.specs.Figures.{line, figure_text, point_lines, cost_lines, held_lines, leaf_name, choice_text, choice_lines, leaf_lines, ray_name, ray_lines, overflow_text, shown_lines, figure_lines, held_cost, names_of};
-ghost use Rattle.cip_search.specs.TraceTexts.{traced_end, traced_text};
+ghost use Rattle.cip_search.specs.Figures.{line, figure_text, point_lines, cost_lines, held_lines, leaf_name, choice_text, choice_lines, overflow_text, shown_lines, figure_lines, held_cost, names_of};
+ghost use Rattle.cip_search.specs.TraceTexts.{traced_text};
 ghost use Rattle.cip_report.specs.Answers.{figures_of, printed_held, status_of, overflow_of, StandsAmong, EndedFits, AnswerFits};
 ghost use Rattle.cip_report.specs.Traces.{kept_lines};
 ghost use Rattle.cip_report.specs.Writing.{Writes};
@@ -17,77 +18,94 @@ ghost use Rattle.cip_report.specs.Writing.{Writes};
 use crate::buffer::Buffer;
 use crate::figures::{Answer, Ended, Held};
 use crate::traces::write_kept;
-use cip_events::Trace;
 use cip_frac::Frac;
 use cip_io::{Failed, Sink};
 use cip_leaf::Shown;
 use cip_lin::Choice;
 use cip_model::{Names, Place, Program, Sense};
+use itoa::Buffer as Digits;
 
-/// Writes a line of a word and a figure.
+/// Writes a line of a word, with what stands in front of it, and a figure.
 pub(crate) fn write_line<K: Sink>(
     out: &mut K,
     buffer: &mut Buffer,
+    front: &[u8],
     word: &[u8],
     figure: &[u8],
 ) -> Result<(), Failed>
     ensures taken { Writes result (K.tells out.old) (K.tells out.new)
-        (buffer.old ++ line word.now figure.now) buffer.new }
+        (buffer.old ++ line (front.now ++ word.now) figure.now) buffer.new }
     ensures faults { CountsFaults result (K.tells out.old).faults (K.tells out.new).faults }
 {
-    buffer.write(out, word)?;
-    buffer.write(out, b" ")?;
-    buffer.write(out, figure)?;
-    buffer.write(out, b"\n")
+    buffer.write_all(out, &[front, word, b" ", figure, b"\n"])
 }
 
-/// Writes a line of a word and a number.
+/// Writes a line of a word, with what stands in front of it, and a number.
 pub(crate) fn write_number<K: Sink>(
     out: &mut K,
     buffer: &mut Buffer,
+    front: &[u8],
     word: &[u8],
     value: Frac,
 ) -> Result<(), Failed>
     ensures taken { Writes result (K.tells out.old) (K.tells out.new)
-        (buffer.old ++ line word.now (fraction_text value)) buffer.new }
+        (buffer.old ++ line (front.now ++ word.now) (fraction_text value)) buffer.new }
     ensures faults { CountsFaults result (K.tells out.old).faults (K.tells out.new).faults }
 {
     let mut text = [0u8; 84];
     let length = value.write_into(&mut text);
-    write_line(out, buffer, word, &text[..length])
+    write_line(out, buffer, front, word, &text[..length])
 }
 
-/// Writes a line of a word and a number, or `none` where there is none.
+/// Writes a line of a word, with what stands in front of it, and a count in decimal digits.
+pub(crate) fn write_count<K: Sink>(
+    out: &mut K,
+    buffer: &mut Buffer,
+    front: &[u8],
+    word: &[u8],
+    count: u64,
+) -> Result<(), Failed>
+    ensures taken { Writes result (K.tells out.old) (K.tells out.new)
+        (buffer.old ++ line (front.now ++ word.now) (natural_text count)) buffer.new }
+    ensures faults { CountsFaults result (K.tells out.old).faults (K.tells out.new).faults }
+{
+    let mut digits = Digits::new();
+    write_line(out, buffer, front, word, digits.format(count).as_bytes())
+}
+
+/// Writes a line of a word and a figure as it is printed, or `none` where there is none.
 fn write_figure<K: Sink>(
     out: &mut K,
     buffer: &mut Buffer,
+    program: &Program,
     word: &[u8],
-    value: Option<Frac>,
+    figure: Option<Frac>,
 ) -> Result<(), Failed>
     ensures taken { Writes result (K.tells out.old) (K.tells out.new)
-        (buffer.old ++ line word.now (figure_text value)) buffer.new }
+        (buffer.old ++ line word.now (figure_text (option_map (printed program.now) figure))) buffer.new }
     ensures faults { CountsFaults result (K.tells out.old).faults (K.tells out.new).faults }
 {
-    match value {
-        Some(value) => write_number(out, buffer, word, value),
-        None => write_line(out, buffer, word, b"none"),
+    match figure {
+        Some(figure) => write_number(out, buffer, b"", word, printed(program, figure)),
+        None => write_line(out, buffer, b"", word, b"none"),
     }
 }
 
-/// Writes a line for each column: its name and its value.
+/// Writes a line for each column: its name, with what stands in front of it, and its value.
 fn write_point<K: Sink>(
     out: &mut K,
     buffer: &mut Buffer,
+    front: &[u8],
     names: &Names,
     point: &[Frac],
 ) -> Result<(), Failed>
     requires { length point.now ≡ length names.now }
     ensures taken { Writes result (K.tells out.old) (K.tells out.new)
-        (buffer.old ++ point_lines names.now point.now) buffer.new }
+        (buffer.old ++ point_lines (map (λ name. front.now ++ name) names.now) point.now) buffer.new }
     ensures faults { CountsFaults result (K.tells out.old).faults (K.tells out.new).faults }
 {
     for number in 0..point.len() {
-        write_number(out, buffer, names.name(number), point[number])?;
+        write_number(out, buffer, front, names.name(number), point[number])?;
     }
     Ok(())
 }
@@ -102,22 +120,13 @@ pub(crate) fn printed(program: &Program, figure: Frac) -> Frac
     }
 }
 
-/// The cost as it is printed, where there is a point.
-fn printed_cost(program: &Program, held: &Option<Held>) -> Option<Frac>
-    ensures { result ≡ held_cost (option_map (printed_held program.now) held.now) }
+/// The cost of the point, where there is one.
+fn held_cost(held: &Option<Held>) -> Option<Frac>
+    ensures { (program : problem.Program) → option_map (printed program) result
+        ≡ held_cost (option_map (printed_held program) held.now) }
 {
     match held {
-        Some(held) => Some(printed(program, held.cost)),
-        None => None,
-    }
-}
-
-/// The bound as it is printed, where there is one.
-fn printed_bound(program: &Program, bound: Option<Frac>) -> Option<Frac>
-    ensures { result ≡ option_map (printed program.now) bound }
-{
-    match bound {
-        Some(bound) => Some(printed(program, bound)),
+        Some(held) => Some(held.cost),
         None => None,
     }
 }
@@ -133,10 +142,9 @@ pub(crate) fn write_costs<K: Sink>(
         (buffer.old ++ cost_lines (figures_of program.now answer.now)) buffer.new }
     ensures faults { CountsFaults result (K.tells out.old).faults (K.tells out.new).faults }
 {
-    let cost = printed_cost(program, &answer.best);
-    let bound = printed_bound(program, answer.bound);
-    write_figure(out, buffer, b"cost", cost)?;
-    write_figure(out, buffer, b"bound", bound)
+    let cost = held_cost(&answer.best);
+    write_figure(out, buffer, program, b"cost", cost)?;
+    write_figure(out, buffer, program, b"bound", answer.bound)
 }
 
 /// Writes the lines of the point, if there is one.
@@ -153,57 +161,17 @@ fn write_held<K: Sink>(
     ensures faults { CountsFaults result (K.tells out.old).faults (K.tells out.new).faults }
 {
     match held {
-        Some(held) => write_point(out, buffer, program.column_names(), held.point.as_slice()),
+        Some(held) => {
+            write_point(
+                out,
+                buffer,
+                b"",
+                program.column_names(),
+                held.point.as_slice(),
+            )
+        }
         None => Ok(()),
     }
-}
-
-/// Writes a line of `ray`, a name and a change.
-fn write_ray_line<K: Sink>(
-    out: &mut K,
-    buffer: &mut Buffer,
-    name: &[u8],
-    change: Frac,
-) -> Result<(), Failed>
-    ensures taken { Writes result (K.tells out.old) (K.tells out.new)
-        (buffer.old ++ line (ray_name name.now) (fraction_text change)) buffer.new }
-    ensures faults { CountsFaults result (K.tells out.old).faults (K.tells out.new).faults }
-{
-    buffer.write(out, b"ray ")?;
-    write_number(out, buffer, name, change)
-}
-
-/// Writes a line for each column: its name and by how much it changes along a ray.
-fn write_ray<K: Sink>(
-    out: &mut K,
-    buffer: &mut Buffer,
-    names: &Names,
-    ray: &[Frac],
-) -> Result<(), Failed>
-    requires { length ray.now ≡ length names.now }
-    ensures taken { Writes result (K.tells out.old) (K.tells out.new)
-        (buffer.old ++ ray_lines names.now ray.now) buffer.new }
-    ensures faults { CountsFaults result (K.tells out.old).faults (K.tells out.new).faults }
-{
-    for number in 0..ray.len() {
-        write_ray_line(out, buffer, names.name(number), ray[number])?;
-    }
-    Ok(())
-}
-
-/// Writes a line of `leaf`, a name and a value.
-fn write_leaf_line<K: Sink>(
-    out: &mut K,
-    buffer: &mut Buffer,
-    name: &[u8],
-    value: Frac,
-) -> Result<(), Failed>
-    ensures taken { Writes result (K.tells out.old) (K.tells out.new)
-        (buffer.old ++ line (leaf_name name.now) (fraction_text value)) buffer.new }
-    ensures faults { CountsFaults result (K.tells out.old).faults (K.tells out.new).faults }
-{
-    buffer.write(out, b"leaf ")?;
-    write_number(out, buffer, name, value)
 }
 
 /// Writes a line for each whole column: its name and its value in a leaf.
@@ -223,7 +191,7 @@ fn write_leaf_values<K: Sink>(
     let mut place = 0;
     for column in 0..whole.len() {
         if whole[column] {
-            write_leaf_line(out, buffer, names.name(column), leaf[place])?;
+            write_number(out, buffer, b"leaf ", names.name(column), leaf[place])?;
             place += 1;
         }
     }
@@ -235,21 +203,6 @@ fn choice_word(is_on: bool) -> &'static str
     ensures { result.now ≡ choice_text is_on }
 {
     if is_on { "on" } else { "off" }
-}
-
-/// Writes a line of `leaf`, a name, and whether the column is on.
-fn write_choice_line<K: Sink>(
-    out: &mut K,
-    buffer: &mut Buffer,
-    name: &[u8],
-    is_on: bool,
-) -> Result<(), Failed>
-    ensures taken { Writes result (K.tells out.old) (K.tells out.new)
-        (buffer.old ++ line (leaf_name name.now) (choice_text is_on)) buffer.new }
-    ensures faults { CountsFaults result (K.tells out.old).faults (K.tells out.new).faults }
-{
-    buffer.write(out, b"leaf ")?;
-    write_line(out, buffer, name, choice_word(is_on).as_bytes())
 }
 
 /// Writes a line for each semi-continuous column: its name and whether it is on in a leaf.
@@ -270,42 +223,13 @@ fn write_leaf_choices<K: Sink>(
     let mut place = 0;
     for column in 0..choices.len() {
         if choices[column].is_open() {
-            write_choice_line(out, buffer, names.name(column), on[place])?;
+            let name = names.name(column);
+            let word = choice_word(on[place]).as_bytes();
+            write_line(out, buffer, b"leaf ", name, word)?;
             place += 1;
         }
     }
     Ok(())
-}
-
-/// Writes the lines of a leaf: of the whole columns, and then of the semi-continuous ones.
-fn write_leaf<K: Sink>(
-    out: &mut K,
-    buffer: &mut Buffer,
-    program: &Program,
-    leaf: &[Frac],
-    on: &[bool],
-) -> Result<(), Failed>
-    requires values { length leaf.now ≡ length (names_of program.now).wholes }
-    requires choices { length on.now ≡ length (names_of program.now).semis }
-    ensures taken { Writes result (K.tells out.old) (K.tells out.new)
-        (buffer.old ++ leaf_lines (names_of program.now) (record { values = leaf.now; on = on.now })) buffer.new }
-    ensures faults { CountsFaults result (K.tells out.old).faults (K.tells out.new).faults }
-{
-    let names = program.column_names();
-    write_leaf_values(out, buffer, names, program.whole(), leaf)?;
-    write_leaf_choices(out, buffer, names, program.choices().as_slice(), on)
-}
-
-/// Writes the line of a number of moves.
-fn write_moves<K: Sink>(out: &mut K, buffer: &mut Buffer, number: u64) -> Result<(), Failed>
-    ensures taken { Writes result (K.tells out.old) (K.tells out.new)
-        (buffer.old ++ line (codes "overflow moves") (natural_text number)) buffer.new }
-    ensures faults { CountsFaults result (K.tells out.old).faults (K.tells out.new).faults }
-{
-    match Frac::whole(number as i128) {
-        Ok(value) => write_number(out, buffer, b"overflow moves", value),
-        Err(_) => unreachable!(),
-    }
 }
 
 /// Writes the line of what overflows.
@@ -322,10 +246,16 @@ fn write_overflow<K: Sink>(
 {
     match shown {
         Shown::Place(Place::Row(number)) => {
-            write_line(out, buffer, b"overflow row", names.name(number as usize))
+            write_line(
+                out,
+                buffer,
+                b"overflow ",
+                b"row",
+                names.name(number as usize),
+            )
         }
-        Shown::Place(Place::Cost) => write_line(out, buffer, b"overflow", b"cost"),
-        Shown::Moves(number) => write_moves(out, buffer, number),
+        Shown::Place(Place::Cost) => write_line(out, buffer, b"", b"overflow", b"cost"),
+        Shown::Moves(number) => write_count(out, buffer, b"overflow ", b"moves", number),
     }
 }
 
@@ -343,11 +273,14 @@ fn write_shown<K: Sink>(
 {
     match ended {
         Ended::Wide { leaf, on, shown } => {
-            write_leaf(out, buffer, program, leaf.as_slice(), on.as_slice())?;
+            let names = program.column_names();
+            let choices = program.choices().as_slice();
+            write_leaf_values(out, buffer, names, program.whole(), leaf.as_slice())?;
+            write_leaf_choices(out, buffer, names, choices, on.as_slice())?;
             write_overflow(out, buffer, program.row_names(), *shown)
         }
         Ended::Unbounded { ray } => {
-            write_ray(out, buffer, program.column_names(), ray.as_slice())
+            write_point(out, buffer, b"ray ", program.column_names(), ray.as_slice())
         }
         _ => Ok(()),
     }
@@ -389,16 +322,6 @@ fn write_body<K: Sink>(
     }
 }
 
-/// Writes the lines of the trace, if one was kept, and the last line.
-fn write_end<K: Sink>(out: &mut K, buffer: &mut Buffer, trace: &Option<Trace>) -> Result<(), Failed>
-    ensures taken { Writes result (K.tells out.old) (K.tells out.new)
-        (buffer.old ++ traced_end (kept_lines trace.now)) buffer.new }
-    ensures faults { CountsFaults result (K.tells out.old).faults (K.tells out.new).faults }
-{
-    write_kept(out, buffer, trace)?;
-    buffer.write(out, b"end\n")
-}
-
 /// Writes the answer, of which an end may be left in the buffer.
 fn write_answer<K: Sink>(
     out: &mut K,
@@ -412,9 +335,10 @@ fn write_answer<K: Sink>(
         (kept_lines answer.now.trace)) buffer.new }
     ensures faults { CountsFaults result (K.tells out.old).faults (K.tells out.new).faults }
 {
-    write_line(out, buffer, b"status", answer.ended.word().as_bytes())?;
+    write_line(out, buffer, b"", b"status", answer.ended.word().as_bytes())?;
     write_body(out, buffer, program, answer)?;
-    write_end(out, buffer, &answer.trace)
+    write_kept(out, buffer, &answer.trace)?;
+    buffer.write(out, b"end\n")
 }
 
 /// Writes the answer of a search, with the lines of its trace, and takes no memory. After an `Err` the sink took a part

@@ -1,35 +1,38 @@
-use Rattle.std.proofs.lemmas.Grind.{common_steps}
-use Rattle.std.proofs.Common.{◌≡◌, ◌++◌, [], ◌∷◌, append_assoc, List, ℕ, arith}
-use Rattle.cip_rational.specs.Rational.{ℚ}
+use Rattle.std.proofs.Common.{◌≡◌, ◌∙◌, ◌++◌, [], ◌∷◌, append_assoc, List, ℕ, ap, sym, subst}
 use Rattle.cip_rational.specs.NumberText.{fraction_text}
 use Rattle.cip_search.specs.Figures.{line}
-use Rattle.cip_search.specs.Checks.{Broken, broken_text, figure_against}
-use Rattle.cip_report.proofs.WritingLemmas.{first_of_three, second_of_three, third_of_three}
+use Rattle.cip_search.specs.Checks.{broken_text}
+use Rattle.cip_report.specs.Checks.{broken_side}
+use Rattle.cip_report.specs.Writing.{Writes}
+use Rattle.cip_report.proofs.WritingLemmas.{first_of_two, second_of_two}
 use Rattle.cip_report.proofs.checks.write_broken.Goals as goal
 
+parts_of : (word name blank value broken feed : List ℕ) → ((word ++ name) ++ (blank ++ (value ++ (blank ++ broken)))) ++ feed ≡ (word ++ (name ++ blank)) ++ (value ++ ((blank ++ broken) ++ feed))
+parts_of word name blank value broken feed = simp append_assoc
+
 -- the line, by its parts
-broken_parts : (word name : List ℕ) (value : ℚ) (broken : Broken) → line (word ++ name) (figure_against value broken) ≡ (word ++ name ++ 32 ∷ []) ++ (fraction_text value ++ 32 ∷ []) ++ (broken_text broken ++ 10 ∷ [])
-broken_parts word name value broken = simp append_assoc
+broken_parts : (word name value broken : List ℕ) → line (word ++ name) (value ++ 32 ∷ broken) ≡ (word ++ (name ++ 32 ∷ [])) ++ (value ++ (32 ∷ (broken ++ 10 ∷ [])))
+broken_parts word name value broken = parts_of word name (32 ∷ []) value broken (10 ∷ [])
 
-pub returns-in_err-write_name-clause-taken : goal.returns-in_err-write_name-clause-taken
-returns-in_err-write_name-clause-taken g c =
-    rw (broken_parts c.args.word.now c.args.name.now c.args.value)
-    (first_of_three c.from_residual.result _ _ c.args.buffer.now _ _ _ _ c.from_residual.ensures.0 c.in_err-write_name.ensures.taken)
-
-pub returns-in_err-write_value-clause-taken : goal.returns-in_err-write_value-clause-taken
-returns-in_err-write_value-clause-taken g c =
-    rw (broken_parts c.args.word.now c.args.name.now c.args.value)
-    (second_of_three c.from_residual-in_err-write_value.result _ _ _ c.args.buffer.now _ _ _ _ _ c.from_residual-in_err-write_value.ensures.0
-    c.in_ok-write_name.ensures.taken c.in_err-write_value.ensures.taken)
+pub returns-in_err-write_all-clause-taken : goal.returns-in_err-write_all-clause-taken
+returns-in_err-write_all-clause-taken g c =
+    let word = c.args.word.now in
+    let name = c.args.name.now in
+    let value = fraction_text c.args.value in
+    let broken = broken_text (broken_side c.args.sides.low c.args.sides.high c.args.value) in
+    subst (λ t. Writes c.from_residual.result (g.K.Sink.tells c.args.out.now) (g.K.Sink.tells c.write_all.new.out) (c.args.buffer.now ++ t) c.write_all.new.self) (sym (broken_parts word name value broken))
+    (first_of_two c.from_residual.result _ _ c.args.buffer.now (word ++ (name ++ 32 ∷ [])) (value ++ (32 ∷ (broken ++ 10 ∷ []))) _ c.from_residual.ensures.0 c.in_err-write_all.ensures.taken)
 
 pub returns-clause-taken : goal.returns-clause-taken
 returns-clause-taken g c =
-    rw (broken_parts c.args.word.now c.args.name.now c.args.value)
-    (third_of_three c.write_side.result _ _ _ _ c.args.buffer.now _ _ _ _ _ _
-    c.in_ok-write_name.ensures.taken c.in_ok-write_value.ensures.taken c.write_side.ensures.taken)
-
-pub returns-clause-faults : goal.returns-clause-faults
-returns-clause-faults g c = grind (arith, common_steps)
-
-pub write_side-requires : goal.write_side-requires
-write_side-requires g c = omega arith
+    let word = c.args.word.now in
+    let name = c.args.name.now in
+    let value = fraction_text c.args.value in
+    let broken = broken_text (broken_side c.args.sides.low c.args.sides.high c.args.value) in
+    let way = c.side_broken-side.result.0.now in
+    let side = fraction_text c.side_broken-side.result.1 in
+    let end : way ++ (side ++ 10 ∷ []) ≡ 32 ∷ (broken ++ 10 ∷ []) = sym (append_assoc way side (10 ∷ [])) ∙ ap (λ t. t ++ 10 ∷ []) c.side_broken-side.ensures in
+    subst (λ t. Writes c.write_all-2.result (g.K.Sink.tells c.args.out.now) (g.K.Sink.tells c.write_all-2.new.out) (c.args.buffer.now ++ t) c.write_all-2.new.self) (sym (broken_parts word name value broken))
+    (second_of_two c.write_all-2.result _ _ _ c.args.buffer.now (word ++ (name ++ 32 ∷ [])) (value ++ (32 ∷ (broken ++ 10 ∷ []))) _ _ c.in_ok-write_all.ensures.taken
+    (subst (λ t. Writes c.write_all-2.result (g.K.Sink.tells c.write_all.new.out) (g.K.Sink.tells c.write_all-2.new.out) (c.write_all.new.self ++ (value ++ t)) c.write_all-2.new.self) end
+    (rw (c.write_into-length.ensures.text, c.write_into-end_length.ensures.text) at c.write_all-2.ensures.taken)))

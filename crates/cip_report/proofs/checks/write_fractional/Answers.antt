@@ -18,7 +18,7 @@ returns-clause-taken g c =
     let within : c.args.col < length c.args.point.now = subst (λ n. c.args.col < n) (c.column_names.ensures.formed.integral ∙ sym c.requires.long) c.requires.is_column in
     let value = value_there c.args.point.now c.args.col c.index-point-number.result within c.index-point-number.is in
     let name = get_or_from_slice_get c.column_names.result.now c.args.col c.name-name.result.now no_name c.name-name.ensures in
-    rw (← value, ← c.column_names.ensures.names, name) c.write_whole.ensures.taken
+    rw (← value, ← c.column_names.ensures.names, name) c.write_number.ensures.taken
 
 pub returns-clause-faults : goal.returns-clause-faults
-returns-clause-faults g c = c.write_whole.ensures.faults
+returns-clause-faults g c = c.write_number.ensures.faults

@@ -6,12 +6,12 @@ use Rattle.cip_report.proofs.writing.write_costs.Goals as goal
 pub returns-in_err-write_figure-clause-taken : goal.returns-in_err-write_figure-clause-taken
 returns-in_err-write_figure-clause-taken g c =
     first_of_two c.from_residual.result _ _ c.args.buffer.now _ _ _ c.from_residual.ensures.0
-    (rw c.printed_cost-cost.ensures at c.in_err-write_figure.ensures.taken)
+    (rw (c.held_cost-cost.ensures c.args.program.now) at c.in_err-write_figure.ensures.taken)
 
 pub returns-clause-taken : goal.returns-clause-taken
 returns-clause-taken g c =
     second_of_two c.write_figure-2.result _ _ _ c.args.buffer.now _ _ _ _
-    (rw c.printed_cost-cost.ensures at c.in_ok-write_figure.ensures.taken) (rw c.printed_bound-bound.ensures at c.write_figure-2.ensures.taken)
+    (rw (c.held_cost-cost.ensures c.args.program.now) at c.in_ok-write_figure.ensures.taken) c.write_figure-2.ensures.taken
 
 pub returns-clause-faults : goal.returns-clause-faults
 returns-clause-faults g c = grind (arith, common_steps)

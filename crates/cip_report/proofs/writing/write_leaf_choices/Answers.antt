@@ -8,30 +8,31 @@ use Rattle.cip_report.specs.Writing.{Passes}
 use Rattle.cip_report.proofs.WritingLemmas.{second_of_three, Passes-more}
 use Rattle.cip_report.proofs.LeafLines.{on_lines, choices_are_lines, place_below, place_more, lines_around, lines_more, wholes_same, open_flag, few_flags, all_lines}
 use Rattle.cip_report.proofs.writing.write_leaf_choices.Goals as goal
-use Rattle.cip_report.proofs.writing.write_leaf_choices.Goals.{then-is_open+in_ok-write_choice_line, else-is_open}
+use Rattle.cip_report.proofs.writing.write_leaf_choices.Goals.{then-is_open+in_ok-write_line, else-is_open}
 
 pub bounds-on-place : goal.bounds-on-place
 bounds-on-place g c =
     let few = few_flags c.args.choices.now c.loop-column.column c.loop-column-test.true in
     let flag = open_flag c.args.choices.now c.loop-column.column c.index-choices-column.result c.is_open.result c.loop-column-test.true c.index-choices-column.is c.is_open.ensures ∙ c.if-is_open.true in
-    place_below (map is_open c.args.choices.now) c.args.names.now c.loop-column.column c.name.result.now c.loop-column.place c.args.on.now few flag c.name.ensures c.loop-column.invariant.placed c.requires.fits
+    place_below (map is_open c.args.choices.now) c.args.names.now c.loop-column.column c.name-name.result.now c.loop-column.place c.args.on.now few flag c.name-name.ensures c.loop-column.invariant.placed c.requires.fits
 
 pub overflow_add-place : goal.overflow_add-place
 overflow_add-place g c =
     let few = few_flags c.args.choices.now c.loop-column.column c.loop-column-test.true in
     let flag = open_flag c.args.choices.now c.loop-column.column c.index-choices-column.result c.is_open.result c.loop-column-test.true c.index-choices-column.is c.is_open.ensures ∙ c.if-is_open.true in
-    let below : c.loop-column.place < length c.args.on.now = place_below (map is_open c.args.choices.now) c.args.names.now c.loop-column.column c.name.result.now c.loop-column.place c.args.on.now few flag c.name.ensures c.loop-column.invariant.placed c.requires.fits in
+    let below : c.loop-column.place < length c.args.on.now = place_below (map is_open c.args.choices.now) c.args.names.now c.loop-column.column c.name-name.result.now c.loop-column.place c.args.on.now few flag c.name-name.ensures c.loop-column.invariant.placed c.requires.fits in
     search rules
 
-pub returns-in_err-write_choice_line-clause-taken : goal.returns-in_err-write_choice_line-clause-taken
-returns-in_err-write_choice_line-clause-taken g c =
+pub returns-in_err-write_line-clause-taken : goal.returns-in_err-write_line-clause-taken
+returns-in_err-write_line-clause-taken g c =
     let flags = map is_open c.args.choices.now in
     let few = few_flags c.args.choices.now c.loop-column.column c.loop-column-test.true in
     let flag = open_flag c.args.choices.now c.loop-column.column c.index-choices-column.result c.is_open.result c.loop-column-test.true c.index-choices-column.is c.is_open.ensures ∙ c.if-is_open.true in
-    let below : c.loop-column.place < length c.args.on.now = place_below flags c.args.names.now c.loop-column.column c.name.result.now c.loop-column.place c.args.on.now few flag c.name.ensures c.loop-column.invariant.placed c.requires.fits in
-    let parts = lines_around choice_text on_lines choices_are_lines flags c.args.names.now c.loop-column.column c.name.result.now c.loop-column.place c.args.on.now (get_or c.args.on.now c.loop-column.place false) few flag c.name.ensures c.loop-column.invariant.placed below (get_or_default c.args.on.now c.loop-column.place false (get_or c.args.on.now c.loop-column.place false) below) in
+    let below : c.loop-column.place < length c.args.on.now = place_below flags c.args.names.now c.loop-column.column c.name-name.result.now c.loop-column.place c.args.on.now few flag c.name-name.ensures c.loop-column.invariant.placed c.requires.fits in
+    let parts = lines_around choice_text on_lines choices_are_lines flags c.args.names.now c.loop-column.column c.name-name.result.now c.loop-column.place c.args.on.now (get_or c.args.on.now c.loop-column.place false) few flag c.name-name.ensures c.loop-column.invariant.placed below (get_or_default c.args.on.now c.loop-column.place false (get_or c.args.on.now c.loop-column.place false) below) in
+    let word = c.as_bytes-word.ensures.value ∙ c.choice_word.ensures in
     rw (parts, ← append_assoc (on_lines (at_wholes (take c.loop-column.column flags) (take c.loop-column.column c.args.names.now)) (take c.loop-column.place c.args.on.now)) _ _)
-    (second_of_three c.from_residual.result _ _ _ c.args.buffer.now _ _ _ _ _ c.from_residual.ensures.0 c.loop-column.invariant.passes c.in_err-write_choice_line.ensures.taken)
+    (second_of_three c.from_residual.result _ _ _ c.args.buffer.now _ _ _ _ _ c.from_residual.ensures.0 c.loop-column.invariant.passes (rw word at c.in_err-write_line.ensures.taken))
 
 pub loop-column-preserved : goal.loop-column-preserved
 loop-column-preserved g c =
@@ -40,15 +41,16 @@ loop-column-preserved g c =
     let flag = open_flag c.args.choices.now c.loop-column.column c.index-choices-column.result c.is_open.result c.loop-column-test.true c.index-choices-column.is c.is_open.ensures in
     let old = c.loop-column.invariant in
     elim c.if-is_open.branch [
-      | then-is_open+in_ok-write_choice_line w ↦
+      | then-is_open+in_ok-write_line w ↦
           let at = flag ∙ w.if-is_open.true in
-          let below : c.loop-column.place < length c.args.on.now = place_below flags c.args.names.now c.loop-column.column w.name.result.now c.loop-column.place c.args.on.now few at w.name.ensures old.placed c.requires.fits in
-          let more = lines_more choice_text on_lines choices_are_lines flags c.args.names.now c.loop-column.column w.name.result.now c.loop-column.place c.args.on.now (get_or c.args.on.now c.loop-column.place false) few at w.name.ensures old.placed below (get_or_default c.args.on.now c.loop-column.place false (get_or c.args.on.now c.loop-column.place false) below) in
-          let texts = append_assoc c.args.buffer.now (on_lines (at_wholes (take c.loop-column.column flags) (take c.loop-column.column c.args.names.now)) (take c.loop-column.place c.args.on.now)) (line (leaf_name w.name.result.now) (choice_text (get_or c.args.on.now c.loop-column.place false))) in
+          let below : c.loop-column.place < length c.args.on.now = place_below flags c.args.names.now c.loop-column.column w.name-name.result.now c.loop-column.place c.args.on.now few at w.name-name.ensures old.placed c.requires.fits in
+          let more = lines_more choice_text on_lines choices_are_lines flags c.args.names.now c.loop-column.column w.name-name.result.now c.loop-column.place c.args.on.now (get_or c.args.on.now c.loop-column.place false) few at w.name-name.ensures old.placed below (get_or_default c.args.on.now c.loop-column.place false (get_or c.args.on.now c.loop-column.place false) below) in
+          let texts = append_assoc c.args.buffer.now (on_lines (at_wholes (take c.loop-column.column flags) (take c.loop-column.column c.args.names.now)) (take c.loop-column.place c.args.on.now)) (line (leaf_name w.name-name.result.now) (choice_text (get_or c.args.on.now c.loop-column.place false))) in
+          let word = w.as_bytes-word.ensures.value ∙ w.choice_word.ensures in
           record {
-            passes = rw (w.out-is, w.buffer-is, w.place-is, add-one, add-one, more, ← texts) (Passes-more _ _ _ _ _ _ _ old.passes w.in_ok-write_choice_line.ensures.taken);
-            same = rw w.out-is (w.in_ok-write_choice_line.ensures.faults.0 ∙ old.same);
-            placed = rw (w.place-is, add-one, add-one) (place_more flags c.args.names.now c.loop-column.column w.name.result.now c.loop-column.place few at w.name.ensures old.placed);
+            passes = rw (w.out-is, w.buffer-is, w.place-is, add-one, add-one, more, ← texts) (Passes-more _ _ _ _ _ _ _ old.passes (rw word at w.in_ok-write_line.ensures.taken));
+            same = rw w.out-is (w.in_ok-write_line.ensures.faults.0 ∙ old.same);
+            placed = rw (w.place-is, add-one, add-one) (place_more flags c.args.names.now c.loop-column.column w.name-name.result.now c.loop-column.place few at w.name-name.ensures old.placed);
           }
       | else-is_open w ↦
           let less = wholes_same flags c.args.names.now c.loop-column.column few (flag ∙ w.if-is_open.false) in

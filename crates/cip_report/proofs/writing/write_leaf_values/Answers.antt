@@ -6,7 +6,7 @@ use Rattle.cip_search.specs.Figures.{line, leaf_name}
 use Rattle.cip_report.proofs.WritingLemmas.{second_of_three, Passes-more}
 use Rattle.cip_report.proofs.LeafLines.{value_lines, values_are_lines, place_below, place_more, lines_around, lines_more, wholes_same}
 use Rattle.cip_report.proofs.writing.write_leaf_values.Goals as goal
-use Rattle.cip_report.proofs.writing.write_leaf_values.Goals.{then-whole-column+in_ok-write_leaf_line, else-whole-column}
+use Rattle.cip_report.proofs.writing.write_leaf_values.Goals.{then-whole-column+in_ok-write_number, else-whole-column}
 
 pub bounds-leaf-place : goal.bounds-leaf-place
 bounds-leaf-place g c =
@@ -22,23 +22,23 @@ overflow_add-place g c =
     let below : c.loop-column.place < length c.args.leaf.now = place_below c.args.whole.now c.args.names.now c.loop-column.column c.name.result.now c.loop-column.place c.args.leaf.now c.loop-column-test.true c.if-whole-column.true c.name.ensures c.loop-column.invariant.placed c.requires.fits in
     search rules
 
-pub returns-in_err-write_leaf_line-clause-taken : goal.returns-in_err-write_leaf_line-clause-taken
-returns-in_err-write_leaf_line-clause-taken g c =
+pub returns-in_err-write_number-clause-taken : goal.returns-in_err-write_number-clause-taken
+returns-in_err-write_number-clause-taken g c =
     let below : c.loop-column.place < length c.args.leaf.now = place_below c.args.whole.now c.args.names.now c.loop-column.column c.name.result.now c.loop-column.place c.args.leaf.now c.loop-column-test.true c.if-whole-column.true c.name.ensures c.loop-column.invariant.placed c.requires.fits in
     let parts = lines_around fraction_text value_lines values_are_lines c.args.whole.now c.args.names.now c.loop-column.column c.name.result.now c.loop-column.place c.args.leaf.now c.index-leaf-place.result c.loop-column-test.true c.if-whole-column.true c.name.ensures c.loop-column.invariant.placed below c.index-leaf-place.is in
     rw (parts, ← append_assoc (value_lines (at_wholes (take c.loop-column.column c.args.whole.now) (take c.loop-column.column c.args.names.now)) (take c.loop-column.place c.args.leaf.now)) _ _)
-    (second_of_three c.from_residual.result _ _ _ c.args.buffer.now _ _ _ _ _ c.from_residual.ensures.0 c.loop-column.invariant.passes c.in_err-write_leaf_line.ensures.taken)
+    (second_of_three c.from_residual.result _ _ _ c.args.buffer.now _ _ _ _ _ c.from_residual.ensures.0 c.loop-column.invariant.passes c.in_err-write_number.ensures.taken)
 
 pub loop-column-preserved : goal.loop-column-preserved
 loop-column-preserved g c = elim c.if-whole-column.branch [
-  | then-whole-column+in_ok-write_leaf_line w ↦
+  | then-whole-column+in_ok-write_number w ↦
       let old = c.loop-column.invariant in
       let below : c.loop-column.place < length c.args.leaf.now = place_below c.args.whole.now c.args.names.now c.loop-column.column w.name.result.now c.loop-column.place c.args.leaf.now c.loop-column-test.true w.if-whole-column.true w.name.ensures old.placed c.requires.fits in
       let more = lines_more fraction_text value_lines values_are_lines c.args.whole.now c.args.names.now c.loop-column.column w.name.result.now c.loop-column.place c.args.leaf.now w.index-leaf-place.result c.loop-column-test.true w.if-whole-column.true w.name.ensures old.placed below w.index-leaf-place.is in
       let texts = append_assoc c.args.buffer.now (value_lines (at_wholes (take c.loop-column.column c.args.whole.now) (take c.loop-column.column c.args.names.now)) (take c.loop-column.place c.args.leaf.now)) (line (leaf_name w.name.result.now) (fraction_text w.index-leaf-place.result)) in
       record {
-        passes = rw (w.out-is, w.buffer-is, w.place-is, add-one, add-one, more, ← texts) (Passes-more _ _ _ _ _ _ _ old.passes w.in_ok-write_leaf_line.ensures.taken);
-        same = rw w.out-is (w.in_ok-write_leaf_line.ensures.faults.0 ∙ old.same);
+        passes = rw (w.out-is, w.buffer-is, w.place-is, add-one, add-one, more, ← texts) (Passes-more _ _ _ _ _ _ _ old.passes w.in_ok-write_number.ensures.taken);
+        same = rw w.out-is (w.in_ok-write_number.ensures.faults.0 ∙ old.same);
         placed = rw (w.place-is, add-one, add-one) (place_more c.args.whole.now c.args.names.now c.loop-column.column w.name.result.now c.loop-column.place c.loop-column-test.true w.if-whole-column.true w.name.ensures old.placed);
       }
   | else-whole-column w ↦

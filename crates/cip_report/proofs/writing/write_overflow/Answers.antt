@@ -31,7 +31,7 @@ pub returns-in-Place-Cost-clause-faults : goal.returns-in-Place-Cost-clause-faul
 returns-in-Place-Cost-clause-faults g c = c.write_line-in-Place-Cost.ensures.faults
 
 pub returns-in-Moves-clause-taken : goal.returns-in-Moves-clause-taken
-returns-in-Moves-clause-taken g c = rw c.in-Moves.is c.write_moves.ensures.taken
+returns-in-Moves-clause-taken g c = rw c.in-Moves.is c.write_count.ensures.taken
 
 pub returns-in-Moves-clause-faults : goal.returns-in-Moves-clause-faults
-returns-in-Moves-clause-faults g c = c.write_moves.ensures.faults
+returns-in-Moves-clause-faults g c = c.write_count.ensures.faults

@@ -1,8 +1,10 @@
-use Rattle.std.proofs.Common.{None, Some, cond, ◌||◌, not, ap, sym, ◌∙◌}
+use Rattle.std.proofs.lemmas.Grind.{common_steps}
+use Rattle.std.proofs.Common.{◌≡◌, None, Some, cond, ◌||◌, not, ap, sym, ◌∙◌, arith}
 use Rattle.std.specs.Prelude.{is_none}
 use Rattle.std.specs.List.{list_any}
 use Rattle.cip_blocks.specs.OpenColumns.{has_open_owned}
 use Rattle.cip_blocks.specs.BlockWordsRead.{program_of, state_of}
+use Rattle.cip_blocks.specs.Endings.{place_fault}
 use Rattle.cip_blocks.proofs.EndLaws.{told, end_is}
 use Rattle.cip_blocks.proofs.block_words.BlockWords.end_kind.Goals as goal
 
@@ -12,9 +14,10 @@ returns-then-ending-clause-fault c =
     let ending = c.args.ending.now in
     let program = program_of words in
     let state = state_of words in
+    let none : None ≡ place_fault state.place = grind (arith, common_steps) in
     let opens = has_open_owned program.bounds ending.owners.blocks.items in
     let lacks = is_none state.count || list_any not state.begun in
-    sym (end_is program state ending (told c.owners_are_right.ensures words c.requires.formed) c.requires c.in_default.ensures
+    sym (end_is program state ending (told c.owners_are_right.ensures words c.requires.formed) c.requires none
     ∙ ap (λ b. cond b (Some 6) (cond opens (Some 7) (cond lacks (Some 8) None))) c.if-ending.true)
 
 pub returns-then-has_open-clause-fault : goal.returns-then-has_open-clause-fault
@@ -23,9 +26,10 @@ returns-then-has_open-clause-fault c =
     let ending = c.args.ending.now in
     let program = program_of words in
     let state = state_of words in
+    let none : None ≡ place_fault state.place = grind (arith, common_steps) in
     let opens = has_open_owned program.bounds ending.owners.blocks.items in
     let lacks = is_none state.count || list_any not state.begun in
-    sym (end_is program state ending (told c.owners_are_right.ensures words c.requires.formed) c.requires c.in_default.ensures
+    sym (end_is program state ending (told c.owners_are_right.ensures words c.requires.formed) c.requires none
     ∙ ap (λ b. cond b (Some 6) (cond opens (Some 7) (cond lacks (Some 8) None))) c.if-ending.false
     ∙ ap (λ b. cond b (Some 7) (cond lacks (Some 8) None)) (sym c.if-has_open.ensures))
 
@@ -35,9 +39,10 @@ returns-then-lacks_block-clause-fault c =
     let ending = c.args.ending.now in
     let program = program_of words in
     let state = state_of words in
+    let none : None ≡ place_fault state.place = grind (arith, common_steps) in
     let opens = has_open_owned program.bounds ending.owners.blocks.items in
     let lacks = is_none state.count || list_any not state.begun in
-    sym (end_is program state ending (told c.owners_are_right.ensures words c.requires.formed) c.requires c.in_default.ensures
+    sym (end_is program state ending (told c.owners_are_right.ensures words c.requires.formed) c.requires none
     ∙ ap (λ b. cond b (Some 6) (cond opens (Some 7) (cond lacks (Some 8) None))) c.if-ending.false
     ∙ ap (λ b. cond b (Some 7) (cond lacks (Some 8) None)) (sym c.if-has_open.ensures)
     ∙ ap (λ b. cond b (Some 8) None) (sym c.if-lacks_block.ensures))
@@ -48,9 +53,10 @@ returns-else-lacks_block-clause-fault c =
     let ending = c.args.ending.now in
     let program = program_of words in
     let state = state_of words in
+    let none : None ≡ place_fault state.place = grind (arith, common_steps) in
     let opens = has_open_owned program.bounds ending.owners.blocks.items in
     let lacks = is_none state.count || list_any not state.begun in
-    sym (end_is program state ending (told c.owners_are_right.ensures words c.requires.formed) c.requires c.in_default.ensures
+    sym (end_is program state ending (told c.owners_are_right.ensures words c.requires.formed) c.requires none
     ∙ ap (λ b. cond b (Some 6) (cond opens (Some 7) (cond lacks (Some 8) None))) c.if-ending.false
     ∙ ap (λ b. cond b (Some 7) (cond lacks (Some 8) None)) (sym c.if-has_open.ensures)
     ∙ ap (λ b. cond b (Some 8) None) (sym c.if-lacks_block.ensures))

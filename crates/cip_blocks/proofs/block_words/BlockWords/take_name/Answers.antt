@@ -15,8 +15,8 @@ invariant_of-self-clause-below c =
     let words = c.args.self.now in
     all_set (λ row. is_below (unwrap_or words.count 0) (block_of row)) words.rows.items c.in-Some.number (Named c.args.block) words.below (ap (is_sound_place words.count) (sym c.requires) ∙ words.placed)
 
-pub returns-clause-taken : goal.returns-clause-taken
-returns-clause-taken c =
+pub returns-in-Unnamed-clause-taken : goal.returns-in-Unnamed-clause-taken
+returns-in-Unnamed-clause-taken c =
     let words = c.args.self.now in
     let program = program_of words in
     let name = c.args.name.now in
@@ -24,7 +24,7 @@ returns-clause-taken c =
     let known : number_in program.row_names name ≡ Some number =
     c.numbers_are_of_names.ensures program.row_names name ∙ ap (λ names. number_of names name) (sym c.row_names.ensures.names) ∙ sym c.in-Some.ensures.number in
     let below : number < length words.rows.items = omega (arith, c.in-Some.ensures.within, words.rows_sized, words.rows.ok.0, ap length c.row_names.ensures.names) in
-    let free : is_placed (row_shown c.index.result.now) ≡ false = sym c.if-is_named.ensures in
+    let free : is_placed (row_shown c.index.result.now) ≡ false = ap (λ row. is_placed (row_shown row)) c.in-Unnamed.is in
     record {
       is_kind = name_kind program (state_of words) c.args.block name number (c.block_words_have_tests.ensures.name program (state_of words) c.args.block name) known (ap is_placed (row_at words.rows.items number c.index.result.now below c.index.ensures) ∙ free);
       taken = λ e.
