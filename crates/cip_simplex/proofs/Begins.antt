@@ -56,9 +56,6 @@ opposite_sides sides Zero Zero e a b = absurd (cc)
 
 -- ---- moves
 
-pub leaving_within : (start : Stands) (d : Dictionary) (k v : ℕ) → Some v ≡ least (size d) (may_leave start d k) → v < size d
-leaving_within start d k v e = (least_some (size d) (may_leave start d k) v (sym e)).below
-
 pub can_enter : (start : Stands) (d : Dictionary) (k v : ℕ) (to : Stand) → k < size d → is_basic d k ≡ false → Some v ≡ least (size d) (may_leave start d k) → to ≡ leaving_stand start d v → CanExchange d v k to
 can_enter start d k v to lk nonbasic e t =
     let h = least_some (size d) (may_leave start d k) v (sym e) in

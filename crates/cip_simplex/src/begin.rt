@@ -11,7 +11,7 @@ ghost use Rattle.cip_simplex.specs.LpEntries.{entry_of, entries_in};
 use crate::lp::Lp;
 use crate::solver::Solver;
 use cip_dict::{Dict, FirstFault, Frac};
-use cip_lin::{Row, Sides, Term};
+use cip_lin::{Sides, Term};
 use std::alloc::{AllocError, Global};
 
 /// Puts the entries of row r at the end; `Err` where a growth was refused.
@@ -28,36 +28,26 @@ fn put_entries(
     Ok(())
 }
 
-/// Makes a list that of the entries of all rows, which have their terms by rising column; `Err` where a growth was
-/// refused.
-fn gather_entries(lp: &Lp, entries: &mut Vec<(u32, u32, Frac)>) -> Result<(), AllocError>
-    ensures { IfOk result (λ _. (entries.new.items ≡ entries_in lp.now.rows)
+/// Makes two lists those of the entries and of the sides of all rows, which have their terms by rising column; `Err`
+/// where a growth was refused.
+fn gather(
+    lp: &Lp,
+    entries: &mut Vec<(u32, u32, Frac)>,
+    sides: &mut Vec<Sides>,
+) -> Result<(), AllocError>
+    ensures entries { IfOk result (λ _. (entries.new.items ≡ entries_in lp.now.rows)
         × ((r : ℕ) → r < length lp.now.rows → AreTerms (terms_at lp.now.rows r))) }
+    ensures sides { IfOk result (λ _. sides.new.items ≡ map row_sides lp.now.rows) }
 {
     entries.clear();
-    for r in 0..lp.row_count() {
-        put_entries(entries, r as u32, lp.row(r).terms())?;
-    }
-    Ok(())
-}
-
-/// The sides of a row.
-fn sides_of(row: &Row) -> Sides
-    ensures { result ≡ row_sides row.now }
-{
-    Sides {
-        low: row.low(),
-        high: row.high(),
-    }
-}
-
-/// Makes a list that of the sides of all rows; `Err` where a growth was refused.
-fn gather_sides(lp: &Lp, sides: &mut Vec<Sides>) -> Result<(), AllocError>
-    ensures { IfOk result (λ _. sides.new.items ≡ map row_sides lp.now.rows) }
-{
     sides.clear();
     for r in 0..lp.row_count() {
-        sides.push(sides_of(lp.row(r)))?;
+        let row = lp.row(r);
+        put_entries(entries, r as u32, row.terms())?;
+        sides.push(Sides {
+            low: row.low(),
+            high: row.high(),
+        })?;
     }
     Ok(())
 }
@@ -71,8 +61,7 @@ pub(crate) fn first_state(alloc: Global, solver: &mut Solver, lp: &Lp) -> Result
         (IsFirstFault (system_of lp.now)) }
 {
     let _columns = lp.columns();
-    gather_entries(lp, &mut solver.entries)?;
-    gather_sides(lp, &mut solver.sides)?;
+    gather(lp, &mut solver.entries, &mut solver.sides)?;
     Dict::first(
         alloc,
         &mut solver.spare,

@@ -1,28 +1,12 @@
 //! Which variables are at fault, and which may mend that: the tests of Bland's rule, and the least that passes each.
 ghost use Rattle.std.specs.Prelude.{◌≡◌, ◌<◌, ◌^◌, true};
-ghost use Rattle.cip_rational.specs.Rational.{is_zero};
 ghost use Rattle.cip_bland.specs.Tables.{least};
 ghost use Rattle.cip_bland.specs.Dictionary as def;
 ghost use Rattle.cip_bland.specs.Rule as rule;
 
-use crate::headings::{are_crossed, back_of, heading_if, is_ahead, lies_between, outside_way};
-use cip_bland::Heading;
-use cip_dict::{Dict, Frac};
-
-/// Whether a number is 0.
-pub(crate) fn vanishes(a: Frac) -> bool
-    ensures { result ≡ is_zero a }
-{
-    a.is_zero()
-}
-
-/// Whether the low side of variable v is above its high one.
-fn is_crossed(dict: &Dict, v: u32) -> bool
-    requires { v < def.size dict.now }
-    ensures { result ≡ rule.is_crossed dict.now v }
-{
-    are_crossed(dict.sides(v))
-}
+use crate::headings::{are_crossed, heading_if, is_at_most, outside_way};
+use cip_bland::{Heading, Stand};
+use cip_dict::Dict;
 
 /// The least variable whose low side is above its high one.
 pub(crate) fn least_crossed(dict: &Dict) -> Option<u32>
@@ -30,7 +14,7 @@ pub(crate) fn least_crossed(dict: &Dict) -> Option<u32>
     ensures { result ≡ least (def.size dict.now) (rule.is_crossed dict.now) }
 {
     for v in 0..dict.len() {
-        if is_crossed(dict, v as u32) {
+        if are_crossed(dict.sides(v as u32)) {
             return Some(v as u32);
         }
     }
@@ -42,7 +26,19 @@ pub(crate) fn is_outside(dict: &Dict, v: u32) -> bool
     requires { v < def.size dict.now }
     ensures { result ≡ rule.is_outside dict.now v }
 {
-    dict.stand(v).is_none() && !lies_between(dict.sides(v), dict.value(v))
+    if dict.stand(v).is_some() {
+        return false;
+    }
+    let (sides, value) = (dict.sides(v), dict.value(v));
+    if let Some(low) = sides.low {
+        if !is_at_most(low, value) {
+            return true;
+        }
+    }
+    match sides.high {
+        Some(high) => !is_at_most(value, high),
+        None => false,
+    }
 }
 
 /// The least basic variable outside its sides.
@@ -71,14 +67,16 @@ pub(crate) fn may_go(dict: &Dict, k: u32, heading: Heading) -> bool
     requires { k < def.size dict.now }
     ensures { result ≡ rule.may_go dict.now k heading }
 {
-    match dict.stand(k) {
-        None => false,
-        Some(at) => !is_ahead(heading, at) && !dict.sides(k).is_fixed(),
+    match (heading, dict.stand(k)) {
+        (_, None) => false,
+        (Heading::Up, Some(Stand::High)) => false,
+        (Heading::Down, Some(Stand::Low)) => false,
+        _ => !dict.sides(k).is_fixed(),
     }
 }
 
 /// The least variable that takes i this way as it goes where it may.
-fn least_driving(dict: &Dict, i: u32, heading: Heading) -> Option<u32>
+pub(crate) fn least_driving(dict: &Dict, i: u32, heading: Heading) -> Option<u32>
     requires few { def.size dict.now < 2 ^ 32 }
     requires leaving { i < def.size dict.now }
     requires basic { def.is_basic dict.now i ≡ true }
@@ -91,16 +89,6 @@ fn least_driving(dict: &Dict, i: u32, heading: Heading) -> Option<u32>
         }
     }
     None
-}
-
-/// The least variable that brings i, which is outside, nearer to its side.
-pub(crate) fn least_repairing(dict: &Dict, i: u32) -> Option<u32>
-    requires few { def.size dict.now < 2 ^ 32 }
-    requires leaving { i < def.size dict.now }
-    requires basic { def.is_basic dict.now i ≡ true }
-    ensures { result ≡ least (def.size dict.now) (rule.repairs dict.now i) }
-{
-    least_driving(dict, i, back_of(outside_heading(dict, i)))
 }
 
 /// The least variable by which the cost falls.

@@ -2,8 +2,6 @@
 ghost use Rattle.std.specs.Prelude.{◌≡◌, ◌+◌, ◌<◌, ◌≤◌, ◌^◌, true, IfOk};
 ghost use Rattle.cip_bland.specs.Tables.{table};
 ghost use Rattle.cip_bland.specs.Dictionary as def;
-ghost use Rattle.cip_dict.specs.SparseLines.{kept_of, IsPlace};
-ghost use Rattle.cip_bland.specs.Rule as rule;
 ghost use Rattle.cip_bland.specs.StateEnds.{IsEndAt};
 ghost use Rattle.cip_bland.specs.EndAnswers as answers;
 ghost use Rattle.cip_bland.specs.EndAnswers.{change_of, row_multiplier, answer_at};
@@ -18,7 +16,7 @@ use crate::combos::combination;
 use crate::headings::{back_of, change_along};
 use crate::lp::Lp;
 use crate::ways::falling_heading;
-use cip_bland::{Heading, Step};
+use cip_bland::Step;
 use cip_dict::{Dict, Frac};
 use cip_lin::{ColumnMultiple, Combo, RowId, RowMultiple};
 use std::alloc::{AllocError, Global};
@@ -36,132 +34,30 @@ fn values_of(alloc: Global, dict: &Dict, n: usize) -> Result<Vec<Frac>, AllocErr
     Ok(values)
 }
 
-/// By how much variable v changes as j goes one this way, by which the cost falls.
-fn change_at(dict: &Dict, j: u32, heading: Heading, v: u32) -> Frac
-    requires entering { j < def.size dict.now }
-    requires falls { heading ≡ rule.falling_heading dict.now j }
-    requires within { v < def.size dict.now }
-    ensures { result ≡ change_of dict.now j v }
-{
-    if v == j {
-        change_along(heading, Frac::one())
-    } else if dict.stand(v).is_none() {
-        change_along(heading, dict.entry(v, j))
-    } else {
-        Frac::zero()
-    }
-}
-
-/// By how much the first n variables change as j goes one, so that the cost falls; `Err` where memory was refused.
-fn changes_of(alloc: Global, dict: &Dict, j: u32, n: usize) -> Result<Vec<Frac>, AllocError>
-    requires few { def.size dict.now < 2 ^ 32 }
-    requires entering { j < def.size dict.now }
-    requires within { n ≤ def.size dict.now }
-    ensures { IfOk result (λ changes. changes.items ≡ table n (change_of dict.now j)) }
-{
-    let heading = falling_heading(dict, j);
-    let mut changes = Vec::with_capacity(alloc, n)?;
-    for v in 0..n {
-        changes.push(change_at(dict, j, heading, v as u32))?;
-    }
-    Ok(changes)
-}
-
-/// The entry of the cost on variable v, where the entries from this place on are those on v and greater variables; and
-/// the place from which on they are those on greater ones.
-fn cost_on(dict: &Dict, at: usize, v: u32) -> (Frac, usize)
-    requires within { v < def.size dict.now }
-    requires place { IsPlace v (kept_of (def.size dict.now) (def.cost_entry dict.now)) at }
-    ensures entry { result.0 ≡ def.cost_entry dict.now v }
-    ensures place { IsPlace (v + 1) (kept_of (def.size dict.now) (def.cost_entry dict.now)) result.1 }
-{
-    if at >= dict.costs_len() {
-        return (Frac::zero(), at);
-    }
-    let (k, entry) = dict.cost_at(at);
-    if k != v {
-        return (Frac::zero(), at);
-    }
-    (entry, at + 1)
-}
-
-/// The entries of the cost; `Err` where memory was refused.
-fn cost_multipliers(alloc: Global, dict: &Dict) -> Result<Vec<Frac>, AllocError>
-    requires { def.size dict.now < 2 ^ 32 }
-    ensures { IfOk result (λ multipliers. multipliers.items ≡ table (def.size dict.now) (def.cost_entry dict.now)) }
-{
-    let mut multipliers = Vec::with_capacity(alloc, dict.len())?;
-    let mut at = 0;
-    for v in 0..dict.len() {
-        let (entry, next) = cost_on(dict, at, v as u32);
-        multipliers.push(entry)?;
-        at = next;
-    }
-    Ok(multipliers)
-}
-
-/// The entry of i on variable v, where the entries from this place on are those on v and greater variables; and the
-/// place from which on they are those on greater ones.
-fn row_on(dict: &Dict, i: u32, at: usize, v: u32) -> (Frac, usize)
-    requires leaving { i < def.size dict.now }
-    requires basic { def.is_basic dict.now i ≡ true }
-    requires within { v < def.size dict.now }
-    requires place { IsPlace v (kept_of (def.size dict.now) (def.entry dict.now i)) at }
-    ensures entry { result.0 ≡ def.entry dict.now i v }
-    ensures place { IsPlace (v + 1) (kept_of (def.size dict.now) (def.entry dict.now i)) result.1 }
-{
-    if at >= dict.row_len(i) {
-        return (Frac::zero(), at);
-    }
-    let (k, entry) = dict.row_entry(i, at);
-    if k != v {
-        return (Frac::zero(), at);
-    }
-    (entry, at + 1)
-}
-
-/// The multiplier of variable v, on which i has this entry, in the row of i, which is outside its sides in this way.
-fn multiplier_at(dict: &Dict, i: u32, heading: Heading, v: u32, entry: Frac) -> Frac
-    requires outside { heading ≡ rule.outside_heading dict.now i }
-    requires is_entry { entry ≡ def.entry dict.now i v }
-    ensures { result ≡ row_multiplier dict.now i v }
-{
-    if v == i {
-        change_along(back_of(heading), Frac::one())
-    } else {
-        change_along(heading, entry)
-    }
-}
-
-/// The row of i, which is outside its sides, as what is 0 at each solution; `Err` where memory was refused.
-fn row_multipliers(alloc: Global, dict: &Dict, i: u32) -> Result<Vec<Frac>, AllocError>
-    requires few { def.size dict.now < 2 ^ 32 }
-    requires leaving { i < def.size dict.now }
-    requires basic { def.is_basic dict.now i ≡ true }
-    ensures { IfOk result (λ multipliers. multipliers.items ≡ table (def.size dict.now) (row_multiplier dict.now i)) }
-{
-    let heading = outside_heading(dict, i);
-    let mut multipliers = Vec::with_capacity(alloc, dict.len())?;
-    let mut at = 0;
-    for v in 0..dict.len() {
-        let (entry, next) = row_on(dict, i, at, v as u32);
-        multipliers.push(multiplier_at(dict, i, heading, v as u32, entry))?;
-        at = next;
-    }
-    Ok(multipliers)
-}
-
 /// The combination of the entries of the cost; `Err` where memory was refused.
 fn cost_combo(alloc: Global, dict: &Dict, columns: usize, rows: usize) -> Result<Combo, AllocError>
     requires few { def.size dict.now < 2 ^ 32 }
     requires variables { def.size dict.now ≡ columns + rows }
     ensures { IfOk result (IsCombo (certificate_on columns rows (def.cost_entry dict.now))) }
 {
-    let multipliers = cost_multipliers(alloc, dict)?;
+    let mut multipliers = Vec::with_capacity(alloc, dict.len())?;
+    let mut at = 0;
+    for v in 0..dict.len() {
+        let mut entry = Frac::zero();
+        if at < dict.costs_len() {
+            let (k, found) = dict.cost_at(at);
+            if k == v as u32 {
+                entry = found;
+                at += 1;
+            }
+        }
+        multipliers.push(entry)?;
+    }
     combination(alloc, columns, multipliers.as_slice())
 }
 
-/// The combination of the row of i, which is outside its sides; `Err` where memory was refused.
+/// The combination of the row of i, which is outside its sides: that is 0 at each solution. `Err` where memory was
+/// refused.
 fn row_combo(
     alloc: Global,
     dict: &Dict,
@@ -175,7 +71,25 @@ fn row_combo(
     requires basic { def.is_basic dict.now i ≡ true }
     ensures { IfOk result (IsCombo (certificate_on columns rows (row_multiplier dict.now i))) }
 {
-    let multipliers = row_multipliers(alloc, dict, i)?;
+    let heading = outside_heading(dict, i);
+    let mut multipliers = Vec::with_capacity(alloc, dict.len())?;
+    let mut at = 0;
+    for v in 0..dict.len() {
+        let mut entry = Frac::zero();
+        if at < dict.row_len(i) {
+            let (k, found) = dict.row_entry(i, at);
+            if k == v as u32 {
+                entry = found;
+                at += 1;
+            }
+        }
+        let multiplier = if v as u32 == i {
+            change_along(back_of(heading), Frac::one())
+        } else {
+            change_along(heading, entry)
+        };
+        multipliers.push(multiplier)?;
+    }
     combination(alloc, columns, multipliers.as_slice())
 }
 
@@ -230,20 +144,7 @@ fn crossed_combo(alloc: Global, v: u32, columns: usize) -> Result<Combo, AllocEr
     }
 }
 
-/// What an optimum answers: its point, the combination of the cost's entries, and the cost.
-fn optimum(alloc: Global, dict: &Dict, columns: usize, rows: usize) -> Result<LpAnswer, AllocError>
-    requires few { def.size dict.now < 2 ^ 32 }
-    requires variables { def.size dict.now ≡ columns + rows }
-    ensures { IfOk result (IsAnswer (answers.Optimal (table columns (def.value dict.now))
-        (certificate_on columns rows (def.cost_entry dict.now)) dict.now.cost)) }
-{
-    let point = values_of(alloc, dict, columns)?;
-    let combo = cost_combo(alloc, dict, columns, rows)?;
-    let cost = dict.cost();
-    Ok(LpAnswer::Optimal { point, combo, cost })
-}
-
-/// What a ray answers: its point, and by how much the columns change along it.
+/// What a ray answers: its point, and by how much the columns change as j goes one, so that the cost falls.
 fn ray_answer(alloc: Global, dict: &Dict, j: u32, columns: usize) -> Result<LpAnswer, AllocError>
     requires few { def.size dict.now < 2 ^ 32 }
     requires within { columns ≤ def.size dict.now }
@@ -251,8 +152,20 @@ fn ray_answer(alloc: Global, dict: &Dict, j: u32, columns: usize) -> Result<LpAn
     ensures { IfOk result (IsAnswer (answers.Unbounded (table columns (def.value dict.now))
         (table columns (change_of dict.now j)))) }
 {
+    let heading = falling_heading(dict, j);
+    let mut ray = Vec::with_capacity(alloc, columns)?;
+    for v in 0..columns {
+        let v = v as u32;
+        let change = if v == j {
+            change_along(heading, Frac::one())
+        } else if dict.stand(v).is_none() {
+            change_along(heading, dict.entry(v, j))
+        } else {
+            Frac::zero()
+        };
+        ray.push(change)?;
+    }
     let point = values_of(alloc, dict, columns)?;
-    let ray = changes_of(alloc, dict, j, columns)?;
     Ok(LpAnswer::Unbounded { point, ray })
 }
 
@@ -278,7 +191,12 @@ pub(crate) fn end_answer(
             let combo = row_combo(alloc, dict, i, columns, rows)?;
             Ok(LpAnswer::Infeasible { combo })
         }
-        Step::Optimum => optimum(alloc, dict, columns, rows),
+        Step::Optimum => {
+            let point = values_of(alloc, dict, columns)?;
+            let combo = cost_combo(alloc, dict, columns, rows)?;
+            let cost = dict.cost();
+            Ok(LpAnswer::Optimal { point, combo, cost })
+        }
         Step::Ray(j) => ray_answer(alloc, dict, j, columns),
         Step::Makes(_) => Ok(LpAnswer::Limit),
     }

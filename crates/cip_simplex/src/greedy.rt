@@ -1,9 +1,8 @@
 //! Linear programs, solved by a rule that makes few moves.
-ghost use Rattle.std.specs.Prelude.{◌≡◌, length, IfOk, IfSome};
+ghost use Rattle.std.specs.Prelude.{◌≡◌, length, IfOk};
 ghost use Rattle.cip_bland.specs.ProgramState.{first_of_program};
-ghost use Rattle.cip_bland.specs.Statements.{IsStateOf};
 ghost use Rattle.cip_simplex.specs.LpShape.{variables};
-ghost use Rattle.cip_simplex.specs.Reached.{IsEndAnswer, IsReached};
+ghost use Rattle.cip_simplex.specs.Reached.{IsReached};
 
 use crate::answers::LpAnswer;
 use crate::begin::first_state;
@@ -16,44 +15,9 @@ use crate::starts::Start;
 use cip_dict::{Dict, FirstFault};
 use std::alloc::{AllocError, Global};
 
-/// Makes the moves of a start at the first state of a linear program; answers whether one is out of range, at which it
-/// stops. `Err` where memory was refused.
-fn stops_before(alloc: Global, lp: &Lp, dict: &mut Dict, start: &Start) -> Result<bool, AllocError>
-    requires first { dict.old ≡ first_of_program lp.now }
-    requires long { length start.now ≡ variables lp.now }
-    ensures { IfOk result (λ _. IsStateOf lp.now dict.new) }
-{
-    let mut moves = Vec::new(alloc);
-    let wide = begin_at(start, dict, lp, &mut moves)?;
-    Ok(wide.is_some())
-}
-
 /// Makes the moves of a start at the first state of a linear program and then, at most so many, those that are chosen,
-/// and answers what their end does; the state is then the last one in range. `Err` where memory was refused.
-fn descend_from(
-    alloc: Global,
-    lp: &Lp,
-    dict: &mut Dict,
-    start: &Start,
-    limit: u32,
-) -> Result<Option<LpAnswer>, AllocError>
-    requires first { dict.old ≡ first_of_program lp.now }
-    requires long { length start.now ≡ variables lp.now }
-    ensures state { IfOk result (λ _. IsStateOf lp.now dict.new) }
-    ensures found { IfOk result (λ found. IfSome found (IsEndAnswer lp.now dict.new)) }
-{
-    let _columns = lp.columns();
-    if stops_before(alloc, lp, dict, start)? {
-        return Ok(None);
-    }
-    let Some(step) = descend_to_end(lp, dict, limit)? else {
-        return Ok(None);
-    };
-    let found = end_answer(alloc, lp, dict, step)?;
-    Ok(Some(found))
-}
-
-/// What `descend_from` answers, and where the variables are at the last state in range. `Err` where memory was refused.
+/// and answers what their end does, and where the variables are at the last state in range. `Err` where memory was
+/// refused.
 fn descend(
     alloc: Global,
     lp: &Lp,
@@ -66,7 +30,18 @@ fn descend(
     ensures { IfOk result (λ solved. IsReached lp.now solved.0 solved.1) }
 {
     let _columns = lp.columns();
-    let found = descend_from(alloc, lp, dict, start, limit)?;
+    let mut moves = Vec::new(alloc);
+    let wide = begin_at(start, dict, lp, &mut moves)?;
+    drop(moves);
+    let step = if wide.is_none() {
+        descend_to_end(lp, dict, limit)?
+    } else {
+        None
+    };
+    let found = match step {
+        Some(step) => Some(end_answer(alloc, lp, dict, step)?),
+        None => None,
+    };
     let last = Start::at(alloc, dict)?;
     Ok((found, last))
 }

@@ -4,42 +4,18 @@ ghost use Rattle.cip_bland.specs.Dictionary as def;
 ghost use Rattle.cip_bland.specs.Exchange.{CanMove};
 ghost use Rattle.cip_bland.specs.Rule as rule;
 ghost use Rattle.cip_bland.specs.Statements.{IsStateOf};
-ghost use Rattle.cip_bland.specs.StateEnds.{Passes, NonePasses, IsInside, IsEndAt};
-ghost use Rattle.cip_simplex.specs.FreeMoves.{IsImprover, IsFreeChoice, IsFreeAdvance};
+ghost use Rattle.cip_bland.specs.StateEnds.{NonePasses, IsEndAt};
+ghost use Rattle.cip_simplex.specs.FreeMoves.{IsFreeChoice, IsFreeAdvance};
 
-use crate::candidates::{best_improving, best_repairing, worst_outside};
+use crate::candidates::{best_driving, best_improving, worst_outside};
 use crate::choice::{least_crossed, outside_heading};
-use crate::headings::stand_ahead;
+use crate::headings::{back_of, stand_ahead};
 use crate::lp::Lp;
 use crate::steps::{Advance, Choice, make, move_by};
 use crate::ways::shortest_way;
 use cip_bland::{Move, Step};
 use cip_dict::Dict;
 use std::alloc::AllocError;
-
-/// What is chosen where the basic variable i is outside its sides and leaves.
-fn pick_repair(dict: &Dict, i: u32) -> Choice
-    requires few { def.size dict.now < 2 ^ 32 }
-    requires outside { Passes dict.now (rule.is_outside dict.now) i }
-    ensures { IsFreeChoice dict.now result }
-{
-    match best_repairing(dict, i) {
-        None => Choice::Infeasible(i),
-        Some(j) => Choice::Repair(i, j, stand_ahead(outside_heading(dict, i))),
-    }
-}
-
-/// What is chosen where the values are a point.
-fn pick_improving(dict: &Dict) -> Choice
-    requires few { def.size dict.now < 2 ^ 32 }
-    requires point { IsInside dict.now }
-    ensures { IsFreeChoice dict.now result }
-{
-    match best_improving(dict) {
-        None => Choice::Optimum,
-        Some(j) => Choice::Improve(j),
-    }
-}
 
 /// What is chosen before ways are formed, where no sides cross: while a basic variable is outside its sides, the one
 /// that is so by most leaves, and the one for which the cost rises by least enters; else the one by which the cost
@@ -49,9 +25,16 @@ fn pick(dict: &Dict) -> Choice
     requires uncrossed { NonePasses dict.now (rule.is_crossed dict.now) }
     ensures { IsFreeChoice dict.now result }
 {
-    match worst_outside(dict) {
-        Some(i) => pick_repair(dict, i),
-        None => pick_improving(dict),
+    if let Some(i) = worst_outside(dict) {
+        let heading = outside_heading(dict, i);
+        return match best_driving(dict, i, back_of(heading)) {
+            None => Choice::Infeasible(i),
+            Some(j) => Choice::Repair(i, j, stand_ahead(heading)),
+        };
+    }
+    match best_improving(dict) {
+        None => Choice::Optimum,
+        Some(j) => Choice::Improve(j),
     }
 }
 
@@ -67,20 +50,8 @@ fn make_chosen(dict: &mut Dict, chosen: Move) -> Result<Advance, AllocError>
     }
 }
 
-/// Makes the step of the shortest way of j, which lets the cost fall. `Err` where memory was refused.
-fn descend(dict: &mut Dict, j: u32) -> Result<Advance, AllocError>
-    requires few { def.size dict.old < 2 ^ 32 }
-    requires improver { IsImprover dict.old j }
-    ensures { IfOk result (IsFreeAdvance dict.old dict.new) }
-{
-    match shortest_way(dict, j) {
-        Err(wide) => Ok(Advance::Wide(wide)),
-        Ok(None) => Ok(Advance::End(Step::Ray(j))),
-        Ok(Some(way)) => make_chosen(dict, move_by(j, &way)),
-    }
-}
-
-/// Makes the next step, where no sides cross. `Err` where memory was refused.
+/// Makes the next step, where no sides cross: an exchange, or that of the shortest way of a variable by which the cost
+/// falls. `Err` where memory was refused.
 fn take_chosen(dict: &mut Dict) -> Result<Advance, AllocError>
     requires few { def.size dict.old < 2 ^ 32 }
     requires uncrossed { NonePasses dict.old (rule.is_crossed dict.old) }
@@ -91,27 +62,12 @@ fn take_chosen(dict: &mut Dict) -> Result<Advance, AllocError>
         Choice::Infeasible(i) => Ok(Advance::End(Step::Infeasible(i))),
         Choice::Optimum => Ok(Advance::End(Step::Optimum)),
         Choice::Repair(i, j, to) => make_chosen(dict, Move::Exchange(i, j, to)),
-        Choice::Improve(j) => descend(dict, j),
+        Choice::Improve(j) => match shortest_way(dict, j) {
+            Err(wide) => Ok(Advance::Wide(wide)),
+            Ok(None) => Ok(Advance::End(Step::Ray(j))),
+            Ok(Some(way)) => make_chosen(dict, move_by(j, &way)),
+        },
     }
-}
-
-/// Makes moves from a state of a linear program of which no sides cross, at most so many, and answers the end that the
-/// last state is; none where a move is out of range or none may be made any more. `Err` where memory was refused.
-fn descend_uncrossed(lp: &Lp, dict: &mut Dict, limit: u32) -> Result<Option<Step>, AllocError>
-    requires state { IsStateOf lp.now dict.old }
-    requires uncrossed { NonePasses dict.old (rule.is_crossed dict.old) }
-    ensures state { IfOk result (λ _. IsStateOf lp.now dict.new) }
-    ensures end { IfOk result (λ found. IfSome found (IsEndAt dict.new)) }
-{
-    let _columns = lp.columns();
-    for _made in 0..limit {
-        match take_chosen(dict)? {
-            Advance::Made(_) => {}
-            Advance::Wide(_) => return Ok(None),
-            Advance::End(step) => return Ok(Some(step)),
-        }
-    }
-    Ok(None)
 }
 
 /// Makes moves from a state of a linear program, at most so many, and answers the end that the last state is; none
@@ -127,8 +83,15 @@ pub(crate) fn descend_to_end(
     ensures end { IfOk result (λ found. IfSome found (IsEndAt dict.new)) }
 {
     let _columns = lp.columns();
-    match least_crossed(dict) {
-        Some(v) => Ok(Some(Step::Crossed(v))),
-        None => descend_uncrossed(lp, dict, limit),
+    if let Some(v) = least_crossed(dict) {
+        return Ok(Some(Step::Crossed(v)));
     }
+    for _made in 0..limit {
+        match take_chosen(dict)? {
+            Advance::Made(_) => {}
+            Advance::Wide(_) => return Ok(None),
+            Advance::End(step) => return Ok(Some(step)),
+        }
+    }
+    Ok(None)
 }

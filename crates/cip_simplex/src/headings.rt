@@ -1,7 +1,6 @@
 //! Which way values go, and the sides that lie that way.
 ghost use Rattle.std.specs.Prelude.{◌≡◌, if◌then◌else◌};
-ghost use Rattle.cip_rational.specs.Rational.{le_test, lt_test, zeroℚ};
-ghost use Rattle.cip_problem.specs.Box.{at_least, at_most, is_between};
+ghost use Rattle.cip_rational.specs.Rational.{le_test, lt_test};
 ghost use Rattle.cip_bland.specs.Headings as def;
 ghost use Rattle.cip_bland.specs.Rule.{outside_with, sides_cross};
 
@@ -42,54 +41,10 @@ pub(crate) fn is_below(a: Frac, b: Frac) -> bool
 
 /// Whether one number is at most another.
 #[inline]
-fn is_at_most(a: Frac, b: Frac) -> bool
+pub(crate) fn is_at_most(a: Frac, b: Frac) -> bool
     ensures { result ≡ le_test a b }
 {
     !is_below(b, a)
-}
-
-/// Whether a value is at least the low side.
-#[inline]
-fn is_at_least_low(low: Option<Frac>, value: Frac) -> bool
-    ensures { result ≡ at_least low value }
-{
-    match low {
-        Some(side) => is_at_most(side, value),
-        None => true,
-    }
-}
-
-/// Whether a value is at most the high side.
-#[inline]
-fn is_at_most_high(high: Option<Frac>, value: Frac) -> bool
-    ensures { result ≡ at_most high value }
-{
-    match high {
-        Some(side) => is_at_most(value, side),
-        None => true,
-    }
-}
-
-/// Whether a value lies between the sides, each of which is allowed itself.
-#[inline]
-pub(crate) fn lies_between(sides: Sides, value: Frac) -> bool
-    ensures { result ≡ is_between sides.low sides.high value }
-{
-    is_at_least_low(sides.low, value) && is_at_most_high(sides.high, value)
-}
-
-/// Whether a number is above 0.
-pub(crate) fn is_above_zero(a: Frac) -> bool
-    ensures { result ≡ lt_test zeroℚ a }
-{
-    a.is_positive()
-}
-
-/// Whether a number is below 0.
-pub(crate) fn is_below_zero(a: Frac) -> bool
-    ensures { result ≡ lt_test a zeroℚ }
-{
-    a.is_negative()
 }
 
 /// This way, or the other one.
@@ -97,13 +52,6 @@ pub(crate) fn heading_if(heading: Heading, stays: bool) -> Heading
     ensures { result ≡ (if stays then heading else def.back_of heading) }
 {
     if stays { heading } else { back_of(heading) }
-}
-
-/// The way of a variable by which its product with a, which isn't 0, goes this way.
-pub(crate) fn heading_for(heading: Heading, a: Frac) -> Heading
-    ensures { result ≡ def.heading_for heading a }
-{
-    heading_if(heading, is_above_zero(a))
 }
 
 /// Where a variable stands at the side ahead.
@@ -116,35 +64,14 @@ pub(crate) fn stand_ahead(heading: Heading) -> Stand
     }
 }
 
-/// Whether a variable at that stand is at the side ahead.
-pub(crate) fn is_ahead(heading: Heading, at: Stand) -> bool
-    ensures { result ≡ def.is_ahead heading at }
-{
-    match (heading, at) {
-        (Heading::Up, Stand::High) => true,
-        (Heading::Down, Stand::Low) => true,
-        _ => false,
-    }
-}
-
-/// The side ahead.
-fn side_ahead(heading: Heading, sides: Sides) -> Option<Frac>
-    ensures { result ≡ def.side_ahead heading sides }
-{
-    match heading {
-        Heading::Up => sides.high,
-        Heading::Down => sides.low,
-    }
-}
-
 /// The stand at the side ahead, if that side is there.
 pub(crate) fn goal_ahead(heading: Heading, sides: Sides) -> Option<Stand>
     ensures { result ≡ def.goal_ahead heading sides }
 {
-    if side_ahead(heading, sides).is_some() {
-        Some(stand_ahead(heading))
-    } else {
-        None
+    match (heading, sides.low, sides.high) {
+        (Heading::Up, _, Some(_)) => Some(Stand::High),
+        (Heading::Down, Some(_), _) => Some(Stand::Low),
+        _ => None,
     }
 }
 

@@ -2,11 +2,8 @@
 ghost use Rattle.std.specs.Prelude.{◌≡◌, ◌<◌, ◌^◌, IfOk};
 ghost use Rattle.cip_bland.specs.Dictionary as def;
 ghost use Rattle.cip_bland.specs.MoveList.{run};
-ghost use Rattle.cip_bland.specs.NoRepeat.{whole_run};
-ghost use Rattle.cip_bland.specs.Statements.{IsStateOf};
 ghost use Rattle.cip_simplex.specs.Advances.{ending_of, run_behind};
 
-use crate::lp::Lp;
 use crate::steps::{Advance, Ending, ending_here, take_step};
 use cip_bland::Move;
 use cip_dict::Dict;
@@ -32,26 +29,4 @@ pub(crate) fn make_moves(
         }
     }
     Ok(ending_here(dict))
-}
-
-/// Makes the moves of the rule from a state of a linear program until they end, and puts each at the end of the list of
-/// moves. The state is then the last one. `Err` where memory was refused.
-pub(crate) fn make_all_moves(
-    lp: &Lp,
-    dict: &mut Dict,
-    moves: &mut Vec<Move>,
-) -> Result<Ending, AllocError>
-    requires { IsStateOf lp.now dict.old }
-    ensures run { IfOk result (λ ending. run_behind moves.old.items (whole_run dict.old)
-        ≡ record { moves = moves.new.items; last = dict.new; ending = ending_of ending }) }
-    ensures variables { IfOk result (λ _. def.size dict.new ≡ def.size dict.old) }
-{
-    let _columns = lp.columns();
-    'steps: loop {
-        match take_step(dict)? {
-            Advance::Made(chosen) => moves.push(chosen)?,
-            Advance::Wide(wide) => return Ok(Ending::Overflows(wide)),
-            Advance::End(step) => return Ok(Ending::Ends(step)),
-        }
-    }
 }

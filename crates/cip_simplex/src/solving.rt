@@ -15,11 +15,11 @@ use crate::answers::LpAnswer;
 use crate::begin::first_state;
 use crate::ends::end_answer;
 use crate::lp::Lp;
-use crate::runs::{make_all_moves, make_moves};
+use crate::runs::make_moves;
 use crate::solver::Solver;
 use crate::start_moves::begin_at;
 use crate::starts::Start;
-use crate::steps::Ending;
+use crate::steps::{Advance, Ending, take_step};
 use cip_bland::Move;
 use cip_dict::{Dict, FirstFault};
 use std::alloc::{AllocError, Global};
@@ -78,32 +78,7 @@ pub fn solve(
 }
 
 /// Makes the moves of a start at the first state of a linear program and then, at most so many, those of the rule, and
-/// answers what their end does; the state is then the last one in range. `Err` where memory was refused.
-fn solve_at(
-    alloc: Global,
-    lp: &Lp,
-    dict: &mut Dict,
-    start: &Start,
-    limit: u32,
-) -> Result<LpAnswer, AllocError>
-    requires first { dict.old ≡ first_of_program lp.now }
-    requires long { length start.now ≡ variables lp.now }
-    ensures answer { IfOk result (λ found.
-        IsAnswer (answer_on lp.now limit (begun lp.now start.now).wide (begun lp.now start.now)) found
-        × (dict.new ≡ last_on limit (begun lp.now start.now).wide (begun lp.now start.now))) }
-    ensures variables { IfOk result (λ _. def.size dict.new ≡ variables lp.now) }
-{
-    let mut moves = Vec::new(alloc);
-    match begin_at(start, dict, lp, &mut moves)? {
-        Some(wide) => {
-            moves.push(wide)?;
-            Ok(LpAnswer::Wide { moves })
-        }
-        None => solve_on(alloc, lp, dict, moves, limit),
-    }
-}
-
-/// What `solve_at` answers, and where the variables are at the last state in range. `Err` where memory was refused.
+/// answers what their end does, and where the variables are at the last state in range. `Err` where memory was refused.
 fn solve_in(
     alloc: Global,
     lp: &Lp,
@@ -118,36 +93,16 @@ fn solve_in(
         × (solved.1 ≡ stands_of (last_on limit (begun lp.now start.now).wide (begun lp.now start.now)))) }
 {
     let _columns = lp.columns();
-    let found = solve_at(alloc, lp, dict, start, limit)?;
+    let mut moves = Vec::new(alloc);
+    let found = match begin_at(start, dict, lp, &mut moves)? {
+        Some(wide) => {
+            moves.push(wide)?;
+            LpAnswer::Wide { moves }
+        }
+        None => solve_on(alloc, lp, dict, moves, limit)?,
+    };
     let last = Start::at(alloc, dict)?;
     Ok((found, last))
-}
-
-/// What `solve_from` answers, and where the variables are at the last state in range. `Err` where memory was refused.
-fn solve_begun(
-    alloc: Global,
-    solver: &mut Solver,
-    lp: &Lp,
-    start: &Start,
-    limit: u32,
-) -> Result<(LpAnswer, Start), AllocError>
-    requires { length start.now ≡ variables lp.now }
-    ensures { IfOk result (λ solved. IsAnswer (answer_from limit lp.now start.now) solved.0
-        × (solved.1 ≡ stands_of (last_from limit lp.now start.now))) }
-{
-    match first_state(alloc, solver, lp) {
-        Ok(mut dict) => {
-            let solved = solve_in(alloc, lp, &mut dict, start, limit);
-            dict.give_back(&mut solver.spare);
-            solved
-        }
-        Err(FirstFault::OutOfRange { place: _ }) => {
-            let slack = Start::slack(alloc, lp)?;
-            let moves = Vec::new(alloc);
-            Ok((LpAnswer::Wide { moves }, slack))
-        }
-        Err(FirstFault::NoMemory) => Err(AllocError),
-    }
 }
 
 /// Solves a linear program by the simplex method, beginning with the moves of a start, which says of each variable of
@@ -169,7 +124,19 @@ pub fn solve_from(
     ensures right { IsRight lp.now (answer_from limit lp.now start.now) }
 {
     let _columns = lp.columns();
-    solve_begun(alloc, solver, lp, start, limit)
+    match first_state(alloc, solver, lp) {
+        Ok(mut dict) => {
+            let solved = solve_in(alloc, lp, &mut dict, start, limit);
+            dict.give_back(&mut solver.spare);
+            solved
+        }
+        Err(FirstFault::OutOfRange { place: _ }) => {
+            let slack = Start::slack(alloc, lp)?;
+            let moves = Vec::new(alloc);
+            Ok((LpAnswer::Wide { moves }, slack))
+        }
+        Err(FirstFault::NoMemory) => Err(AllocError),
+    }
 }
 
 /// Makes all moves of the rule from a state of a linear program, and answers what their end does. `Err` where memory
@@ -179,14 +146,17 @@ fn solve_all(alloc: Global, lp: &Lp, dict: &mut Dict) -> Result<LpAnswer, AllocE
     requires variables { def.size dict.old ≡ variables lp.now }
     ensures { IfOk result (IsAnswer (answer_of lp.now (run_behind [] (whole_run dict.old)))) }
 {
+    let _columns = lp.columns();
     let mut moves = Vec::new(alloc);
-    match make_all_moves(lp, dict, &mut moves)? {
-        Ending::Ends(step) => end_answer(alloc, lp, dict, step),
-        Ending::Overflows(wide) => {
-            moves.push(wide)?;
-            Ok(LpAnswer::Wide { moves })
+    'steps: loop {
+        match take_step(dict)? {
+            Advance::Made(chosen) => moves.push(chosen)?,
+            Advance::Wide(wide) => {
+                moves.push(wide)?;
+                return Ok(LpAnswer::Wide { moves });
+            }
+            Advance::End(step) => return end_answer(alloc, lp, dict, step),
         }
-        Ending::Stops => Ok(LpAnswer::Limit),
     }
 }
 
@@ -197,13 +167,6 @@ pub fn solve_fully(alloc: Global, solver: &mut Solver, lp: &Lp) -> Result<LpAnsw
     ensures whole { WholeAnswerHolds lp.now }
 {
     let _columns = lp.columns();
-    solve_wholly(alloc, solver, lp)
-}
-
-/// What `solve_fully` answers.
-fn solve_wholly(alloc: Global, solver: &mut Solver, lp: &Lp) -> Result<LpAnswer, AllocError>
-    ensures { IfOk result (IsAnswer (whole_answer lp.now)) }
-{
     match first_state(alloc, solver, lp) {
         Ok(mut dict) => {
             let found = solve_all(alloc, lp, &mut dict);

@@ -1,6 +1,5 @@
 //! The moves that lead from the first state to where a start wants the variables.
-ghost use Rattle.std.specs.Prelude.{◌≡◌, ◌<◌, ◌≤◌, ◌^◌, [], true, None, IfOk, length};
-ghost use Rattle.cip_bland.specs.Tables.{least};
+ghost use Rattle.std.specs.Prelude.{◌≡◌, ◌<◌, ◌≤◌, ◌^◌, [], None, if◌then◌else◌, IfOk, length};
 ghost use Rattle.cip_bland.specs.Dictionary as def;
 ghost use Rattle.cip_bland.specs.ProgramState.{first_of_program};
 ghost use Rattle.cip_simplex.specs.LpShape.{variables};
@@ -14,63 +13,19 @@ use cip_dict::Dict;
 use cip_lin::Sides;
 use std::alloc::AllocError;
 
-/// Whether a variable with these sides can stand there.
-fn has_stand(sides: Sides, to: Stand) -> bool
-    ensures { result ≡ starts.has_stand sides to }
-{
-    match to {
-        Stand::Low => sides.low.is_some(),
-        Stand::High => sides.high.is_some(),
-        Stand::Zero => sides.low.is_none() && sides.high.is_none(),
-    }
-}
-
-/// Where a variable with these sides, which is to stand there, then stands.
+/// Where a variable with these sides, which is to stand there, then stands: there if it can, else as at first.
 fn stand_for(sides: Sides, to: Stand) -> Stand
     ensures { result ≡ starts.stand_for sides to }
 {
-    if has_stand(sides, to) {
-        to
-    } else {
-        stand_first(sides)
+    match (to, sides.low, sides.high) {
+        (Stand::Low, Some(_), _) => Stand::Low,
+        (Stand::High, _, Some(_)) => Stand::High,
+        _ => stand_first(sides),
     }
 }
 
-/// Whether the basic variable v may leave for column k.
-fn may_leave(start: &Start, dict: &Dict, k: u32, v: u32) -> bool
-    requires long { length start.now ≡ def.size dict.now }
-    requires entering { k < def.size dict.now }
-    requires within { v < def.size dict.now }
-    ensures { result ≡ starts.may_leave start.now dict.now k v }
-{
-    dict.stand(v).is_none() && start.stand(v).is_some() && dict.has_entry(v, k)
-}
-
-/// The least variable that may leave for column k.
-fn least_leaving(start: &Start, dict: &Dict, k: u32) -> Option<u32>
-    requires few { def.size dict.now < 2 ^ 32 }
-    requires long { length start.now ≡ def.size dict.now }
-    requires entering { k < def.size dict.now }
-    ensures { result ≡ least (def.size dict.now) (starts.may_leave start.now dict.now k) }
-{
-    for v in 0..dict.len() {
-        if may_leave(start, dict, k, v as u32) {
-            return Some(v as u32);
-        }
-    }
-    None
-}
-
-/// Where variable v, which leaves, then stands.
-fn leaving_stand(start: &Start, dict: &Dict, v: u32) -> Stand
-    requires long { length start.now ≡ def.size dict.now }
-    requires within { v < def.size dict.now }
-    ensures { result ≡ starts.leaving_stand start.now dict.now v }
-{
-    stand_for(dict.sides(v), start.stand(v).unwrap_or(Stand::Zero))
-}
-
-/// The entering move of column k, where there is one.
+/// The entering move of column k, where there is one: the least variable leaves that is basic, is to be nonbasic, and
+/// has an entry on k.
 fn entering_move(start: &Start, dict: &Dict, k: u32) -> Option<Move>
     requires few { def.size dict.now < 2 ^ 32 }
     requires long { length start.now ≡ def.size dict.now }
@@ -81,24 +36,17 @@ fn entering_move(start: &Start, dict: &Dict, k: u32) -> Option<Move>
     if start.stand(k).is_some() || dict.stand(k).is_none() {
         return None;
     }
-    match least_leaving(start, dict, k) {
-        Some(v) => Some(Move::Exchange(v, k, leaving_stand(start, dict, v))),
-        None => None,
+    for v in 0..dict.len() {
+        let v = v as u32;
+        if dict.stand(v).is_none() && start.stand(v).is_some() && dict.has_entry(v, k) {
+            let to = stand_for(dict.sides(v), start.stand(v).unwrap_or(Stand::Zero));
+            return Some(Move::Exchange(v, k, to));
+        }
     }
+    None
 }
 
-/// Whether one place is at a side, and the other at the other side.
-fn are_opposite(at: Stand, to: Stand) -> bool
-    ensures { result ≡ starts.are_opposite at to }
-{
-    match (at, to) {
-        (Stand::Low, Stand::High) => true,
-        (Stand::High, Stand::Low) => true,
-        _ => false,
-    }
-}
-
-/// The flipping move of variable v, where there is one.
+/// The flipping move of variable v, where there is one: v is at a side, and is to stand at the other one.
 fn flipping_move(start: &Start, dict: &Dict, v: u32) -> Option<Move>
     requires long { length start.now ≡ def.size dict.now }
     requires within { v < def.size dict.now }
@@ -108,10 +56,10 @@ fn flipping_move(start: &Start, dict: &Dict, v: u32) -> Option<Move>
     let _len = dict.len();
     let at = dict.stand(v)?;
     let to = start.stand(v)?;
-    if are_opposite(at, stand_for(dict.sides(v), to)) {
-        Some(Move::Flip(v))
-    } else {
-        None
+    match (at, stand_for(dict.sides(v), to)) {
+        (Stand::Low, Stand::High) => Some(Move::Flip(v)),
+        (Stand::High, Stand::Low) => Some(Move::Flip(v)),
+        _ => None,
     }
 }
 
@@ -139,49 +87,30 @@ fn make_next(
     }
 }
 
-/// Makes the entering moves of so many columns, by rising number, and puts each at the end of the list of moves;
-/// answers the first that is out of range, at which it stops. `Err` where memory was refused.
-fn enter_columns(
-    start: &Start,
-    dict: &mut Dict,
-    columns: usize,
-    moves: &mut Vec<Move>,
-) -> Result<Option<Move>, AllocError>
-    requires few { def.size dict.old < 2 ^ 32 }
-    requires long { length start.now ≡ def.size dict.old }
-    requires within { columns ≤ def.size dict.old }
-    ensures made { IfOk result (λ wide. starts.begun_through columns (starts.entering_move start.now)
-        (record { moves = moves.old.items; last = dict.old; wide = None })
-        ≡ record { moves = moves.new.items; last = dict.new; wide = wide }) }
-    ensures variables { IfOk result (λ _. def.size dict.new ≡ def.size dict.old) }
-{
-    for k in 0..columns {
-        let chosen = entering_move(start, dict, k as u32);
-        if let Some(wide) = make_next(dict, chosen, moves)? {
-            return Ok(Some(wide));
-        }
-    }
-    Ok(None)
-}
-
-/// Makes the flipping moves of n variables, by rising number, and puts each at the end of the list of moves; answers
-/// the first that is out of range, at which it stops. `Err` where memory was refused.
-fn flip_variables(
+/// Makes the flipping moves of n variables, or else their entering moves, by rising number, and puts each at the end of
+/// the list of moves; answers the first that is out of range, at which it stops. `Err` where memory was refused.
+fn make_each(
     start: &Start,
     dict: &mut Dict,
     n: usize,
+    flips: bool,
     moves: &mut Vec<Move>,
 ) -> Result<Option<Move>, AllocError>
     requires few { def.size dict.old < 2 ^ 32 }
     requires long { length start.now ≡ def.size dict.old }
     requires within { n ≤ def.size dict.old }
-    ensures made { IfOk result (λ wide. starts.begun_through n (starts.flipping_move start.now)
+    ensures made { IfOk result (λ wide. starts.begun_through n
+        (if flips then starts.flipping_move start.now else starts.entering_move start.now)
         (record { moves = moves.old.items; last = dict.old; wide = None })
         ≡ record { moves = moves.new.items; last = dict.new; wide = wide }) }
     ensures variables { IfOk result (λ _. def.size dict.new ≡ def.size dict.old) }
 {
     for v in 0..n {
-        let chosen = flipping_move(start, dict, v as u32);
+        let chosen = if flips {
+            flipping_move(start, dict, v as u32)
+        } else {
+            entering_move(start, dict, v as u32)
+        };
         if let Some(wide) = make_next(dict, chosen, moves)? {
             return Ok(Some(wide));
         }
@@ -205,8 +134,8 @@ pub(crate) fn begin_at(
     ensures variables { IfOk result (λ _. def.size dict.new ≡ variables lp.now) }
 {
     let columns = lp.columns();
-    if let Some(wide) = enter_columns(start, dict, columns, moves)? {
+    if let Some(wide) = make_each(start, dict, columns, false, moves)? {
         return Ok(Some(wide));
     }
-    flip_variables(start, dict, lp.len(), moves)
+    make_each(start, dict, lp.len(), true, moves)
 }

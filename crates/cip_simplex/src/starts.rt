@@ -4,7 +4,6 @@ ghost use Rattle.cip_bland.specs.Tables.{table};
 ghost use Rattle.cip_bland.specs.Dictionary as def;
 ghost use Rattle.cip_bland.specs.FirstState.{first_stand};
 ghost use Rattle.cip_bland.specs.ProgramState.{first_of_program};
-ghost use Rattle.cip_dict.specs.FirstLists.{stand_in};
 ghost use Rattle.cip_simplex.specs.LpShape.{variables};
 ghost use Rattle.cip_simplex.specs.Starts as definitions;
 
@@ -43,32 +42,6 @@ pub(crate) fn stand_first(sides: Sides) -> Stand
     }
 }
 
-/// Where variable v stands at first: a column at a side or at 0; a row is basic.
-fn first_place(columns: &[Sides], v: usize) -> Option<Stand>
-    ensures { result ≡ stand_in columns.now v }
-{
-    if v < columns.len() {
-        Some(stand_first(columns[v]))
-    } else {
-        None
-    }
-}
-
-/// Where all n variables stand at first; `Err` where memory was refused.
-fn first_stands(
-    alloc: Global,
-    columns: &[Sides],
-    n: usize,
-) -> Result<Vec<Option<Stand>>, AllocError>
-    ensures { IfOk result (λ standing. standing.items ≡ table n (stand_in columns.now)) }
-{
-    let mut standing = Vec::with_capacity(alloc, n)?;
-    for v in 0..n {
-        standing.push(first_place(columns, v))?;
-    }
-    Ok(standing)
-}
-
 impl Start {
     /// The start that says this of each variable: `None` where it is to be basic.
     pub fn new(standing: Vec<Option<Stand>>) -> Start
@@ -92,17 +65,6 @@ impl Start {
         self.standing[v as usize]
     }
 
-    /// Where a variable is to stand; `None` where it is to be basic, or this says nothing of it.
-    fn wished_stand(&self, v: usize) -> Option<Stand>
-        ensures { result ≡ definitions.wish self.now v }
-    {
-        if v < self.standing.len() {
-            self.standing[v]
-        } else {
-            None
-        }
-    }
-
     /// The start of so many variables that says the same of each as this one does; of those that this one has not, that
     /// they are to be basic. `Err` where memory was refused.
     pub fn fitted(&self, alloc: Global, n: usize) -> Result<Start, AllocError>
@@ -111,7 +73,12 @@ impl Start {
     {
         let mut standing = Vec::with_capacity(alloc, n)?;
         for v in 0..n {
-            standing.push(self.wished_stand(v))?;
+            let place = if v < self.standing.len() {
+                self.standing[v]
+            } else {
+                None
+            };
+            standing.push(place)?;
         }
         Ok(Start { standing })
     }
@@ -135,7 +102,16 @@ impl Start {
         ensures long { IfOk result (λ start. length start ≡ variables lp.now) }
     {
         let sides = lp.sides();
-        let standing = first_stands(alloc, sides, lp.len())?;
+        let n = lp.len();
+        let mut standing = Vec::with_capacity(alloc, n)?;
+        for v in 0..n {
+            let place = if v < sides.len() {
+                Some(stand_first(sides[v]))
+            } else {
+                None
+            };
+            standing.push(place)?;
+        }
         Ok(Start { standing })
     }
 }

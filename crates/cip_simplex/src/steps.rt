@@ -1,17 +1,16 @@
 //! One step by Bland's rule: what is chosen, and the move that is made.
 ghost use Rattle.std.specs.Prelude.{◌≡◌, ◌<◌, ◌^◌, true, false, None, Some, IfOk, MatchBool};
-ghost use Rattle.cip_bland.specs.Tables.{least};
 ghost use Rattle.cip_bland.specs.Dictionary as def;
 ghost use Rattle.cip_bland.specs.Exchange.{after, CanMove};
 ghost use Rattle.cip_bland.specs.MoveOperations.{move_operations};
 ghost use Rattle.cip_bland.specs.Rule as rule;
 ghost use Rattle.cip_bland.specs.MoveList.{is_out_of_range, wide_way_of, ending_at};
-ghost use Rattle.cip_simplex.specs.Advances.{IsChoice, Improves, IsAdvance, ending_of};
+ghost use Rattle.cip_simplex.specs.Advances.{IsChoice, IsAdvance, ending_of};
 
 use crate::choice::{
-    least_crossed, least_improving, least_outside, least_repairing, outside_heading,
+    least_crossed, least_driving, least_improving, least_outside, outside_heading,
 };
-use crate::headings::stand_ahead;
+use crate::headings::{back_of, stand_ahead};
 use crate::ways::{Way, has_way, shortest_way};
 use cip_bland::{Move, Stand, Step};
 use cip_dict::{Dict, MoveFault};
@@ -54,33 +53,8 @@ pub(crate) enum Ending {
     Stops,
 }
 
-/// What is chosen where variable i is the least one outside its sides.
-fn choose_repair(dict: &Dict, i: u32) -> Choice
-    requires few { def.size dict.now < 2 ^ 32 }
-    requires uncrossed { least (def.size dict.now) (rule.is_crossed dict.now) ≡ None }
-    requires outside { rule.least_outside dict.now ≡ Some i }
-    ensures { IsChoice dict.now result }
-{
-    match least_repairing(dict, i) {
-        None => Choice::Infeasible(i),
-        Some(j) => Choice::Repair(i, j, stand_ahead(outside_heading(dict, i))),
-    }
-}
-
-/// What is chosen where no variable is outside its sides.
-fn choose_improving(dict: &Dict) -> Choice
-    requires few { def.size dict.now < 2 ^ 32 }
-    requires uncrossed { least (def.size dict.now) (rule.is_crossed dict.now) ≡ None }
-    requires inside { rule.least_outside dict.now ≡ None }
-    ensures { IsChoice dict.now result }
-{
-    match least_improving(dict) {
-        None => Choice::Optimum,
-        Some(j) => Choice::Improve(j),
-    }
-}
-
-/// What the rule says at a state before ways are formed.
+/// What the rule says at a state before ways are formed: the least variable outside its sides leaves, and the least one
+/// that brings it nearer enters; where none is outside, the least one enters by which the cost falls.
 fn choose(dict: &Dict) -> Choice
     requires { def.size dict.now < 2 ^ 32 }
     ensures { IsChoice dict.now result }
@@ -88,9 +62,16 @@ fn choose(dict: &Dict) -> Choice
     if let Some(v) = least_crossed(dict) {
         return Choice::Crossed(v);
     }
-    match least_outside(dict) {
-        Some(i) => choose_repair(dict, i),
-        None => choose_improving(dict),
+    if let Some(i) = least_outside(dict) {
+        let heading = outside_heading(dict, i);
+        return match least_driving(dict, i, back_of(heading)) {
+            None => Choice::Infeasible(i),
+            Some(j) => Choice::Repair(i, j, stand_ahead(heading)),
+        };
+    }
+    match least_improving(dict) {
+        None => Choice::Optimum,
+        Some(j) => Choice::Improve(j),
     }
 }
 
@@ -137,20 +118,8 @@ pub(crate) fn move_by(j: u32, way: &Way) -> Move
     }
 }
 
-/// Makes the step of the shortest way of j, which lets the cost fall. `Err` where memory was refused.
-fn improve(dict: &mut Dict, j: u32) -> Result<Advance, AllocError>
-    requires few { def.size dict.old < 2 ^ 32 }
-    requires improves { Improves dict.old j }
-    ensures { IfOk result (IsAdvance dict.old dict.new) }
-{
-    match shortest_way(dict, j) {
-        Err(wide) => Ok(Advance::Wide(wide)),
-        Ok(None) => Ok(Advance::End(Step::Ray(j))),
-        Ok(Some(way)) => carry_out(dict, move_by(j, &way)),
-    }
-}
-
-/// Makes the next step. `Err` where memory was refused.
+/// Makes the next step: an exchange, or that of the shortest way of a variable by which the cost falls. `Err` where
+/// memory was refused.
 pub(crate) fn take_step(dict: &mut Dict) -> Result<Advance, AllocError>
     requires { def.size dict.old < 2 ^ 32 }
     ensures { IfOk result (IsAdvance dict.old dict.new) }
@@ -160,7 +129,11 @@ pub(crate) fn take_step(dict: &mut Dict) -> Result<Advance, AllocError>
         Choice::Infeasible(i) => Ok(Advance::End(Step::Infeasible(i))),
         Choice::Optimum => Ok(Advance::End(Step::Optimum)),
         Choice::Repair(i, j, to) => carry_out(dict, Move::Exchange(i, j, to)),
-        Choice::Improve(j) => improve(dict, j),
+        Choice::Improve(j) => match shortest_way(dict, j) {
+            Err(wide) => Ok(Advance::Wide(wide)),
+            Ok(None) => Ok(Advance::End(Step::Ray(j))),
+            Ok(Some(way)) => carry_out(dict, move_by(j, &way)),
+        },
     }
 }
 

@@ -1,15 +1,13 @@
 //! The ways of a variable that lets the cost fall, each to a side, and the shortest of them.
-ghost use Rattle.std.specs.Prelude.{◌≡◌, ◌≢◌, ◌<◌, ◌^◌, true, false, is_some, Some, None, MatchOption, MatchResult};
+ghost use Rattle.std.specs.Prelude.{◌≡◌, ◌≢◌, ◌<◌, ◌^◌, true, is_some, Some, None, MatchResult};
 ghost use Rattle.cip_rational.specs.Rational.{zeroℚ};
 ghost use Rattle.cip_bland.specs.Dictionary as def;
-ghost use Rattle.cip_bland.specs.Exchange.{other_stand, step, way};
-ghost use Rattle.cip_bland.specs.MoveOperations.{step_operations};
 ghost use Rattle.cip_problem.specs.Box.{sides_at};
 ghost use Rattle.cip_bland.specs.Headings as headings;
 ghost use Rattle.cip_bland.specs.Rule as rule;
-ghost use Rattle.cip_bland.specs.MoveList.{is_out_of_range, own_way_operations, wide_way, first_wide_way};
+ghost use Rattle.cip_bland.specs.MoveList.{wide_way, first_wide_way};
 
-use crate::headings::{change_along, goal_ahead, heading_for, heading_if, is_below};
+use crate::headings::{change_along, goal_ahead, heading_if, is_below};
 use cip_bland::{Heading, Move, Stand};
 use cip_dict::{Dict, Frac};
 use cip_lin::Sides;
@@ -39,7 +37,7 @@ pub(crate) fn falling_heading(dict: &Dict, j: u32) -> Heading
     requires { j < def.size dict.now }
     ensures { result ≡ rule.falling_heading dict.now j }
 {
-    heading_for(Heading::Down, dict.cost_entry(j))
+    heading_if(Heading::Down, dict.cost_entry(j).is_positive())
 }
 
 /// The value where a variable with these sides stands; 0 where the side isn't there.
@@ -50,50 +48,6 @@ fn value_at_stand(sides: Sides, at: Stand) -> Frac
         Stand::Low => sides.low.unwrap_or(Frac::zero()),
         Stand::High => sides.high.unwrap_or(Frac::zero()),
         Stand::Zero => Frac::zero(),
-    }
-}
-
-/// The other side of a variable that stands at one; 0 stays.
-fn other_of(at: Option<Stand>) -> Stand
-    ensures { result ≡ other_stand at }
-{
-    match at {
-        Some(Stand::Low) => Stand::High,
-        Some(Stand::High) => Stand::Low,
-        Some(Stand::Zero) => Stand::Zero,
-        None => Stand::Zero,
-    }
-}
-
-/// By how much j moves until it is at its other side; none where that is out of range.
-fn own_change(dict: &Dict, j: u32) -> Option<Frac>
-    requires { j < def.size dict.now }
-    ensures { MatchOption result (is_out_of_range (own_way_operations dict.now j) ≡ true)
-        (λ t. (is_out_of_range (own_way_operations dict.now j) ≡ false) × (t ≡ way dict.now j)) }
-{
-    let side = value_at_stand(dict.sides(j), other_of(dict.stand(j)));
-    match side.sub(dict.value(j)) {
-        Ok(change) => Some(change),
-        Err(_) => None,
-    }
-}
-
-/// By how much j moves until the basic variable i is at that side; none where that is out of range.
-fn change_until(dict: &Dict, i: u32, j: u32, to: Stand) -> Option<Frac>
-    requires leaving { i < def.size dict.now }
-    requires basic { def.is_basic dict.now i ≡ true }
-    requires entering { j < def.size dict.now }
-    requires nonzero { def.entry dict.now i j ≢ zeroℚ }
-    ensures { MatchOption result (is_out_of_range (step_operations dict.now i j to) ≡ true)
-        (λ t. (is_out_of_range (step_operations dict.now i j to) ≡ false) × (t ≡ step dict.now i j to)) }
-{
-    let side = value_at_stand(dict.sides(i), to);
-    let Ok(distance) = side.sub(dict.value(i)) else {
-        return None;
-    };
-    match distance.mul(dict.entry(i, j).reciprocal()) {
-        Ok(change) => Some(change),
-        Err(_) => None,
     }
 }
 
@@ -109,13 +63,19 @@ fn own_way(dict: &Dict, j: u32, heading: Heading) -> Result<Option<Way>, Move>
     let Some(to) = goal_ahead(heading, dict.sides(j)) else {
         return Ok(None);
     };
-    match own_change(dict, j) {
-        Some(change) => Ok(Some(Way {
+    let other = match dict.stand(j) {
+        Some(Stand::Low) => Stand::High,
+        Some(Stand::High) => Stand::Low,
+        _ => Stand::Zero,
+    };
+    let side = value_at_stand(dict.sides(j), other);
+    match side.sub(dict.value(j)) {
+        Ok(change) => Ok(Some(Way {
             variable: j,
             to,
             length: change_along(heading, change),
         })),
-        None => Err(Move::Flip(j)),
+        Err(_) => Err(Move::Flip(j)),
     }
 }
 
@@ -148,13 +108,17 @@ fn basic_way(dict: &Dict, j: u32, heading: Heading, v: u32) -> Result<Option<Way
     let Some(to) = basic_goal(dict, j, heading, v) else {
         return Ok(None);
     };
-    match change_until(dict, v, j, to) {
-        Some(change) => Ok(Some(Way {
+    let side = value_at_stand(dict.sides(v), to);
+    let Ok(distance) = side.sub(dict.value(v)) else {
+        return Err(Move::Exchange(v, j, to));
+    };
+    match distance.mul(dict.entry(v, j).reciprocal()) {
+        Ok(change) => Ok(Some(Way {
             variable: v,
             to,
             length: change_along(heading, change),
         })),
-        None => Err(Move::Exchange(v, j, to)),
+        Err(_) => Err(Move::Exchange(v, j, to)),
     }
 }
 
@@ -219,22 +183,6 @@ pub(crate) fn shortest_way(dict: &Dict, j: u32) -> Result<Option<Way>, Move>
     Ok(best)
 }
 
-/// Whether j, which goes this way, has a way to a side of variable v. Nothing is formed.
-fn has_goal(dict: &Dict, j: u32, heading: Heading, v: u32) -> bool
-    requires entering { j < def.size dict.now }
-    requires falls { heading ≡ rule.falling_heading dict.now j }
-    requires within { v < def.size dict.now }
-    ensures { result ≡ is_some (rule.way_of dict.now j v) }
-{
-    if v == j {
-        return goal_ahead(heading, dict.sides(j)).is_some();
-    }
-    if dict.stand(v).is_some() {
-        return false;
-    }
-    dict.has_entry(v, j) && basic_goal(dict, j, heading, v).is_some()
-}
-
 /// Whether j, which lets the cost fall, has a way to a side. Nothing is formed.
 pub(crate) fn has_way(dict: &Dict, j: u32) -> bool
     requires few { def.size dict.now < 2 ^ 32 }
@@ -243,7 +191,15 @@ pub(crate) fn has_way(dict: &Dict, j: u32) -> bool
 {
     let heading = falling_heading(dict, j);
     for v in 0..dict.len() {
-        if has_goal(dict, j, heading, v as u32) {
+        let v = v as u32;
+        let goal = if v == j {
+            goal_ahead(heading, dict.sides(j))
+        } else if dict.stand(v).is_none() && dict.has_entry(v, j) {
+            basic_goal(dict, j, heading, v)
+        } else {
+            None
+        };
+        if goal.is_some() {
             return true;
         }
     }

@@ -1,14 +1,15 @@
-use Rattle.std.proofs.Common.{◌≡◌, sym, arith}
+use Rattle.std.proofs.Common.{◌≡◌, sym, ap, ◌∙◌, arith}
 use Rattle.cip_bland.specs.Dictionary.{size}
 use Rattle.cip_dict.proofs.LeastBasic.{least_more, least_at}
 use Rattle.cip_bland.specs.Rule as rule
+use Rattle.cip_bland.specs.Rule.{sides_cross}
 use Rattle.cip_simplex.proofs.choice.least_crossed.Goals as goal
 
-pub returns-then-is_crossed : goal.returns-then-is_crossed
-returns-then-is_crossed c = sym (least_at (size c.args.dict.now) c.loop-v.v (rule.is_crossed c.args.dict.now) (omega arith) c.loop-v.invariant (sym c.if-is_crossed.ensures))
+pub returns-then-are_crossed : goal.returns-then-are_crossed
+returns-then-are_crossed c = sym (least_at (size c.args.dict.now) c.loop-v.v (rule.is_crossed c.args.dict.now) (omega arith) c.loop-v.invariant (sym (c.if-are_crossed.ensures ∙ ap (λ s. sides_cross s.low s.high) c.sides.ensures)))
 
 pub loop-v-preserved : goal.loop-v-preserved
-loop-v-preserved c = least_more c.loop-v.v (rule.is_crossed c.args.dict.now) c.loop-v.invariant (sym c.if-is_crossed.ensures)
+loop-v-preserved c = least_more c.loop-v.v (rule.is_crossed c.args.dict.now) c.loop-v.invariant (sym (c.if-are_crossed.ensures ∙ ap (λ s. sides_cross s.low s.high) c.sides.ensures))
 
 pub returns : goal.returns
 returns c =

@@ -18,8 +18,8 @@ ray_answer-requires-clause-entering c =
     let h = rw c.in-Ray.is at c.requires.is_end in
     h.improving.within
 
-pub returns-in-Optimum : goal.returns-in-Optimum
-returns-in-Optimum c = grind (arith, common_steps)
+pub returns-in_ok-combo-in-Optimum : goal.returns-in_ok-combo-in-Optimum
+returns-in_ok-combo-in-Optimum c = grind (arith, common_steps)
 
 pub returns-in-Ray : goal.returns-in-Ray
 returns-in-Ray c = grind (arith, common_steps)

@@ -1,31 +1,36 @@
 use Rattle.std.proofs.lemmas.Grind.{common_steps}
-use Rattle.std.proofs.Common.{◌≡◌, false, rules, arith}
-use Rattle.cip_bland.specs.Dictionary.{is_basic}
-use Rattle.cip_simplex.proofs.Begins.{leaving_within, can_enter}
+use Rattle.std.proofs.Common.{◌≡◌, true, false, Some, sym, ap, ap₂, ◌∙◌, rules, arith}
+use Rattle.std.specs.Option.{unwrap_or}
+use Rattle.cip_bland.specs.Dictionary.{size, is_basic}
+use Rattle.cip_bland.specs.Tables.{least}
+use Rattle.cip_bland.specs.declared.moves.Stand.TheVariants.{Zero}
+use Rattle.cip_dict.proofs.LeastBasic.{least_more, least_at}
+use Rattle.cip_simplex.specs.Starts.{stand_for, may_leave, leaving_stand}
+use Rattle.cip_simplex.proofs.Begins.{can_enter}
 use Rattle.cip_simplex.proofs.start_moves.entering_move.Goals as goal
+use Rattle.cip_simplex.proofs.start_moves.entering_move.Goals.{else-is_none-2-via-then-is_none-2+then-is_some-2+else-has_entry, else-is_none-2-via-then-is_none-2+else-is_some-2, else-is_none-2-via-else-is_none-2}
 
-pub leaving_stand-requires-clause-within : goal.leaving_stand-requires-clause-within
-leaving_stand-requires-clause-within c = leaving_within c.args.start.now c.args.dict.now c.args.k c.in-Some.v c.in-Some.ensures
+pub loop-v-preserved : goal.loop-v-preserved
+loop-v-preserved c =
+    let here : may_leave c.args.start.now c.args.dict.now c.args.k c.loop-v.v ≡ false =
+    elim c.else-is_none-2.branch [
+      | else-is_none-2-via-then-is_none-2+then-is_some-2+else-has_entry w ↦ grind (arith, common_steps)
+      | else-is_none-2-via-then-is_none-2+else-is_some-2 w ↦ grind (arith, common_steps)
+      | else-is_none-2-via-else-is_none-2 w ↦ grind (arith, common_steps)
+    ] in
+    least_more c.loop-v.v (may_leave c.args.start.now c.args.dict.now c.args.k) c.loop-v.invariant here
 
-pub returns-in-Some-clause-can : goal.returns-in-Some-clause-can
-returns-in-Some-clause-can c =
+pub returns-then-has_entry-clause-chosen : goal.returns-then-has_entry-clause-chosen
+returns-then-has_entry-clause-chosen c =
+    let here : may_leave c.args.start.now c.args.dict.now c.args.k c.loop-v.v ≡ true = grind (arith, common_steps) in
+    let least_is : Some c.loop-v.v ≡ least (size c.args.dict.now) (may_leave c.args.start.now c.args.dict.now c.args.k) = sym (least_at (size c.args.dict.now) c.loop-v.v (may_leave c.args.start.now c.args.dict.now c.args.k) (omega arith) c.loop-v.invariant here) in
+    let to : c.stand_for-to.result ≡ leaving_stand c.args.start.now c.args.dict.now c.loop-v.v = c.stand_for-to.ensures ∙ ap₂ stand_for c.sides.ensures (c.unwrap_or.ensures ∙ ap (λ o. unwrap_or o Zero) c.stand-then-has_entry.ensures) in
+    grind (arith, common_steps)
+
+pub returns-then-has_entry-clause-can : goal.returns-then-has_entry-clause-can
+returns-then-has_entry-clause-can c =
+    let here : may_leave c.args.start.now c.args.dict.now c.args.k c.loop-v.v ≡ true = grind (arith, common_steps) in
+    let least_is : Some c.loop-v.v ≡ least (size c.args.dict.now) (may_leave c.args.start.now c.args.dict.now c.args.k) = sym (least_at (size c.args.dict.now) c.loop-v.v (may_leave c.args.start.now c.args.dict.now c.args.k) (omega arith) c.loop-v.invariant here) in
+    let to : c.stand_for-to.result ≡ leaving_stand c.args.start.now c.args.dict.now c.loop-v.v = c.stand_for-to.ensures ∙ ap₂ stand_for c.sides.ensures (c.unwrap_or.ensures ∙ ap (λ o. unwrap_or o Zero) c.stand-then-has_entry.ensures) in
     let nonbasic : is_basic c.args.dict.now c.args.k ≡ false = search rules in
-    can_enter c.args.start.now c.args.dict.now c.args.k c.in-Some.v c.leaving_stand.result c.requires.entering nonbasic c.in-Some.ensures c.leaving_stand.ensures
-
-pub least_leaving-requires-clause-entering : goal.least_leaving-requires-clause-entering
-least_leaving-requires-clause-entering c = omega arith
-
-pub least_leaving-requires-clause-few : goal.least_leaving-requires-clause-few
-least_leaving-requires-clause-few c = omega arith
-
-pub least_leaving-requires-clause-long : goal.least_leaving-requires-clause-long
-least_leaving-requires-clause-long c = omega arith
-
-pub leaving_stand-requires-clause-long : goal.leaving_stand-requires-clause-long
-leaving_stand-requires-clause-long c = omega arith
-
-pub returns-in-Some-clause-chosen : goal.returns-in-Some-clause-chosen
-returns-in-Some-clause-chosen c = grind (arith, common_steps)
-
-pub stand-requires-else-is_some : goal.stand-requires-else-is_some
-stand-requires-else-is_some c = omega arith
+    can_enter c.args.start.now c.args.dict.now c.args.k c.loop-v.v c.stand_for-to.result c.requires.entering nonbasic least_is to

@@ -2,25 +2,36 @@ use Rattle.std.proofs.lemmas.Grind.{common_steps}
 use Rattle.std.proofs.Common.{◌≡◌, true, Some, sym, ap, ◌∙◌, arith}
 use Rattle.cip_problem.specs.Box.{sides_at}
 use Rattle.cip_bland.specs.Dictionary.{stand}
+use Rattle.cip_bland.specs.declared.moves.Stand.TheVariants.{Low, High}
 use Rattle.cip_simplex.specs.Starts.{stand_for, are_opposite}
 use Rattle.cip_simplex.proofs.Begins.{can_flip_over}
 use Rattle.cip_simplex.proofs.start_moves.flipping_move.Goals as goal
 
-pub returns-then-are_opposite-clause-can : goal.returns-then-are_opposite-clause-can
-returns-then-are_opposite-clause-can c =
-    let e : stand c.args.dict.now c.args.v ≡ Some c.in_ok-at.at = sym c.stand.ensures ∙ c.in_ok-at.was in
-    let o : are_opposite c.in_ok-at.at (stand_for (sides_at c.args.dict.now.sides c.args.v) c.in_ok-to.to) ≡ true =
-    sym (c.are_opposite.ensures ∙ ap (are_opposite c.in_ok-at.at) (c.stand_for.ensures ∙ ap (λ s. stand_for s c.in_ok-to.to) c.sides.ensures)) ∙ c.if-are_opposite.true in
-    can_flip_over c.args.dict.now c.args.v c.in_ok-at.at c.in_ok-to.to c.requires.within c.len-len.ensures.consistent e o
+pub returns-in-Low-High-clause-can : goal.returns-in-Low-High-clause-can
+returns-in-Low-High-clause-can c =
+    let e : stand c.args.dict.now c.args.v ≡ Some Low = sym c.stand.ensures ∙ c.in_ok-at.was ∙ ap Some c.in-Low-High.is-0 in
+    let o : are_opposite Low (stand_for (sides_at c.args.dict.now.sides c.args.v) c.in_ok-to.to) ≡ true =
+    ap (are_opposite Low) (ap (λ s. stand_for s c.in_ok-to.to) (sym c.sides.ensures) ∙ sym c.stand_for.ensures ∙ c.in-Low-High.is-1) in
+    can_flip_over c.args.dict.now c.args.v Low c.in_ok-to.to c.requires.within c.len-len.ensures.consistent e o
 
-pub returns-else-are_opposite-clause-chosen : goal.returns-else-are_opposite-clause-chosen
-returns-else-are_opposite-clause-chosen c = grind (arith, common_steps)
+pub returns-in-High-Low-clause-can : goal.returns-in-High-Low-clause-can
+returns-in-High-Low-clause-can c =
+    let e : stand c.args.dict.now c.args.v ≡ Some High = sym c.stand.ensures ∙ c.in_ok-at.was ∙ ap Some c.in-High-Low.is-0 in
+    let o : are_opposite High (stand_for (sides_at c.args.dict.now.sides c.args.v) c.in_ok-to.to) ≡ true =
+    ap (are_opposite High) (ap (λ s. stand_for s c.in_ok-to.to) (sym c.sides.ensures) ∙ sym c.stand_for.ensures ∙ c.in-High-Low.is-1) in
+    can_flip_over c.args.dict.now c.args.v High c.in_ok-to.to c.requires.within c.len-len.ensures.consistent e o
+
+pub returns-in_default-3-clause-chosen : goal.returns-in_default-3-clause-chosen
+returns-in_default-3-clause-chosen c = grind (arith, common_steps)
+
+pub returns-in-Low-High-clause-chosen : goal.returns-in-Low-High-clause-chosen
+returns-in-Low-High-clause-chosen c = grind (arith, common_steps)
+
+pub returns-in-High-Low-clause-chosen : goal.returns-in-High-Low-clause-chosen
+returns-in-High-Low-clause-chosen c = grind (arith, common_steps)
 
 pub returns-in_err-at-clause-can : goal.returns-in_err-at-clause-can
 returns-in_err-at-clause-can c = grind (arith, common_steps)
 
 pub returns-in_err-to-clause-can : goal.returns-in_err-to-clause-can
 returns-in_err-to-clause-can c = grind (arith, common_steps)
-
-pub returns-then-are_opposite-clause-chosen : goal.returns-then-are_opposite-clause-chosen
-returns-then-are_opposite-clause-chosen c = grind (arith, common_steps)

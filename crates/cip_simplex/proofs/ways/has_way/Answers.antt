@@ -1,14 +1,38 @@
-use Rattle.std.proofs.Common.{◌≡◌, sym, arith}
+use Rattle.std.proofs.lemmas.Grind.{common_steps}
+use Rattle.std.proofs.Common.{◌≡◌, is_some, sym, ◌∙◌, arith}
 use Rattle.cip_bland.specs.Dictionary.{size}
 use Rattle.cip_bland.specs.Rule.{way_of}
 use Rattle.cip_simplex.proofs.Shortest.{none_more, some_at}
 use Rattle.cip_simplex.proofs.ways.has_way.Goals as goal
+use Rattle.cip_simplex.proofs.ways.has_way.Goals.{then-v-j, else-v-j+then-is_none+then-has_entry, else-v-j+else-is_none, else-is_none-via-then-is_none+else-has_entry, else-is_none-via-else-is_none}
 
-pub returns-then-has_goal : goal.returns-then-has_goal
-returns-then-has_goal c = sym (some_at (size c.args.dict.now) c.loop-v.v (way_of c.args.dict.now c.args.j) (omega arith) (sym c.if-has_goal.ensures))
+pub returns-then-is_some : goal.returns-then-is_some
+returns-then-is_some c =
+    let same : is_some c.if-v-j.goal ≡ is_some (way_of c.args.dict.now c.args.j c.loop-v.v) =
+    elim c.if-v-j.branch [
+      | then-v-j w ↦ grind (arith, common_steps)
+      | else-v-j+then-is_none+then-has_entry w ↦ grind (arith, common_steps)
+      | else-v-j+else-is_none w ↦
+          elim w.else-is_none.branch [
+            | else-is_none-via-then-is_none+else-has_entry u ↦ grind (arith, common_steps)
+            | else-is_none-via-else-is_none u ↦ grind (arith, common_steps)
+          ]
+    ] in
+    sym (some_at (size c.args.dict.now) c.loop-v.v (way_of c.args.dict.now c.args.j) (omega arith) (sym same ∙ sym c.is_some.ensures ∙ c.if-is_some.true))
 
 pub loop-v-preserved : goal.loop-v-preserved
-loop-v-preserved c = none_more c.loop-v.v (way_of c.args.dict.now c.args.j) c.loop-v.invariant (sym c.if-has_goal.ensures)
+loop-v-preserved c =
+    let same : is_some c.if-v-j.goal ≡ is_some (way_of c.args.dict.now c.args.j c.loop-v.v) =
+    elim c.if-v-j.branch [
+      | then-v-j w ↦ grind (arith, common_steps)
+      | else-v-j+then-is_none+then-has_entry w ↦ grind (arith, common_steps)
+      | else-v-j+else-is_none w ↦
+          elim w.else-is_none.branch [
+            | else-is_none-via-then-is_none+else-has_entry u ↦ grind (arith, common_steps)
+            | else-is_none-via-else-is_none u ↦ grind (arith, common_steps)
+          ]
+    ] in
+    none_more c.loop-v.v (way_of c.args.dict.now c.args.j) c.loop-v.invariant (sym same ∙ sym c.is_some.ensures ∙ c.if-is_some.false)
 
 pub returns : goal.returns
 returns c =

@@ -1,14 +1,22 @@
+use Rattle.std.proofs.lemmas.Grind.{common_steps}
 use Rattle.std.proofs.Common.{◌≡◌, arith, length, ◌∙◌, ◌++◌, ◌∷◌, [], sym, ap, ap₂}
 use Rattle.cip_bland.proofs.Tables.{length-table}
 use Rattle.cip_dict.proofs.Grown.{table_none, table_more}
 use Rattle.cip_simplex.specs.Starts.{wish}
 use Rattle.cip_simplex.proofs.starts.Start.fitted.Goals as goal
+use Rattle.cip_simplex.proofs.starts.Start.fitted.Goals.{then-v-len, else-v-len}
 
 pub loop-v-init : goal.loop-v-init
 loop-v-init c = c.in_ok-standing.ensures.items ∙ table_none _
 
 pub loop-v-preserved : goal.loop-v-preserved
-loop-v-preserved c = c.in_ok-push.ensures.items ∙ ap₂ (λ xs x. xs ++ x ∷ []) c.loop-v.invariant c.wished_stand.ensures ∙ sym (table_more c.loop-v.v _)
+loop-v-preserved c =
+    let here : c.if-v-len.place ≡ wish c.args.self.now c.loop-v.v =
+    elim c.if-v-len.branch [
+      | then-v-len w ↦ grind (arith, common_steps)
+      | else-v-len w ↦ grind (arith, common_steps)
+    ] in
+    c.in_ok-push.ensures.items ∙ ap₂ (λ xs x. xs ++ x ∷ []) c.loop-v.invariant here ∙ sym (table_more c.loop-v.v _)
 
 pub returns-clause-long : goal.returns-clause-long
 returns-clause-long c =

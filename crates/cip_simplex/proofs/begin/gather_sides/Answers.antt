@@ -1,9 +1,0 @@
-use Rattle.std.proofs.lemmas.Grind.{common_steps}
-use Rattle.std.proofs.Common.{arith}
-use Rattle.cip_simplex.proofs.begin.gather_sides.Goals as goal
-
-pub loop-r-preserved : goal.loop-r-preserved
-loop-r-preserved c = grind (arith, common_steps)
-
-pub returns : goal.returns
-returns c = grind (arith, common_steps)

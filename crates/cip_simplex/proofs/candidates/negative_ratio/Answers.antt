@@ -1,6 +1,0 @@
-use Rattle.std.proofs.lemmas.Grind.{common_steps}
-use Rattle.std.proofs.Common.{arith}
-use Rattle.cip_simplex.proofs.candidates.negative_ratio.Goals as goal
-
-pub reciprocal-requires : goal.reciprocal-requires
-reciprocal-requires c = grind (arith, common_steps)

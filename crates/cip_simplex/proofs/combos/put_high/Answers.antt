@@ -1,9 +1,0 @@
-use Rattle.std.proofs.lemmas.Grind.{common_steps}
-use Rattle.std.proofs.Common.{arith}
-use Rattle.cip_simplex.proofs.combos.put_high.Goals as goal
-
-pub returns : goal.returns
-returns c = grind (arith, common_steps)
-
-pub returns-then-not-is_below_zero : goal.returns-then-not-is_below_zero
-returns-then-not-is_below_zero c = grind (arith, common_steps)

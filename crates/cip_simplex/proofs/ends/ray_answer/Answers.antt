@@ -1,0 +1,22 @@
+use Rattle.std.proofs.lemmas.Grind.{common_steps}
+use Rattle.std.proofs.Common.{◌≡◌, ◌∙◌, ◌++◌, ◌∷◌, [], sym, ap₂, arith}
+use Rattle.cip_bland.specs.EndAnswers.{change_of}
+use Rattle.cip_dict.proofs.Grown.{table_none, table_more}
+use Rattle.cip_simplex.proofs.ends.ray_answer.Goals as goal
+use Rattle.cip_simplex.proofs.ends.ray_answer.Goals.{then-v-j, else-v-j+then-is_none, else-v-j+else-is_none}
+
+pub loop-v-init : goal.loop-v-init
+loop-v-init c = c.in_ok-ray.ensures.items ∙ table_none _
+
+pub loop-v-preserved : goal.loop-v-preserved
+loop-v-preserved c =
+    let here : c.if-v-j.change ≡ change_of c.args.dict.now c.args.j c.loop-v.v =
+    elim c.if-v-j.branch [
+      | then-v-j w ↦ grind (arith, common_steps)
+      | else-v-j+then-is_none w ↦ grind (arith, common_steps)
+      | else-v-j+else-is_none w ↦ grind (arith, common_steps)
+    ] in
+    c.in_ok-push.ensures.items ∙ ap₂ (λ xs x. xs ++ x ∷ []) c.loop-v.invariant here ∙ sym (table_more c.loop-v.v _)
+
+pub returns : goal.returns
+returns c = grind (arith, common_steps)

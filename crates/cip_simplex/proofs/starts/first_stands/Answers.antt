@@ -1,9 +1,0 @@
-use Rattle.std.proofs.Common.{◌∙◌, ◌++◌, ◌∷◌, [], sym, ap₂}
-use Rattle.cip_dict.proofs.Grown.{table_none, table_more}
-use Rattle.cip_simplex.proofs.starts.first_stands.Goals as goal
-
-pub loop-v-init : goal.loop-v-init
-loop-v-init c = c.in_ok-standing.ensures.items ∙ table_none _
-
-pub loop-v-preserved : goal.loop-v-preserved
-loop-v-preserved c = c.in_ok-push.ensures.items ∙ ap₂ (λ xs x. xs ++ x ∷ []) c.loop-v.invariant c.first_place.ensures ∙ sym (table_more c.loop-v.v _)
