@@ -100,19 +100,7 @@ fn weighed(program: &Program, point: Option<Vec<Frac>>, bound: Option<Frac>) -> 
     }
 }
 
-/// Of two the first, unless it has no point.
-fn first_with_point(beside: Beside, other: Beside) -> Beside
-    ensures { (program : Program) → (lent : Lent) → (box : List Sides) → StandsBeside program lent box beside
-        → StandsBeside program lent box other → StandsBeside program lent box result }
-{
-    if beside.point.is_some() {
-        beside
-    } else {
-        other
-    }
-}
-
-/// What is near the optimum, or as good as it by a point that is rounded.
+/// What is near the optimum, or as good as it by a point that is rounded, which stands beside it where it has none.
 fn beside_rounded(
     alloc: Global,
     basis: &Basis,
@@ -127,7 +115,15 @@ fn beside_rounded(
 {
     let point = rounded_point(alloc, basis, problem)?;
     match weighed(program, point, beside.bound) {
-        Guessed::Beside(other) => Ok(Guessed::Beside(first_with_point(beside, other))),
+        Guessed::Beside(other) => {
+            if beside.point.is_some() {
+                drop(other);
+                Ok(Guessed::Beside(beside))
+            } else {
+                drop(beside);
+                Ok(Guessed::Beside(other))
+            }
+        }
         Guessed::Shown(relaxed) => Ok(Guessed::Shown(relaxed)),
     }
 }
@@ -213,12 +209,6 @@ fn weighed_or_rounded(
     }
 }
 
-/// Whether another guess with less rounding may bring a point and a bound together: there are both, costs are whole,
-/// and the last guess wasn't such a one.
-fn may_come_together(program: &Program, basis: &Basis, beside: &Beside) -> bool {
-    beside.point.is_some() && beside.bound.is_some() && !basis.is_anew() && are_costs_whole(program)
-}
-
 /// Of two bounds the greater one, as far as they are there.
 fn greater_bound(bound: Option<Frac>, other: Option<Frac>) -> Option<Frac>
     ensures greater { result ≡ greater bound other }
@@ -233,7 +223,8 @@ fn greater_bound(bound: Option<Frac>, other: Option<Frac>) -> Option<Frac>
     }
 }
 
-/// What is near the optimum, or what one more guess shows, where that may do better.
+/// What is near the optimum, or what one more guess with less rounding shows, where that may bring a point and a bound
+/// together: there are both, costs are whole, and the last guess wasn't such a one.
 fn guessed_anew(
     alloc: Global,
     basis: &mut Basis,
@@ -249,7 +240,8 @@ fn guessed_anew(
         → IfOk result (IsGuessed program.now lent box columns) }
     ensures room { length scratch.new.row.entries ≡ length scratch.old.row.entries }
 {
-    if !may_come_together(program, basis, &beside) {
+    let are_both = beside.point.is_some() && beside.bound.is_some();
+    if !are_both || basis.is_anew() || !are_costs_whole(program) {
         return Ok(Guessed::Beside(beside));
     }
     let Ok(shown) = show_anew(alloc, basis, problem, scratch) else {
@@ -315,16 +307,6 @@ pub(crate) fn by_guess(
     }
 }
 
-/// Where a variable is to stand, `None` where it is to be basic.
-fn stand_of(standing: Standing) -> Option<Stand> {
-    match standing {
-        Standing::Basic => None,
-        Standing::Low => Some(Stand::Low),
-        Standing::High => Some(Stand::High),
-        Standing::Zero => Some(Stand::Zero),
-    }
-}
-
 /// The start at the basis, of so many variables. `Err` where memory was refused.
 pub(crate) fn start_at(
     alloc: Global,
@@ -334,7 +316,13 @@ pub(crate) fn start_at(
     let mut standing = Vec::with_capacity(alloc, variables)?;
     for number in 0..variables {
         let variable = u32::try_from(number).unwrap_or(u32::MAX);
-        standing.push(stand_of(basis.standing(variable)))?;
+        let stand = match basis.standing(variable) {
+            Standing::Basic => None,
+            Standing::Low => Some(Stand::Low),
+            Standing::High => Some(Stand::High),
+            Standing::Zero => Some(Stand::Zero),
+        };
+        standing.push(stand)?;
     }
     Ok(Start::new(standing))
 }

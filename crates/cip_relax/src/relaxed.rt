@@ -8,7 +8,6 @@ ghost use Rattle.cip_search.specs.Relaxation.{relaxation};
 ghost use Rattle.cip_relax.specs.NodeRows.{usable_rows, usable_ids};
 ghost use Rattle.cip_relax.specs.Solving.{SaysRight};
 ghost use Rattle.cip_relax.specs.Relaxing.{node_program, IsCostFault, IsRelaxed};
-ghost use Rattle.cip_relax.specs.Relaxing.{IsEmptinessFound};
 ghost use Rattle.cip_relax.specs.declared.relaxed.Relaxed.TheVariants.{Unsolved};
 ghost use Rattle.cip_relax.specs.Guessing.{StandsBeside};
 
@@ -128,28 +127,6 @@ fn unsolved(mark: Mark, point: Option<Vec<Frac>>) -> Relaxed
     }
 }
 
-/// What it comes to that there is no point.
-fn of_no_point(
-    rows: &Rows<'_>,
-    program: &Program,
-    bounds: &Bounds,
-    combo: Combo,
-    scratch: &mut Scratch,
-) -> Relaxed
-    requires fits { Fits (length bounds.now) (lent_of rows.now) }
-    requires room { length bounds.now ≤ length scratch.old.row.entries }
-    requires columns { length bounds.now ≡ columns program.now }
-    requires found { IsEmptinessFound program.now (lent_of rows.now) bounds.now combo }
-    ensures relaxed { IsRelaxed program.now (lent_of rows.entry.now) bounds.now
-        (length scratch.old.row.entries) result }
-    ensures room { length scratch.new.row.entries ≡ length scratch.old.row.entries }
-{
-    match empties(rows, bounds, &combo, scratch) {
-        Ok(()) => Relaxed::Empty,
-        Err(fault) => unsolved(Mark::Refused { combo, fault }, None),
-    }
-}
-
 /// What an answer comes to.
 fn judged(
     rows: &Rows<'_>,
@@ -187,47 +164,15 @@ fn judged(
         }
         LpAnswer::Infeasible { mut combo } => {
             name_combo(own, ids, &mut combo);
-            of_no_point(rows, program, bounds, combo, scratch)
+            match empties(rows, bounds, &combo, scratch) {
+                Ok(()) => Relaxed::Empty,
+                Err(fault) => unsolved(Mark::Refused { combo, fault }, None),
+            }
         }
         LpAnswer::Unbounded { point, ray: _ } => Relaxed::Falls { point },
         LpAnswer::Wide { moves } => unsolved(Mark::Wide { moves }, None),
         LpAnswer::Limit => unsolved(Mark::Limit, None),
     }
-}
-
-/// What an answer comes to over the rows of a program and those of a pool that may be used in a box.
-fn judged_over(
-    program: &Program,
-    usable: &UsableRows<'_>,
-    found: LpAnswer,
-    scratch: &mut Scratch,
-) -> Relaxed
-    requires columns { length usable.now.bounds.now ≡ columns program.now }
-    requires pool { length usable.now.bounds.now ≡ usable.now.pool.now.columns }
-    requires room { length usable.now.bounds.now ≤ length scratch.old.row.entries }
-    requires ids { usable.now.ids.items ≡ usable_ids usable.now.bounds.now usable.now.pool.now.rows }
-    requires solved { SaysRight (relaxation program.now
-        (usable_rows usable.now.bounds.now usable.now.pool.now.rows) usable.now.bounds.now) found }
-    ensures relaxed { IsRelaxed program.now
-        (record { own = program.now.rows; pool = usable.now.pool.now.rows; cutoff = None }) usable.now.bounds.now
-        (length scratch.old.row.entries) result }
-    ensures room { length scratch.new.row.entries ≡ length scratch.old.row.entries }
-{
-    let _columns = program.columns();
-    let lent = Rows {
-        own: program.rows(),
-        pool: usable.pool.rows(),
-        cutoff: &None,
-        whole: program.whole(),
-    };
-    judged(
-        &lent,
-        program,
-        usable.ids.as_slice(),
-        usable.bounds,
-        found,
-        scratch,
-    )
 }
 
 /// Puts what is near the optimum beside a mark: its bound, and its point where none was found; what has no mark stays
@@ -256,22 +201,6 @@ fn with_beside(relaxed: Relaxed, beside: Beside) -> Relaxed
     }
 }
 
-/// What a linear program came to, with the start at which it ended, if memory was there for that.
-fn with_start(
-    relaxed: Relaxed,
-    last: Result<Start, AllocError>,
-) -> Result<(Relaxed, Start), AllocError>
-    ensures { IfOk result (λ solved. solved.0 ≡ relaxed) }
-{
-    match last {
-        Ok(last) => Ok((relaxed, last)),
-        Err(error) => {
-            drop(relaxed);
-            Err(error)
-        }
-    }
-}
-
 /// Solves the linear program of a node, over the rows of the pool that may be used in its box, with room for what
 /// checks work in. `Err` comes where memory was refused.
 fn relaxed_in(
@@ -296,7 +225,13 @@ fn relaxed_in(
     let beside = match by_guess(alloc, &mut solver.basis, program, usable, scratch)? {
         Guessed::Shown(relaxed) => {
             let variables = program.columns() + program.rows().len() + usable.rows.len();
-            return with_start(relaxed, start_at(alloc, &solver.basis, variables));
+            return match start_at(alloc, &solver.basis, variables) {
+                Ok(last) => Ok((relaxed, last)),
+                Err(error) => {
+                    drop(relaxed);
+                    Err(error)
+                }
+            };
         }
         Guessed::Beside(beside) => beside,
     };
@@ -306,33 +241,17 @@ fn relaxed_in(
             Err(error)
         }
         Ok((found, last)) => {
-            let relaxed = judged_over(program, usable, found, scratch);
+            let lent = Rows {
+                own: program.rows(),
+                pool: usable.pool.rows(),
+                cutoff: &None,
+                whole: program.whole(),
+            };
+            let ids = usable.ids.as_slice();
+            let relaxed = judged(&lent, program, ids, usable.bounds, found, scratch);
             Ok((with_beside(relaxed, beside), last))
         }
     }
-}
-
-/// The same with what the solver keeps for checks to work in.
-fn relaxed_over(
-    alloc: Global,
-    program: &Program,
-    usable: &UsableRows<'_>,
-    start: Option<&Start>,
-    solver: &mut NodeSolver,
-) -> Result<(Relaxed, Start), AllocError>
-    requires columns { length usable.now.bounds.now ≡ columns program.now }
-    requires pool { length usable.now.bounds.now ≡ usable.now.pool.now.columns }
-    requires others { map (λ row. row.now) usable.now.rows.items
-        ≡ usable_rows usable.now.bounds.now usable.now.pool.now.rows }
-    requires ids { usable.now.ids.items ≡ usable_ids usable.now.bounds.now usable.now.pool.now.rows }
-    ensures { IfOk result (λ solved. IsRelaxed program.now
-        (record { own = program.now.rows; pool = usable.now.pool.now.rows; cutoff = None }) usable.now.bounds.now
-        (columns program.now) solved.0) }
-{
-    let mut scratch = solver.room(alloc, program.columns())?;
-    let relaxed = relaxed_in(alloc, program, usable, start, solver, &mut scratch);
-    solver.keep(scratch);
-    relaxed
 }
 
 /// Solves the linear program of a node over the rows of the program and those of the pool that may be used in its
@@ -362,7 +281,14 @@ pub fn relax_from(
         (columns program.now) solved.0) }
 {
     let usable = UsableRows::gather(alloc, pool, bounds)?;
-    let relaxed = relaxed_over(alloc, program, &usable, start, solver);
+    let relaxed = match solver.room(alloc, program.columns()) {
+        Ok(mut scratch) => {
+            let relaxed = relaxed_in(alloc, program, &usable, start, solver, &mut scratch);
+            solver.keep(scratch);
+            relaxed
+        }
+        Err(error) => Err(error),
+    };
     drop(usable);
     relaxed
 }

@@ -9,7 +9,7 @@ use Rattle.cip_bland.specs.declared.moves.Stand.{Stand}
 use Rattle.cip_bland.specs.declared.moves.Move.{Move}
 use Rattle.cip_bland.specs.declared.moves.Move.TheVariants.{Exchange, Flip}
 use Rattle.cip_bland.specs.Headings.{stand_ahead}
-use Rattle.cip_bland.specs.Rule.{Way, is_crossed, is_outside, outside_heading, repairs, repairing, improves, improving, going, least_outside, step_inside, step_of, way_of, shortest, move_by}
+use Rattle.cip_bland.specs.Rule.{Way, is_crossed, is_outside, outside_heading, repairs, repairing, improves, improving, going, least_outside, step_inside, step_of, way_of, shortest, move_by, next}
 use Rattle.cip_bland.specs.MoveList.{is_out_of_range, wide_way, first_wide_way, mover, wide_way_of}
 use Rattle.cip_bland.specs.declared.steps.Step.TheVariants.{Makes}
 use Rattle.cip_bland.proofs.Searches.{IsLeast, least_some, shortest_none, shortest_some}
@@ -79,3 +79,10 @@ module _ (d : Dictionary) (j : ℕ) (h : Improves d j) where
 
   pub wide_descent : (wide : Move) → first_wide_way d j (size d) ≡ Some wide → IsWideAt d d wide
   wide_descent wide e = wide_for wide e (shortest (size d) (way_of d j)) refl
+
+  -- the way is in range, so the next move is that by which it goes, and its ways are in range
+  pub descent_fits : (way : Way) (move : Move) → Some way ≡ shortest (size d) (way_of d j) → move ≡ move_by j way → first_wide_way d j (size d) ≡ None → (next d ≡ Makes move) × (wide_way_of d move (least_outside d) ≡ None)
+  descent_fits way move e m fits = (
+    h.is_next ∙ ap (going j) (sym e) ∙ ap Makes (sym m),
+    ap (wide_way_of d move) h.inside ∙ ap (λ k. first_wide_way d k (size d)) (ap mover m ∙ mover_is j way) ∙ fits,
+  )

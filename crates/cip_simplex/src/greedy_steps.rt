@@ -1,7 +1,6 @@
 //! Steps by a rule that makes few moves.
 ghost use Rattle.std.specs.Prelude.{◌<◌, ◌^◌, IfOk, IfSome};
 ghost use Rattle.cip_bland.specs.Dictionary as def;
-ghost use Rattle.cip_bland.specs.Exchange.{CanMove};
 ghost use Rattle.cip_bland.specs.Rule as rule;
 ghost use Rattle.cip_bland.specs.Statements.{IsStateOf};
 ghost use Rattle.cip_bland.specs.StateEnds.{NonePasses, IsEndAt};
@@ -38,18 +37,6 @@ fn pick(dict: &Dict) -> Choice
     }
 }
 
-/// Makes a move that can be made. `Err` where memory was refused.
-fn make_chosen(dict: &mut Dict, chosen: Move) -> Result<Advance, AllocError>
-    requires { CanMove dict.old chosen }
-    ensures { IfOk result (IsFreeAdvance dict.old dict.new) }
-{
-    if make(dict, chosen)? {
-        Ok(Advance::Made(chosen))
-    } else {
-        Ok(Advance::Wide(chosen))
-    }
-}
-
 /// Makes the next step, where no sides cross: an exchange, or that of the shortest way of a variable by which the cost
 /// falls. `Err` where memory was refused.
 fn take_chosen(dict: &mut Dict) -> Result<Advance, AllocError>
@@ -57,16 +44,21 @@ fn take_chosen(dict: &mut Dict) -> Result<Advance, AllocError>
     requires uncrossed { NonePasses dict.old (rule.is_crossed dict.old) }
     ensures { IfOk result (IsFreeAdvance dict.old dict.new) }
 {
-    match pick(dict) {
-        Choice::Crossed(v) => Ok(Advance::End(Step::Crossed(v))),
-        Choice::Infeasible(i) => Ok(Advance::End(Step::Infeasible(i))),
-        Choice::Optimum => Ok(Advance::End(Step::Optimum)),
-        Choice::Repair(i, j, to) => make_chosen(dict, Move::Exchange(i, j, to)),
+    let chosen = match pick(dict) {
+        Choice::Crossed(v) => return Ok(Advance::End(Step::Crossed(v))),
+        Choice::Infeasible(i) => return Ok(Advance::End(Step::Infeasible(i))),
+        Choice::Optimum => return Ok(Advance::End(Step::Optimum)),
+        Choice::Repair(i, j, to) => Move::Exchange(i, j, to),
         Choice::Improve(j) => match shortest_way(dict, j) {
-            Err(wide) => Ok(Advance::Wide(wide)),
-            Ok(None) => Ok(Advance::End(Step::Ray(j))),
-            Ok(Some(way)) => make_chosen(dict, move_by(j, &way)),
+            Err(wide) => return Ok(Advance::Wide(wide)),
+            Ok(None) => return Ok(Advance::End(Step::Ray(j))),
+            Ok(Some(way)) => move_by(j, &way),
         },
+    };
+    if make(dict, chosen)? {
+        Ok(Advance::Made(chosen))
+    } else {
+        Ok(Advance::Wide(chosen))
     }
 }
 

@@ -1,5 +1,5 @@
 //! Linear programs, lent to be solved.
-ghost use Rattle.std.specs.Prelude.{◌≡◌, ◌<◌, ◌↔◌, IsTrue, All, length, slice_index_or};
+ghost use Rattle.std.specs.Prelude.{◌≡◌, ◌<◌, ◌↔◌, IsTrue, length, slice_index_or};
 ghost use Rattle.cip_problem.specs.Activity.{StandsBelow};
 ghost use Rattle.cip_problem.specs.LinearProgram.{LinearProgram};
 ghost use Rattle.cip_problem.specs.Program.{no_row};
@@ -54,18 +54,6 @@ fn stands_below(terms: &[Term], columns: usize) -> bool
     true
 }
 
-/// Whether each row stands on the first columns, so many.
-fn are_below(rows: &[Row], columns: usize) -> bool
-    ensures { IsTrue result ↔ All (λ row. StandsBelow columns row.terms) rows.now }
-{
-    for row in rows {
-        if !stands_below(row.terms(), columns) {
-            return false;
-        }
-    }
-    true
-}
-
 impl<'a> Lp<'a> {
     /// Whether these are a linear program that can be solved: each column has a cost, the rows stand on its columns,
     /// and there are fewer than 2^32 columns and rows.
@@ -74,7 +62,15 @@ impl<'a> Lp<'a> {
             ↔ shape.IsSolvable (record { rows = rows.now; bounds = bounds.now; costs = costs.now }) }
     {
         let few = bounds.len() < 1 << 32 && rows.len() < (1 << 32) - bounds.len();
-        few && costs.len() == bounds.len() && are_below(rows, bounds.len())
+        if !few || costs.len() != bounds.len() {
+            return false;
+        }
+        for row in rows {
+            if !stands_below(row.terms(), bounds.len()) {
+                return false;
+            }
+        }
+        true
     }
 
     /// The linear program of rows, sides and costs.

@@ -63,30 +63,6 @@ fn flipping_move(start: &Start, dict: &Dict, v: u32) -> Option<Move>
     }
 }
 
-/// Makes a move, where there is one, and puts it at the end of the list of moves; answers the move where it is out of
-/// range, and then the state is as before. `Err` where memory was refused.
-fn make_next(
-    dict: &mut Dict,
-    chosen: Option<Move>,
-    moves: &mut Vec<Move>,
-) -> Result<Option<Move>, AllocError>
-    requires { starts.CanMake dict.old chosen }
-    ensures made { IfOk result (λ wide.
-        starts.begun_by (record { moves = moves.old.items; last = dict.old; wide = None }) chosen
-        ≡ record { moves = moves.new.items; last = dict.new; wide = wide }) }
-    ensures variables { IfOk result (λ _. def.size dict.new ≡ def.size dict.old) }
-{
-    let Some(next) = chosen else {
-        return Ok(None);
-    };
-    if make(dict, next)? {
-        moves.push(next)?;
-        Ok(None)
-    } else {
-        Ok(Some(next))
-    }
-}
-
 /// Makes the flipping moves of n variables, or else their entering moves, by rising number, and puts each at the end of
 /// the list of moves; answers the first that is out of range, at which it stops. `Err` where memory was refused.
 fn make_each(
@@ -111,9 +87,13 @@ fn make_each(
         } else {
             entering_move(start, dict, v as u32)
         };
-        if let Some(wide) = make_next(dict, chosen, moves)? {
-            return Ok(Some(wide));
+        let Some(next) = chosen else {
+            continue;
+        };
+        if !make(dict, next)? {
+            return Ok(Some(next));
         }
+        moves.push(next)?;
     }
     Ok(None)
 }

@@ -4,7 +4,7 @@ ghost use Rattle.cip_bland.specs.Dictionary as def;
 ghost use Rattle.cip_bland.specs.Exchange.{after, CanMove};
 ghost use Rattle.cip_bland.specs.MoveOperations.{move_operations};
 ghost use Rattle.cip_bland.specs.Rule as rule;
-ghost use Rattle.cip_bland.specs.MoveList.{is_out_of_range, wide_way_of, ending_at};
+ghost use Rattle.cip_bland.specs.MoveList.{is_out_of_range, ending_at};
 ghost use Rattle.cip_simplex.specs.Advances.{IsChoice, IsAdvance, ending_of};
 
 use crate::choice::{
@@ -93,20 +93,6 @@ pub(crate) fn make(dict: &mut Dict, chosen: Move) -> Result<bool, AllocError>
     }
 }
 
-/// Makes the next move, whose ways are in range. `Err` where memory was refused.
-fn carry_out(dict: &mut Dict, chosen: Move) -> Result<Advance, AllocError>
-    requires can { CanMove dict.old chosen }
-    requires is_next { rule.next dict.old ≡ Step.Makes chosen }
-    requires ways_fit { wide_way_of dict.old chosen (rule.least_outside dict.old) ≡ None }
-    ensures { IfOk result (IsAdvance dict.old dict.new) }
-{
-    if make(dict, chosen)? {
-        Ok(Advance::Made(chosen))
-    } else {
-        Ok(Advance::Wide(chosen))
-    }
-}
-
 /// The move by which j goes a way.
 pub(crate) fn move_by(j: u32, way: &Way) -> Move
     ensures { result ≡ rule.move_by j way.now }
@@ -124,16 +110,21 @@ pub(crate) fn take_step(dict: &mut Dict) -> Result<Advance, AllocError>
     requires { def.size dict.old < 2 ^ 32 }
     ensures { IfOk result (IsAdvance dict.old dict.new) }
 {
-    match choose(dict) {
-        Choice::Crossed(v) => Ok(Advance::End(Step::Crossed(v))),
-        Choice::Infeasible(i) => Ok(Advance::End(Step::Infeasible(i))),
-        Choice::Optimum => Ok(Advance::End(Step::Optimum)),
-        Choice::Repair(i, j, to) => carry_out(dict, Move::Exchange(i, j, to)),
+    let chosen = match choose(dict) {
+        Choice::Crossed(v) => return Ok(Advance::End(Step::Crossed(v))),
+        Choice::Infeasible(i) => return Ok(Advance::End(Step::Infeasible(i))),
+        Choice::Optimum => return Ok(Advance::End(Step::Optimum)),
+        Choice::Repair(i, j, to) => Move::Exchange(i, j, to),
         Choice::Improve(j) => match shortest_way(dict, j) {
-            Err(wide) => Ok(Advance::Wide(wide)),
-            Ok(None) => Ok(Advance::End(Step::Ray(j))),
-            Ok(Some(way)) => carry_out(dict, move_by(j, &way)),
+            Err(wide) => return Ok(Advance::Wide(wide)),
+            Ok(None) => return Ok(Advance::End(Step::Ray(j))),
+            Ok(Some(way)) => move_by(j, &way),
         },
+    };
+    if make(dict, chosen)? {
+        Ok(Advance::Made(chosen))
+    } else {
+        Ok(Advance::Wide(chosen))
     }
 }
 

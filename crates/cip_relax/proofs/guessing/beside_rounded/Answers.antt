@@ -2,11 +2,13 @@ use Rattle.std.proofs.Common.{IfSome, subst}
 use Rattle.cip_problem.specs.LinearProgram.{LinearProgram, IsPoint}
 use Rattle.cip_relax.proofs.guessing.beside_rounded.Goals as goal
 
-pub returns-in-Beside : goal.returns-in-Beside
-returns-in-Beside c = λ lent box columns same near.
+pub returns-then-is_some : goal.returns-then-is_some
+returns-then-is_some c = λ lent box columns same near. near
+
+pub returns-else-is_some : goal.returns-else-is_some
+returns-else-is_some c = λ lent box columns same near.
     let point = subst (λ (lp : LinearProgram). IfSome c.in_ok-point.point (λ values. IsPoint lp values.items)) same c.in_ok-point.ensures.point in
-    let other = rw c.in-Beside.is at (c.weighed.ensures lent box columns point near.bound) in
-    c.first_with_point.ensures c.args.program.now lent box near other
+    rw c.in-Beside.is at (c.weighed.ensures lent box columns point near.bound)
 
 pub returns-in-Shown : goal.returns-in-Shown
 returns-in-Shown c = λ lent box columns same near.

@@ -1,9 +1,29 @@
 use Rattle.std.proofs.Common.{refl, sym, ◌∙◌}
+use Rattle.cip_bland.specs.Exchange.{CanMove}
 use Rattle.cip_simplex.proofs.FreeMoves.{descent_can, falls_freely}
 use Rattle.cip_simplex.proofs.greedy_steps.take_chosen.Goals as goal
+use Rattle.cip_simplex.proofs.greedy_steps.take_chosen.Goals.{in-Repair, in-Improve+in-Ok-Some}
 
-pub make_chosen-requires-in-Ok-Some : goal.make_chosen-requires-in-Ok-Some
-make_chosen-requires-in-Ok-Some c = descent_can c.args.dict.now c.in-Improve.j (rw c.in-Improve.is at c.pick.ensures) _ c.move_by.result c.in-Ok-Some.ensures.consistent (sym c.in-Ok-Some.field-0-is ∙ c.in-Ok-Some.ensures.shortest.1) c.move_by.ensures
+pub make-requires : goal.make-requires
+make-requires c =
+    let can : CanMove c.args.dict.now c.match-pick.chosen =
+    elim c.match-pick.branch [
+      | in-Repair w ↦ rw w.chosen-is (rw w.in-Repair.is at c.pick.ensures)
+      | in-Improve+in-Ok-Some w ↦ rw w.chosen-is (descent_can c.args.dict.now w.in-Improve.j (rw w.in-Improve.is at c.pick.ensures) _ w.move_by.result w.in-Ok-Some.ensures.consistent (sym w.in-Ok-Some.field-0-is ∙ w.in-Ok-Some.ensures.shortest.1) w.move_by.ensures)
+    ] in
+    can
 
 pub returns-in-Ok-None : goal.returns-in-Ok-None
 returns-in-Ok-None c = (falls_freely c.args.dict.now c.in-Improve.j (rw c.in-Improve.is at c.pick.ensures) (sym c.in-Ok-None.field-0-is ∙ c.in-Ok-None.ensures.shortest.1), refl)
+
+pub returns-then-branch : goal.returns-then-branch
+returns-then-branch c =
+    let can : CanMove c.args.dict.now c.match-pick.chosen =
+    elim c.match-pick.branch [
+      | in-Repair w ↦ rw w.chosen-is (rw w.in-Repair.is at c.pick.ensures)
+      | in-Improve+in-Ok-Some w ↦ rw w.chosen-is (descent_can c.args.dict.now w.in-Improve.j (rw w.in-Improve.is at c.pick.ensures) _ w.move_by.result w.in-Ok-Some.ensures.consistent (sym w.in-Ok-Some.field-0-is ∙ w.in-Ok-Some.ensures.shortest.1) w.move_by.ensures)
+    ] in
+    (can, (rw c.if-branch.true at c.in_ok-make.ensures).1)
+
+pub returns-else-branch : goal.returns-else-branch
+returns-else-branch c = (rw c.if-branch.false at c.in_ok-make.ensures).1

@@ -1,32 +1,20 @@
-use Rattle.std.proofs.Common.{◌≡◌, cond, None, sym, ap, ◌∙◌, subst, arith}
-use Rattle.cip_simplex.specs.Starts.{Begun, flipping_move, entering_move, CanMake}
+use Rattle.std.proofs.lemmas.Grind.{common_steps}
+use Rattle.std.proofs.Common.{◌≡◌, cond, None, Some, sym, ap, ◌∙◌, subst, arith}
+use Rattle.cip_bland.specs.Dictionary.{size}
+use Rattle.cip_bland.proofs.ListEnds.{size_after}
+use Rattle.cip_simplex.specs.Starts.{Begun, begun_by, flipping_move, entering_move, CanMake}
 use Rattle.cip_simplex.proofs.Begins.{begun_next, begun_stops}
 use Rattle.cip_simplex.proofs.start_moves.make_each.Goals as goal
 use Rattle.cip_simplex.proofs.start_moves.make_each.Goals.{then-flips, else-flips}
 
-pub returns-in-Some-clause-made : goal.returns-in-Some-clause-made
-returns-in-Some-clause-made c =
-    let chosen : c.if-flips.chosen ≡ (cond c.args.flips (flipping_move c.args.start.now) (entering_move c.args.start.now)) c.loop-v.dict c.loop-v.v =
-    elim c.if-flips.branch [
-      | then-flips w ↦ rw w.if-flips.true (w.chosen-is ∙ w.flipping_move-chosen.ensures.chosen)
-      | else-flips w ↦ rw w.if-flips.false (w.chosen-is ∙ w.entering_move-chosen.ensures.chosen)
-    ] in
-    let b : Begun = record { moves = c.args.moves.now.items; last = c.args.dict.now; wide = None } in
-    begun_stops (cond c.args.flips (flipping_move c.args.start.now) (entering_move c.args.start.now)) b c.args.n c.loop-v.v c.loop-v.moves.items c.make_next.new.moves.items c.loop-v.dict c.make_next.new.dict c.if-flips.chosen c.in-Some.wide c.loop-v-test.true c.loop-v.invariant.made chosen
-    (c.in_ok-wide.ensures.made ∙ ap (λ w. record { moves = c.make_next.new.moves.items; last = c.make_next.new.dict; wide = w }) c.in-Some.is)
-
-pub flipping_move-chosen-requires-clause-long : goal.flipping_move-chosen-requires-clause-long
-flipping_move-chosen-requires-clause-long c = c.requires.long ∙ sym c.loop-v.invariant.variables
-
-pub make_next-requires : goal.make_next-requires
-make_next-requires c =
+pub make-requires : goal.make-requires
+make-requires c =
+    let can : CanMake c.loop-v.dict c.if-flips.chosen =
     elim c.if-flips.branch [
       | then-flips w ↦ subst (CanMake c.loop-v.dict) (sym w.chosen-is) w.flipping_move-chosen.ensures.can
       | else-flips w ↦ subst (CanMake c.loop-v.dict) (sym w.chosen-is) w.entering_move-chosen.ensures.can
-    ]
-
-pub returns-in-Some-clause-variables : goal.returns-in-Some-clause-variables
-returns-in-Some-clause-variables c = c.in_ok-wide.ensures.variables ∙ c.loop-v.invariant.variables
+    ] in
+    rw c.in-Some.is at can
 
 pub loop-v-preserved : goal.loop-v-preserved
 loop-v-preserved c =
@@ -36,11 +24,24 @@ loop-v-preserved c =
       | else-flips w ↦ rw w.if-flips.false (w.chosen-is ∙ w.entering_move-chosen.ensures.chosen)
     ] in
     let b : Begun = record { moves = c.args.moves.now.items; last = c.args.dict.now; wide = None } in
+    let before : Begun = record { moves = c.loop-v.moves.items; last = c.loop-v.dict; wide = None } in
+    let next : begun_by before (Some c.in-Some.next) ≡ record { moves = c.push.new.self.items; last = c.make.new.dict; wide = None } = grind (arith, common_steps) in
     record {
-      variables = c.in_ok-wide.ensures.variables ∙ c.loop-v.invariant.variables;
-      made = begun_next (cond c.args.flips (flipping_move c.args.start.now) (entering_move c.args.start.now)) b c.loop-v.v c.loop-v.moves.items c.loop-v.dict c.if-flips.chosen _ c.loop-v.invariant.made chosen
-          (c.in_ok-wide.ensures.made ∙ ap (λ w. record { moves = c.make_next.new.moves.items; last = c.make_next.new.dict; wide = w }) c.in_default.is);
+      variables = ap size (rw c.if-not-branch.false at c.in_ok-make.ensures).1 ∙ size_after c.loop-v.dict c.in-Some.next ∙ c.loop-v.invariant.variables;
+      made = begun_next (cond c.args.flips (flipping_move c.args.start.now) (entering_move c.args.start.now)) b c.loop-v.v c.loop-v.moves.items c.loop-v.dict c.if-flips.chosen _ c.loop-v.invariant.made chosen (ap (begun_by before) c.in-Some.is ∙ next);
     }
+
+pub returns-then-not-branch-clause-made : goal.returns-then-not-branch-clause-made
+returns-then-not-branch-clause-made c =
+    let chosen : c.if-flips.chosen ≡ (cond c.args.flips (flipping_move c.args.start.now) (entering_move c.args.start.now)) c.loop-v.dict c.loop-v.v =
+    elim c.if-flips.branch [
+      | then-flips w ↦ rw w.if-flips.true (w.chosen-is ∙ w.flipping_move-chosen.ensures.chosen)
+      | else-flips w ↦ rw w.if-flips.false (w.chosen-is ∙ w.entering_move-chosen.ensures.chosen)
+    ] in
+    let b : Begun = record { moves = c.args.moves.now.items; last = c.args.dict.now; wide = None } in
+    let before : Begun = record { moves = c.loop-v.moves.items; last = c.loop-v.dict; wide = None } in
+    let next : begun_by before (Some c.in-Some.next) ≡ record { moves = c.loop-v.moves.items; last = c.make.new.dict; wide = Some c.in-Some.next } = grind (arith, common_steps) in
+    begun_stops (cond c.args.flips (flipping_move c.args.start.now) (entering_move c.args.start.now)) b c.args.n c.loop-v.v c.loop-v.moves.items c.loop-v.moves.items c.loop-v.dict c.make.new.dict c.if-flips.chosen c.in-Some.next c.loop-v-test.true c.loop-v.invariant.made chosen (ap (begun_by before) c.in-Some.is ∙ next)
 
 pub returns-clause-made : goal.returns-clause-made
 returns-clause-made c =

@@ -1,7 +1,0 @@
-use Rattle.std.proofs.Common.{◌≡◌}
-use Rattle.cip_relax.specs.NodeRows.{named_multiple}
-use Rattle.cip_relax.proofs.Lists.{first_mapped}
-use Rattle.cip_relax.proofs.names.name_rows.Given as goal
-
-abbrev pub invariant-loop-at : goal.invariant-loop-at
-invariant-loop-at l = l.rows.items ≡ first_mapped (named_multiple l.own l.ids) l.at l.fn.rows.items

@@ -1,7 +1,0 @@
-use Rattle.std.proofs.Common.{take, All}
-use Rattle.cip_problem.specs.Activity.{StandsBelow}
-use Rattle.cip_problem.specs.Program.{Row}
-use Rattle.cip_simplex.proofs.lp.are_below.Given as goal
-
-abbrev pub invariant-loop-row : goal.invariant-loop-row
-invariant-loop-row l = All (λ (row : Row). StandsBelow l.columns row.terms) (take l.row-index l.rows)
