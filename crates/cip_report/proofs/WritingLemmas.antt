@@ -111,6 +111,20 @@ third_of_three result old mid next new front first second third held kept buffer
     subst (λ text. Writes result old new text buffered) (sym (three_parts front first second third))
     (Writes-more result old next new (front ++ first ++ second) kept third buffered (Passes-more old mid next (front ++ first) held second kept done more) last)
 
+-- three texts that were all written
+pub Passes-three : (old mid next new : SinkTells) (front first second third held kept buffered : List ℕ) → Passes old mid (front ++ first) held → Passes mid next (held ++ second) kept → Passes next new (kept ++ third) buffered → Passes old new (front ++ (first ++ second ++ third)) buffered
+Passes-three old mid next new front first second third held kept buffered done more last =
+    third_of_three {T = ℕ} {E = ℕ} (Ok 0) old mid next new front first second third held kept buffered done more last
+
+-- a text that failed
+pub Writes-part : {T E : Type 0} (result : Result T E) (old new : SinkTells) (text buffered : List ℕ) → IsErr result → PushesPart old new text → Writes result old new text buffered
+Writes-part (Ok x) old new text buffered failed part = absurd (cc)
+Writes-part (Err e) old new text buffered failed part = part
+
+pub failed_told : {T E : Type 0} (result : Result T E) (old new : SinkTells) (text buffered : List ℕ) → IsErr result → Writes result old new text buffered → MatchResult result (λ _. TakesAll old new text) (λ _. PushesPart old new text)
+failed_told (Ok x) old new text buffered failed h = absurd (cc)
+failed_told (Err e) old new text buffered failed h = h
+
 -- what was buffered is handed on
 pub Writes-flushed : {T E : Type 0} (result : Result T E) (old mid new : SinkTells) (text held buffered : List ℕ) → Passes old mid text held → Writes result mid new held buffered → OnOk result (buffered ≡ []) → MatchResult result (λ _. TakesAll old new text) (λ _. PushesPart old new text)
 Writes-flushed (Ok x) old mid new text held buffered first last empty =

@@ -27,18 +27,21 @@ pub struct Drawn {
     pub entries: u64,
 }
 
-/// Writes the answer, of which an end may be left in the buffer.
-fn write_self<K: Sink>(
-    out: &mut K,
-    buffer: &mut Buffer,
+/// Writes the answer of a search of a program that is drawn, with what is told of the program: status, cost and bound,
+/// whatever the end. It takes no memory. After an `Err` the sink took a part of it.
+pub fn report_self<K: Sink>(
     drawn: Drawn,
     program: &Program,
     answer: &Answer,
+    out: &mut K,
 ) -> Result<(), Failed>
-    ensures taken { Writes result (K.tells out.old) (K.tells out.new)
-        (buffer.old ++ self_text (drawn_of drawn) (figures_of program.now answer.now)) buffer.new }
+    ensures taken { let text = self_text (drawn_of drawn) (figures_of program.now answer.now) in
+        MatchResult result
+        (λ _. TakesAll (K.tells out.old) (K.tells out.new) text)
+        (λ _. PushesPart (K.tells out.old) (K.tells out.new) text) }
     ensures faults { CountsFaults result (K.tells out.old).faults (K.tells out.new).faults }
 {
+    let mut buffer = Buffer::new();
     let mut seed_digits = Digits::new();
     let mut column_digits = Digits::new();
     let mut row_digits = Digits::new();
@@ -64,25 +67,7 @@ fn write_self<K: Sink>(
             b"\n",
         ],
     )?;
-    write_costs(out, buffer, program, answer)?;
-    buffer.write(out, b"end\n")
-}
-
-/// Writes the answer of a search of a program that is drawn, with what is told of the program: status, cost and bound,
-/// whatever the end. It takes no memory. After an `Err` the sink took a part of it.
-pub fn report_self<K: Sink>(
-    drawn: Drawn,
-    program: &Program,
-    answer: &Answer,
-    out: &mut K,
-) -> Result<(), Failed>
-    ensures taken { let text = self_text (drawn_of drawn) (figures_of program.now answer.now) in
-        MatchResult result
-        (λ _. TakesAll (K.tells out.old) (K.tells out.new) text)
-        (λ _. PushesPart (K.tells out.old) (K.tells out.new) text) }
-    ensures faults { CountsFaults result (K.tells out.old).faults (K.tells out.new).faults }
-{
-    let mut buffer = Buffer::new();
-    write_self(out, &mut buffer, drawn, program, answer)?;
+    write_costs(out, &mut buffer, program, answer)?;
+    buffer.write(out, b"end\n")?;
     buffer.flush(out)
 }

@@ -1,5 +1,5 @@
 //! The lines of a trace, written to a sink.
-ghost use Rattle.std.specs.Prelude.{◌≡◌, ◌++◌, ◌∷◌, [], map, slice_get};
+ghost use Rattle.std.specs.Prelude.{◌≡◌, ◌++◌, ◌∷◌, [], slice_get};
 ghost use Rattle.cip_io.specs.Faults.{CountsFaults};
 ghost use Rattle.cip_search.specs.TraceTexts.{trace_line, trace_lines};
 ghost use Rattle.cip_report.specs.Traces.{word_text, name_or_mark, traced_line, kept_lines};
@@ -56,24 +56,7 @@ fn write_traced<K: Sink>(
     write_word(out, buffer, traced.word)
 }
 
-/// Writes the lines, numbered from 1.
-fn write_lines<K: Sink>(
-    out: &mut K,
-    buffer: &mut Buffer,
-    names: &[Name],
-    lines: &[TraceLine],
-) -> Result<(), Failed>
-    ensures taken { Writes result (K.tells out.old) (K.tells out.new)
-        (buffer.old ++ trace_lines 1 (map (traced_line names.now) lines.now)) buffer.new }
-    ensures faults { CountsFaults result (K.tells out.old).faults (K.tells out.new).faults }
-{
-    for place in 0..lines.len() {
-        write_traced(out, buffer, place as u64 + 1, names, lines[place])?;
-    }
-    Ok(())
-}
-
-/// Writes the lines of the trace, if one was kept.
+/// Writes the lines of the trace, numbered from 1, if one was kept.
 pub(crate) fn write_kept<K: Sink>(
     out: &mut K,
     buffer: &mut Buffer,
@@ -83,8 +66,13 @@ pub(crate) fn write_kept<K: Sink>(
         (buffer.old ++ trace_lines 1 (kept_lines trace.now)) buffer.new }
     ensures faults { CountsFaults result (K.tells out.old).faults (K.tells out.new).faults }
 {
-    match trace {
-        Some(trace) => write_lines(out, buffer, trace.names.as_slice(), trace.lines.as_slice()),
-        None => Ok(()),
+    let Some(kept) = trace else {
+        return Ok(());
+    };
+    let names = kept.names.as_slice();
+    let lines = kept.lines.as_slice();
+    for place in 0..lines.len() {
+        write_traced(out, buffer, place as u64 + 1, names, lines[place])?;
     }
+    Ok(())
 }

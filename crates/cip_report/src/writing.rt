@@ -160,16 +160,9 @@ fn write_held<K: Sink>(
         buffer.new }
     ensures faults { CountsFaults result (K.tells out.old).faults (K.tells out.new).faults }
 {
+    let names = program.column_names();
     match held {
-        Some(held) => {
-            write_point(
-                out,
-                buffer,
-                b"",
-                program.column_names(),
-                held.point.as_slice(),
-            )
-        }
+        Some(held) => write_point(out, buffer, b"", names, held.point.as_slice()),
         None => Ok(()),
     }
 }
@@ -286,26 +279,9 @@ fn write_shown<K: Sink>(
     }
 }
 
-/// Writes the lines of cost, bound, the point and the ray or leaf that is shown.
+/// Writes the lines between those of status and end: cost, bound, the point and the ray or leaf that is shown; after
+/// infeasible there are none.
 fn write_figures<K: Sink>(
-    out: &mut K,
-    buffer: &mut Buffer,
-    program: &Program,
-    answer: &Answer,
-) -> Result<(), Failed>
-    requires { AnswerFits program.now answer.now }
-    ensures taken { let figures = figures_of program.now answer.now in let names = names_of program.now in
-        Writes result (K.tells out.old) (K.tells out.new) (buffer.old ++ (cost_lines figures
-        ++ held_lines names.columns figures.held ++ shown_lines names figures.status)) buffer.new }
-    ensures faults { CountsFaults result (K.tells out.old).faults (K.tells out.new).faults }
-{
-    write_costs(out, buffer, program, answer)?;
-    write_held(out, buffer, program, &answer.best)?;
-    write_shown(out, buffer, program, &answer.ended)
-}
-
-/// Writes the lines between those of status and end: after infeasible there are none.
-fn write_body<K: Sink>(
     out: &mut K,
     buffer: &mut Buffer,
     program: &Program,
@@ -318,27 +294,12 @@ fn write_body<K: Sink>(
 {
     match answer.ended {
         Ended::Infeasible => Ok(()),
-        _ => write_figures(out, buffer, program, answer),
+        _ => {
+            write_costs(out, buffer, program, answer)?;
+            write_held(out, buffer, program, &answer.best)?;
+            write_shown(out, buffer, program, &answer.ended)
+        }
     }
-}
-
-/// Writes the answer, of which an end may be left in the buffer.
-fn write_answer<K: Sink>(
-    out: &mut K,
-    buffer: &mut Buffer,
-    program: &Program,
-    answer: &Answer,
-) -> Result<(), Failed>
-    requires { AnswerFits program.now answer.now }
-    ensures taken { Writes result (K.tells out.old) (K.tells out.new)
-        (buffer.old ++ traced_text (names_of program.now) (figures_of program.now answer.now)
-        (kept_lines answer.now.trace)) buffer.new }
-    ensures faults { CountsFaults result (K.tells out.old).faults (K.tells out.new).faults }
-{
-    write_line(out, buffer, b"", b"status", answer.ended.word().as_bytes())?;
-    write_body(out, buffer, program, answer)?;
-    write_kept(out, buffer, &answer.trace)?;
-    buffer.write(out, b"end\n")
 }
 
 /// Writes the answer of a search, with the lines of its trace, and takes no memory. After an `Err` the sink took a part
@@ -353,6 +314,10 @@ pub fn report<K: Sink>(program: &Program, answer: &Answer, out: &mut K) -> Resul
     ensures faults { CountsFaults result (K.tells out.old).faults (K.tells out.new).faults }
 {
     let mut buffer = Buffer::new();
-    write_answer(out, &mut buffer, program, answer)?;
+    let word = answer.ended.word().as_bytes();
+    write_line(out, &mut buffer, b"", b"status", word)?;
+    write_figures(out, &mut buffer, program, answer)?;
+    write_kept(out, &mut buffer, &answer.trace)?;
+    buffer.write(out, b"end\n")?;
     buffer.flush(out)
 }

@@ -1,52 +1,101 @@
 use Rattle.std.proofs.lemmas.Grind.{common_steps}
-use Rattle.std.proofs.Common.{length, List, arith}
-use Rattle.std.proofs.lemmas.Option.{slice_get_within}
-use Rattle.cip_rational.specs.Rational.{ℚ}
-use Rattle.cip_problem.specs.Program.{Program}
+use Rattle.std.proofs.Common.{◌≡◌, ◌<◌, ℕ, Some, length, get_or, List, refl, sym, ◌∙◌, subst, arith}
+use Rattle.std.specs.Prelude.{slice_get}
+use Rattle.std.proofs.lemmas.Option.{slice_get_within, slice_get_read, get_or_from_slice_get, same_Some}
+use Rattle.cip_problem.specs.Program.{Row}
+use Rattle.cip_problem.specs.Box.{Between}
 use Rattle.cip_model.specs.declared.verdicts.Place.{Place}
-use Rattle.cip_model.specs.declared.verdicts.Place.TheVariants.{Row, Cost}
-use Rattle.cip_model.specs.Meaning.{IsFractional, IsBroken, Overflows}
-use Rattle.cip_leaf.specs.declared.answers.Shown.TheVariants.{Place as AtPlace}
-use Rattle.cip_report.specs.Answers.{StandsAmong}
+use Rattle.cip_model.specs.Meaning.{IsOutside, IsFractional, IsBroken, RowOverflows, Overflows}
+use Rattle.cip_report.proofs.ToldSides.{outside_told, value_there}
+use Rattle.cip_report.proofs.WritingLemmas.{no_name}
 use Rattle.cip_report.proofs.checks.write_verdict.Goals as goal
 
--- a sum that overflows is that of one of the rows, or of the cost
-stands_among : (program : Program) (point : List ℚ) (place : Place) → Overflows program point place → StandsAmong (length program.rows) (AtPlace place)
-stands_among program point (Row number) held = slice_get_within program.rows number held.row held.is_row
-stands_among program point Cost held = tt
-
-pub write_fractional-requires-clause-is_column : goal.write_fractional-requires-clause-is_column
-write_fractional-requires-clause-is_column g c =
-    let held : IsFractional c.args.program.now c.args.point.now c.in-BreaksWhole.col = rw c.in-BreaksWhole.is at c.requires.meaning in
-    slice_get_within _ _ _ held.integral
-
-pub write_row-requires-clause-is_row : goal.write_row-requires-clause-is_row
-write_row-requires-clause-is_row g c =
-    let held : IsBroken c.args.program.now.rows c.args.point.now c.in-BreaksRow.row c.in-BreaksRow.value = rw c.in-BreaksRow.is at c.requires.meaning in
-    slice_get_within _ _ _ held.is_row
-
-pub write_wide-requires : goal.write_wide-requires
-write_wide-requires g c =
-    let held : Overflows c.args.program.now c.args.point.now c.in-Wide.place = rw c.in-Wide.is at c.requires.meaning in
-    stands_among c.args.program.now c.args.point.now c.in-Wide.place held
-
-pub returns-in-BreaksRow-clause-taken : goal.returns-in-BreaksRow-clause-taken
-returns-in-BreaksRow-clause-taken g c = rw (c.in-BreaksRow.is) (c.write_row.ensures.taken c.args.point.now)
-
-pub returns-in-Wide-clause-taken : goal.returns-in-Wide-clause-taken
-returns-in-Wide-clause-taken g c = rw (c.in-Wide.is) (c.write_wide.ensures.taken c.args.point.now)
+pub write_broken-requires : goal.write_broken-requires
+write_broken-requires g c =
+    let held : IsOutside c.args.program.now c.args.point.now c.in-BreaksBound.col = rw c.in-BreaksBound.is at c.requires.meaning in
+    let within : c.in-BreaksBound.col < length c.args.point.now = subst (λ n. c.in-BreaksBound.col < n) (sym c.requires.long) held.is_column in
+    let value = value_there c.args.point.now c.in-BreaksBound.col c.index-point-number.result within c.index-point-number.is in
+    outside_told c.args.program.now c.args.point.now c.in-BreaksBound.col c.told_sides-sides.result c.index-point-number.result c.column_names.ensures.formed held c.told_sides-sides.ensures value
 
 pub returns-in-BreaksBound-clause-taken : goal.returns-in-BreaksBound-clause-taken
-returns-in-BreaksBound-clause-taken g c = grind (arith, common_steps)
+returns-in-BreaksBound-clause-taken g c =
+    let held : IsOutside c.args.program.now c.args.point.now c.in-BreaksBound.col = rw c.in-BreaksBound.is at c.requires.meaning in
+    let within : c.in-BreaksBound.col < length c.args.point.now = subst (λ n. c.in-BreaksBound.col < n) (sym c.requires.long) held.is_column in
+    let value = value_there c.args.point.now c.in-BreaksBound.col c.index-point-number.result within c.index-point-number.is in
+    let name = get_or_from_slice_get c.column_names.result.now c.in-BreaksBound.col c.name-name.result.now no_name c.name-name.ensures in
+    rw (c.in-BreaksBound.is, ← value, ← c.told_sides-sides.ensures, ← c.column_names.ensures.names, name) c.write_broken.ensures.taken
+
+pub name-name-requires-in-BreaksWhole : goal.name-name-requires-in-BreaksWhole
+name-name-requires-in-BreaksWhole g c =
+    let held : IsFractional c.args.program.now c.args.point.now c.in-BreaksWhole.col = rw c.in-BreaksWhole.is at c.requires.meaning in
+    let among : c.in-BreaksWhole.col < length c.args.program.now.integral = slice_get_within _ _ _ held.integral in
+    let formed = c.column_names-in-BreaksWhole.ensures.formed in
+    subst (λ (names : List (List ℕ)). c.in-BreaksWhole.col < length names) (sym c.column_names-in-BreaksWhole.ensures.names)
+    (subst (λ n. c.in-BreaksWhole.col < n) (formed.integral ∙ sym formed.column_names) among)
+
+pub bounds-point-number-in-BreaksWhole : goal.bounds-point-number-in-BreaksWhole
+bounds-point-number-in-BreaksWhole g c =
+    let held : IsFractional c.args.program.now c.args.point.now c.in-BreaksWhole.col = rw c.in-BreaksWhole.is at c.requires.meaning in
+    let among : c.in-BreaksWhole.col < length c.args.program.now.integral = slice_get_within _ _ _ held.integral in
+    subst (λ n. c.in-BreaksWhole.col < n) (c.column_names-in-BreaksWhole.ensures.formed.integral ∙ sym c.requires.long) among
 
 pub returns-in-BreaksWhole-clause-taken : goal.returns-in-BreaksWhole-clause-taken
-returns-in-BreaksWhole-clause-taken g c = grind (arith, common_steps)
+returns-in-BreaksWhole-clause-taken g c =
+    let held : IsFractional c.args.program.now c.args.point.now c.in-BreaksWhole.col = rw c.in-BreaksWhole.is at c.requires.meaning in
+    let among : c.in-BreaksWhole.col < length c.args.program.now.integral = slice_get_within _ _ _ held.integral in
+    let within : c.in-BreaksWhole.col < length c.args.point.now = subst (λ n. c.in-BreaksWhole.col < n) (c.column_names-in-BreaksWhole.ensures.formed.integral ∙ sym c.requires.long) among in
+    let value = value_there c.args.point.now c.in-BreaksWhole.col c.index-point-number-in-BreaksWhole.result within c.index-point-number-in-BreaksWhole.is in
+    let name = get_or_from_slice_get c.column_names-in-BreaksWhole.result.now c.in-BreaksWhole.col c.name-name-in-BreaksWhole.result.now no_name c.name-name-in-BreaksWhole.ensures in
+    rw (c.in-BreaksWhole.is, ← value, ← c.column_names-in-BreaksWhole.ensures.names, name) c.write_number-in-BreaksWhole.ensures.taken
+
+pub name-name-requires-in-BreaksRow : goal.name-name-requires-in-BreaksRow
+name-name-requires-in-BreaksRow g c =
+    let held : IsBroken c.args.program.now.rows c.args.point.now c.in-BreaksRow.row c.in-BreaksRow.value = rw c.in-BreaksRow.is at c.requires.meaning in
+    let among : c.in-BreaksRow.row < length c.args.program.now.rows = slice_get_within _ _ _ held.is_row in
+    subst (λ (names : List (List ℕ)). c.in-BreaksRow.row < length names) (sym c.row_names.ensures.names)
+    (subst (λ n. c.in-BreaksRow.row < n) (sym c.row_names.ensures.formed.row_names) among)
+
+pub bounds-rows-number : goal.bounds-rows-number
+bounds-rows-number g c =
+    let held : IsBroken c.args.program.now.rows c.args.point.now c.in-BreaksRow.row c.in-BreaksRow.value = rw c.in-BreaksRow.is at c.requires.meaning in
+    let among : c.in-BreaksRow.row < length c.args.program.now.rows = slice_get_within _ _ _ held.is_row in
+    subst (λ (rows : List Row). c.in-BreaksRow.row < length rows) (sym c.rows.ensures.rows) among
+
+pub write_broken-requires-in-BreaksRow : goal.write_broken-requires-in-BreaksRow
+write_broken-requires-in-BreaksRow g c =
+    let held : IsBroken c.args.program.now.rows c.args.point.now c.in-BreaksRow.row c.in-BreaksRow.value = rw c.in-BreaksRow.is at c.requires.meaning in
+    let among : c.in-BreaksRow.row < length c.args.program.now.rows = slice_get_within _ _ _ held.is_row in
+    let item = c.index-rows-number.result in
+    let row : slice_get c.args.program.now.rows c.in-BreaksRow.row ≡ Some item =
+    slice_get_read c.args.program.now.rows _ c.in-BreaksRow.row item refl among
+    (subst (λ (rows : List Row). item ≡ get_or rows c.in-BreaksRow.row item) c.rows.ensures.rows c.index-rows-number.is) in
+    let same : held.row ≡ item = same_Some held.row item (sym held.is_row ∙ row) in
+    let broken : ¬ Between held.row.low held.row.high c.in-BreaksRow.value = rw held.is_activity held.broken in
+    rw (c.low.ensures, c.high.ensures, ← same) broken
+
+pub returns-in-BreaksRow-clause-taken : goal.returns-in-BreaksRow-clause-taken
+returns-in-BreaksRow-clause-taken g c =
+    let held : IsBroken c.args.program.now.rows c.args.point.now c.in-BreaksRow.row c.in-BreaksRow.value = rw c.in-BreaksRow.is at c.requires.meaning in
+    let among : c.in-BreaksRow.row < length c.args.program.now.rows = slice_get_within _ _ _ held.is_row in
+    let item = c.index-rows-number.result in
+    let row : slice_get c.args.program.now.rows c.in-BreaksRow.row ≡ Some item =
+    slice_get_read c.args.program.now.rows _ c.in-BreaksRow.row item refl among
+    (subst (λ (rows : List Row). item ≡ get_or rows c.in-BreaksRow.row item) c.rows.ensures.rows c.index-rows-number.is) in
+    let name = get_or_from_slice_get c.row_names.result.now c.in-BreaksRow.row c.name-name-in-BreaksRow.result.now no_name c.name-name-in-BreaksRow.ensures in
+    rw (c.in-BreaksRow.is, row, ← c.low.ensures, ← c.high.ensures, ← c.row_names.ensures.names, name) c.write_broken-in-BreaksRow.ensures.taken
+
+pub name-row_name-requires : goal.name-row_name-requires
+name-row_name-requires g c =
+    let held : Overflows c.args.program.now c.args.point.now c.in-Wide.place = rw c.in-Wide.is at c.requires.meaning in
+    let row : RowOverflows c.args.program.now.rows c.args.point.now c.in-Row.number = subst (λ (p : Place). Overflows c.args.program.now c.args.point.now p) c.in-Row.is held in
+    let among : c.in-Row.number < length c.args.program.now.rows = slice_get_within _ _ _ row.is_row in
+    subst (λ (names : List (List ℕ)). c.in-Row.number < length names) (sym c.row_names-rows.ensures.names)
+    (subst (λ n. c.in-Row.number < n) (sym c.row_names-rows.ensures.formed.row_names) among)
+
+pub returns-in-Row-clause-taken : goal.returns-in-Row-clause-taken
+returns-in-Row-clause-taken g c =
+    let name = get_or_from_slice_get c.row_names-rows.result.now c.in-Row.number c.name-row_name.result.now no_name c.name-row_name.ensures in
+    rw (c.in-Wide.is, c.in-Row.is, ← c.row_names-rows.ensures.names, name) c.write_line.ensures.taken
 
 pub returns-in-Feasible-clause-taken : goal.returns-in-Feasible-clause-taken
 returns-in-Feasible-clause-taken g c = grind (arith, common_steps)
-
-pub write_bound-requires-clause-outside : goal.write_bound-requires-clause-outside
-write_bound-requires-clause-outside g c = grind (arith, common_steps)
-
-pub write_row-requires-clause-outside : goal.write_row-requires-clause-outside
-write_row-requires-clause-outside g c = grind (arith, common_steps)

@@ -33,3 +33,24 @@ returns-in-Unbounded-clause-taken g c = grind (arith, common_steps)
 
 pub returns-in_default : goal.returns-in_default
 returns-in_default g c = grind (arith, common_steps)
+
+pub write_leaf_choices-requires-clause-among : goal.write_leaf_choices-requires-clause-among
+write_leaf_choices-requires-clause-among g c = grind (arith, common_steps)
+
+pub write_leaf_choices-requires-clause-fits : goal.write_leaf_choices-requires-clause-fits
+write_leaf_choices-requires-clause-fits g c = grind (arith, common_steps)
+
+pub write_leaf_values-requires-clause-fits : goal.write_leaf_values-requires-clause-fits
+write_leaf_values-requires-clause-fits g c = grind (arith, common_steps)
+
+pub write_leaf_values-requires-clause-long : goal.write_leaf_values-requires-clause-long
+write_leaf_values-requires-clause-long g c = grind (arith, common_steps)
+
+pub write_overflow-requires : goal.write_overflow-requires
+write_overflow-requires g c = grind (arith, common_steps)
+
+pub write_point-requires : goal.write_point-requires
+write_point-requires g c = grind (arith, common_steps)
+
+pub returns-in_ok-write_leaf_choices-in-Wide-clause-faults : goal.returns-in_ok-write_leaf_choices-in-Wide-clause-faults
+returns-in_ok-write_leaf_choices-in-Wide-clause-faults g c = grind (arith, common_steps)

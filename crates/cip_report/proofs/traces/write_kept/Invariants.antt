@@ -2,7 +2,7 @@ use Rattle.std.proofs.Common.{◌≡◌, ◌++◌, take, map}
 use Rattle.cip_search.specs.TraceTexts.{trace_lines}
 use Rattle.cip_report.specs.Traces.{traced_line}
 use Rattle.cip_report.specs.Writing.{Passes}
-use Rattle.cip_report.proofs.traces.write_lines.Given as goal
+use Rattle.cip_report.proofs.traces.write_kept.Given as goal
 
 -- the lines so far have been written, with no fault
 abbrev pub invariant-loop-place : goal.invariant-loop-place

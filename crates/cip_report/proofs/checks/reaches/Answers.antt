@@ -1,6 +1,0 @@
-use Rattle.std.proofs.Common.{◌∙◌}
-use Rattle.cip_rational.proofs.Comparisons.{is_le-compare}
-use Rattle.cip_report.proofs.checks.reaches.Goals as goal
-
-pub returns : goal.returns
-returns c = c.le.ensures ∙ is_le-compare _ _
