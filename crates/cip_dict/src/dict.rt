@@ -17,7 +17,7 @@ use crate::first::{System, all_sides, first_lists, first_stands};
 use crate::flip::{plan_flip, take_flip};
 use crate::lists::{Lists, Room};
 use crate::pivots::Exchange;
-use crate::spare::{Spare, keep};
+use crate::spare::{Spare, keep, keep_counted};
 use cip_bland::Stand;
 use cip_frac::Frac;
 use cip_lin::Sides;
@@ -108,7 +108,13 @@ impl Dict {
         spare.keep_form(self.lists.costs);
         keep(&mut spare.numbers, self.lists.values);
         spare.keep_form(self.room.entering);
-        spare.keep_scratch(self.room.scratch);
+        let scratch = self.room.scratch;
+        keep_counted(
+            &mut spare.entries,
+            &mut spare.room,
+            scratch.entering.entries,
+        );
+        keep_counted(&mut spare.entries, &mut spare.room, scratch.row);
         spare.keep_forms(self.room.rows);
         spare.keep_form(self.room.costs);
         keep(&mut spare.numbers, self.room.values);

@@ -1,6 +1,6 @@
 //! Single entries and values of a dictionary, each formed at its place.
 ghost use Rattle.std.specs.Prelude.{◌≡◌, ◌∷◌, [], Some, None, MatchResult};
-ghost use Rattle.cip_rational.specs.Rational.{◌+ℚ◌, ◌-ℚ◌, ◌*ℚ◌, lt_test, is_zero};
+ghost use Rattle.cip_rational.specs.Rational.{zeroℚ, ◌+ℚ◌, ◌-ℚ◌, ◌*ℚ◌, lt_test, is_zero};
 ghost use Rattle.cip_bland.specs.Operations.{first_overflow, product_at, sum_at, Difference, Product, placed};
 ghost use Rattle.cip_dict.specs.Values.{IsAdded};
 
@@ -16,12 +16,12 @@ pub(crate) fn vanishes(a: Frac) -> bool
     a.is_zero()
 }
 
-/// Whether one number is below another.
+/// Whether a number is above 0.
 #[inline(always)]
-pub(crate) fn is_below(a: Frac, b: Frac) -> bool
-    ensures { result ≡ lt_test a b }
+pub(crate) fn is_above(a: Frac) -> bool
+    ensures { result ≡ lt_test zeroℚ a }
 {
-    a < b
+    a.is_positive()
 }
 
 /// The product a * b, for which nothing is formed where a factor is 0.

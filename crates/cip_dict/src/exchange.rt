@@ -18,7 +18,7 @@ ghost use Rattle.cip_dict.specs.Written.{entering_in, other_operations, OthersWr
 use crate::entries::{step_to, sum};
 use crate::fault::{MoveFault, OutOfRange};
 use crate::forms::{Form, count_room};
-use crate::lines::{write_solved, write_substituted};
+use crate::lines::{number_at, write_solved, write_substituted};
 use crate::lists::{Lists, Room, Scratch};
 use crate::pivots::{Exchange, Pivot};
 use crate::rows::{take_rows, write_rows};
@@ -154,14 +154,6 @@ fn write_lines(pivot: &Pivot, lists: &Lists, room: &mut Room) -> Result<(), Move
     write_others(pivot, lists, room)
 }
 
-/// A number of a list.
-pub(crate) fn number(numbers: &[Frac], k: u32) -> Frac
-    requires { k < length numbers.now }
-    ensures { result ≡ value_at numbers.now k }
-{
-    numbers[k as usize]
-}
-
 /// Writes the values after the variable that enters has moved by t, and answers the cost.
 fn write_moves(pivot: &Pivot, t: Frac, lists: &Lists, room: &mut Room) -> Result<Frac, OutOfRange>
     requires few { length pivot.now.standing.now < 2 ^ 32 }
@@ -214,7 +206,7 @@ fn write_values(
         (λ fault. first_overflow operations ≡ Some fault.place) }
     ensures long { HasRoom pivot.now.standing.now room.new }
 {
-    let value = number(lists.values.as_slice(), pivot.leaving);
+    let value = number_at(lists.values.as_slice(), pivot.leaving as usize);
     match step_to(
         value_of(Line::Row(pivot.leaving)),
         side,
@@ -235,17 +227,6 @@ pub(crate) fn value_at_stand(sides: Sides, at: Stand) -> Frac
         Stand::High => sides.high.unwrap_or(Frac::zero()),
         Stand::Zero => Frac::zero(),
     }
-}
-
-/// 1 over the entry of i on j, which isn't 0.
-fn inverse_of(rows: &[Form], i: u32, j: u32) -> Frac
-    requires within { i < length rows.now }
-    requires long { j < length (row_in rows.now i) }
-    requires nonzero { entry_in rows.now i j ≢ zeroℚ }
-    ensures value { result ≡ inverse (entry_in rows.now i j) }
-    ensures nonzero { is_zero result ≡ false }
-{
-    rows[i as usize].entry(j).reciprocal()
 }
 
 /// The value where a variable stands, by its number; 0 where it hasn't that side.
@@ -277,11 +258,13 @@ pub(crate) fn plan(
         (IsMoveFault operations) }
     ensures long { HasRoom standing.now room.new }
 {
+    let rows = lists.rows.as_slice();
+    let entry = rows[asked.leaving as usize].entry(asked.entering);
     let pivot = Pivot {
         standing,
         leaving: asked.leaving,
         entering: asked.entering,
-        inverse: inverse_of(lists.rows.as_slice(), asked.leaving, asked.entering),
+        inverse: entry.reciprocal(),
     };
     match write_lines(&pivot, lists, room) {
         Ok(()) => (),

@@ -16,7 +16,7 @@ use crate::forms::{Form, room_of};
 use crate::lines::is_basic;
 use crate::lists::{Lists, Room, Scratch, Spelled};
 use crate::settle::settle_lists;
-use crate::spare::{Spare, emptied, keep};
+use crate::spare::{Spare, emptied, filled, keep, taken};
 use cip_bland::{Line, Stand};
 use cip_frac::Frac;
 use cip_lin::Sides;
@@ -81,7 +81,13 @@ fn empty_row(alloc: Global, spare: &mut Spare, standing: &[Option<Stand>], v: us
     if is_basic(standing, v) {
         Form::zeros(alloc, spare, standing.len())
     } else {
-        Form::none(alloc)
+        Form {
+            entries: Vec::new(alloc),
+            wholes: Vec::new(alloc),
+            below: 1,
+            is_whole: true,
+            len: 0,
+        }
     }
 }
 
@@ -103,18 +109,6 @@ fn empty_rows(
         };
     }
     Ok(rows)
-}
-
-/// Puts an entry into its row, which is that of the variable past the columns by its number. `Err` where the memory was
-/// refused.
-fn put_entry(columns: usize, entry: (u32, u32, Frac), rows: &mut [Form]) -> Result<(), AllocError>
-    requires row { columns + entry.0 < length rows.old }
-    requires column { entry.1 < length (row_in rows.old (columns + entry.0)) }
-    ensures { OnOk result (rows.new ≡ slice_set rows.old (columns + entry.0)
-        (slice_set (row_in rows.old (columns + entry.0)) entry.1 entry.2)) }
-{
-    let row = &mut rows[columns + entry.0 as usize];
-    row.set(entry.1, entry.2)
 }
 
 /// The costs of all n variables: those of the columns, and 0 for rows; `Err` where the memory was refused.
@@ -148,17 +142,10 @@ fn put_entries(
     ensures long { OnOk result ((v : ℕ) → length (row_in rows.new v) ≡ length (row_in rows.old v)) }
 {
     for entry in entries {
-        put_entry(columns, *entry, rows)?;
+        let row = &mut rows[columns + entry.0 as usize];
+        row.set(entry.1, entry.2)?;
     }
     Ok(())
-}
-
-/// The value of column k at first.
-fn column_at(columns: &[Sides], k: usize) -> Frac
-    requires { k < length columns.now }
-    ensures { result ≡ column_value columns.now k }
-{
-    value_at_stand(columns[k], first_stand(columns[k]))
 }
 
 /// The values of the columns at first; `Err` where the memory was refused.
@@ -171,58 +158,13 @@ fn column_values(
 {
     let mut values = emptied(alloc, &mut spare.numbers);
     for k in 0..columns.len() {
-        let Ok(()) = values.push(column_at(columns, k)) else {
+        let sides = columns[k];
+        let Ok(()) = values.push(value_at_stand(sides, first_stand(sides))) else {
             drop(values);
             return Err(AllocError);
         };
     }
     Ok(values)
-}
-
-/// The value of row r at first, where the columns have these values.
-fn row_value(columns: usize, r: usize, rows: &[Form], at: &[Frac]) -> Result<Frac, OutOfRange>
-    requires few { columns + r < 2 ^ 32 }
-    requires within { columns + r < length rows.now }
-    requires row_long { columns ≤ length (row_in rows.now (columns + r)) }
-    requires at_long { columns ≤ length at.now }
-    ensures { let operations = row_operations columns rows.now at.now r in
-        MatchResult result
-        (λ v. (first_overflow operations ≡ None) × (v ≡ row_form columns rows.now at.now r))
-        (λ fault. first_overflow operations ≡ Some fault.place) }
-{
-    let line = Line::Row((columns + r) as u32);
-    rows[columns + r].value(line, columns, at)
-}
-
-/// Puts the values of the m rows, by rising number, at the end; the columns have the values `at`.
-fn row_values(
-    columns: usize,
-    m: usize,
-    rows: &[Form],
-    at: &[Frac],
-    values: &mut Vec<Frac>,
-) -> Result<(), FirstFault>
-    requires few { columns + m < 2 ^ 32 }
-    requires count { length rows.now ≡ columns + m }
-    requires long { (r : ℕ) → r < m → columns ≤ length (row_in rows.now (columns + r)) }
-    requires at_long { columns ≤ length at.now }
-    ensures { let operations = each m (row_operations columns rows.now at.now) in
-        MatchResult result
-        (λ _. (first_overflow operations ≡ None)
-        × (values.new.items ≡ values.old.items ++ table m (row_form columns rows.now at.now)))
-        (IsRowFault operations) }
-{
-    for r in 0..m {
-        let value = match row_value(columns, r, rows, at) {
-            Ok(value) => value,
-            Err(fault) => return Err(FirstFault::OutOfRange { place: fault.place }),
-        };
-        match values.push(value) {
-            Ok(()) => (),
-            Err(_) => return Err(FirstFault::NoMemory),
-        }
-    }
-    Ok(())
 }
 
 /// The rows of all variables at first; `Err` where the memory was refused.
@@ -266,9 +208,16 @@ fn rows_and_cost(
         × (cost ≡ form columns (value_at costs.now) (value_at at.now)))
         (IsRowFault operations) }
 {
-    match row_values(columns, m, rows, at, values) {
-        Ok(()) => (),
-        Err(fault) => return Err(fault),
+    for r in 0..m {
+        let line = Line::Row((columns + r) as u32);
+        let value = match rows[columns + r].value(line, columns, at) {
+            Ok(value) => value,
+            Err(fault) => return Err(FirstFault::OutOfRange { place: fault.place }),
+        };
+        match values.push(value) {
+            Ok(()) => (),
+            Err(_) => return Err(FirstFault::NoMemory),
+        }
     }
     match costs.value(Line::Cost, columns, at) {
         Ok(cost) => Ok(cost),
@@ -298,7 +247,8 @@ fn all_values(
 {
     let at = column_values(alloc, spare, columns)?;
     let begun = at.as_slice();
-    let mut values = spare.copy_of(alloc, begun)?;
+    let mut values = emptied(alloc, &mut spare.numbers);
+    values.extend_from_slice(begun)?;
     let found = rows_and_cost(columns.len(), m, rows, costs, begun, &mut values);
     keep(&mut spare.numbers, at);
     match found {
@@ -322,19 +272,6 @@ pub(crate) fn all_sides(
     Ok(sides)
 }
 
-/// Lists to work with, where all lines and the room for them hold so many entries.
-fn scratch_for(alloc: Global, spare: &mut Spare, held: usize) -> Scratch {
-    Scratch {
-        entering: Spelled {
-            entries: spare.entries(alloc),
-            is_done: false,
-        },
-        row: spare.entries(alloc),
-        sums: Vec::new(alloc),
-        held,
-    }
-}
-
 /// Room for what a move writes, beside these lists; `Err` where the memory was refused.
 fn room_for(
     alloc: Global,
@@ -344,8 +281,8 @@ fn room_for(
 ) -> Result<Room, AllocError>
     ensures { IfOk result (λ room. HasRoom standing.now room) }
 {
-    let changed = spare.marks(alloc, standing.len())?;
-    let values = spare.zeros(alloc, standing.len())?;
+    let changed = filled(alloc, &mut spare.marks, standing.len(), false)?;
+    let values = filled(alloc, &mut spare.numbers, standing.len(), Frac::zero())?;
     let entering = Form::zeros(alloc, spare, standing.len());
     let Ok(rows) = empty_rows(alloc, spare, standing) else {
         drop(entering);
@@ -355,8 +292,17 @@ fn room_for(
     let held = room_of(lists.rows.as_slice()).saturating_add(room_of(rows.as_slice()));
     let others = lists.costs.room().saturating_add(costs.room());
     let held = held.saturating_add(others).saturating_add(entering.room());
+    let scratch = Scratch {
+        entering: Spelled {
+            entries: taken(alloc, &mut spare.entries, &mut spare.room),
+            is_done: false,
+        },
+        row: taken(alloc, &mut spare.entries, &mut spare.room),
+        sums: Vec::new(alloc),
+        held,
+    };
     Ok(Room {
-        scratch: scratch_for(alloc, spare, held),
+        scratch,
         entering,
         rows,
         changed,
@@ -405,24 +351,6 @@ fn lists_for(
     }
 }
 
-/// Keeps the lines of these lists as whole numbers from now on, where they can be, and answers room for what a move
-/// writes beside them; `Err` where the memory was refused.
-fn settled_room(
-    alloc: Global,
-    spare: &mut Spare,
-    standing: &[Option<Stand>],
-    lists: &mut Lists,
-) -> Result<Room, AllocError>
-    ensures rows { lists.new.rows.items ≡ lists.old.rows.items }
-    ensures costs { lists.new.costs ≡ lists.old.costs }
-    ensures values { lists.new.values.items ≡ lists.old.values.items }
-    ensures cost { lists.new.cost ≡ lists.old.cost }
-    ensures room { IfOk result (λ room. HasRoom standing.now room) }
-{
-    settle_lists(lists)?;
-    room_for(alloc, spare, standing, lists)
-}
-
 /// The same lists, with lines of whole numbers, where they can be kept so, and room for what a move writes beside them.
 pub(crate) fn first_lists(
     alloc: Global,
@@ -444,14 +372,19 @@ pub(crate) fn first_lists(
         × HasRoom standing.now found.1)
         (IsFirstFault p) }
 {
-    match lists_for(alloc, spare, standing, system) {
-        Ok(mut lists) => match settled_room(alloc, spare, standing, &mut lists) {
-            Ok(room) => Ok((lists, room)),
-            Err(_) => {
-                drop(lists);
-                Err(FirstFault::NoMemory)
-            }
-        },
-        Err(fault) => Err(fault),
+    let mut lists = match lists_for(alloc, spare, standing, system) {
+        Ok(lists) => lists,
+        Err(fault) => return Err(fault),
+    };
+    let Ok(()) = settle_lists(&mut lists) else {
+        drop(lists);
+        return Err(FirstFault::NoMemory);
+    };
+    match room_for(alloc, spare, standing, &lists) {
+        Ok(room) => Ok((lists, room)),
+        Err(_) => {
+            drop(lists);
+            Err(FirstFault::NoMemory)
+        }
     }
 }

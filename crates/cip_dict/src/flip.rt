@@ -1,5 +1,5 @@
 //! What a flip writes.
-ghost use Rattle.std.specs.Prelude.{◌≡◌, ◌<◌, ◌^◌, false, length, Some, None, MatchResult, slice_index_or};
+ghost use Rattle.std.specs.Prelude.{◌≡◌, ◌<◌, ◌^◌, false, length, Some, None, MatchResult};
 ghost use Rattle.cip_rational.specs.Rational.{◌+ℚ◌};
 ghost use Rattle.cip_problem.specs.Activity.{value_at};
 ghost use Rattle.cip_bland.specs.Tables.{least};
@@ -11,9 +11,9 @@ ghost use Rattle.cip_dict.specs.State.{state, HasLists, HasRoom};
 ghost use Rattle.cip_dict.specs.Written.{flips_operations, MovesWritten, IsFlipPlanned, IsFlipTaken};
 
 use crate::entries::sum;
-use crate::exchange::{number, side_of};
+use crate::exchange::side_of;
 use crate::fault::OutOfRange;
-use crate::lines::is_basic;
+use crate::lines::{is_basic, number_at};
 use crate::lists::{Lists, Room};
 use crate::values::{Shift, take_values, value_of, write_flipped};
 use cip_bland::{Line, Stand};
@@ -43,14 +43,6 @@ pub(crate) fn other_of(at: Option<Stand>) -> Stand
         Some(Stand::Zero) => Stand::Zero,
         None => Stand::Zero,
     }
-}
-
-/// The other side of a variable, by its number.
-fn other_at(standing: &[Option<Stand>], v: u32) -> Stand
-    requires { v < length standing.now }
-    ensures { result ≡ other_stand (slice_index_or standing.now v None) }
-{
-    other_of(standing[v as usize])
 }
 
 /// Writes the values after j has flipped by t to a side, and answers the cost.
@@ -106,9 +98,9 @@ pub(crate) fn plan_flip(
         (λ fault. first_overflow (flip_operations d j) ≡ Some fault.place) }
     ensures long { HasRoom standing.now room.new }
 {
-    let other = other_at(standing, j);
+    let other = other_of(standing[j as usize]);
     let side = side_of(sides, j, other);
-    let value = number(lists.values.as_slice(), j);
+    let value = number_at(lists.values.as_slice(), j as usize);
     let place = value_of(first_basic(standing));
     match side.sub(value) {
         Ok(t) => write_flips(standing, j, t, side, lists, room),

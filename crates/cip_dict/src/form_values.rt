@@ -1,35 +1,18 @@
 //! The values of forms, by their entries that aren't 0.
-ghost use Rattle.std.specs.Prelude.{◌≡◌, ℕ, ◌<◌, ◌≤◌, length, Some, None, MatchResult};
-ghost use Rattle.cip_rational.specs.Rational.{◌+ℚ◌, ◌*ℚ◌};
+ghost use Rattle.std.specs.Prelude.{◌≡◌, ℕ, ◌≤◌, length, Some, None, MatchResult};
 ghost use Rattle.cip_problem.specs.Activity.{value_at};
 ghost use Rattle.cip_bland.specs.Tables.{form};
 ghost use Rattle.cip_bland.specs.FirstState.{form_operations};
-ghost use Rattle.cip_bland.specs.Operations.{first_overflow, value_place, sum_at};
+ghost use Rattle.cip_bland.specs.Operations.{first_overflow};
 ghost use Rattle.cip_dict.specs.SparseLines.{entry_on, AreKept};
 
 use crate::entries::sum;
 use crate::fault::OutOfRange;
+use crate::lines::number_at;
 use crate::listed::is_within;
 use crate::values::value_of;
 use cip_bland::Line;
 use cip_frac::Frac;
-
-/// A sum with the product of an entry and the value of its variable.
-#[inline(always)]
-fn entry_step(
-    line: Line,
-    total: Frac,
-    entry: (u32, Frac),
-    values: &[Frac],
-) -> Result<Frac, OutOfRange>
-    requires { entry.0 < length values.now }
-    ensures { let operations = sum_at (value_place line) total entry.1 (value_at values.now entry.0) in
-        MatchResult result
-        (λ v. (first_overflow operations ≡ None) × (v ≡ total +ℚ entry.1 *ℚ value_at values.now entry.0))
-        (λ fault. first_overflow operations ≡ Some fault.place) }
-{
-    sum(value_of(line), total, entry.1, values[entry.0 as usize])
-}
 
 /// The value of a form on the first n variables, by its entries that aren't 0: the products added one after another.
 pub(crate) fn entries_value(
@@ -48,7 +31,9 @@ pub(crate) fn entries_value(
     let mut total = Frac::zero();
     let mut place = 0;
     'places: while is_within(entries, place, n) {
-        match entry_step(line, total, entries[place], values) {
+        let entry = entries[place];
+        let value = number_at(values, entry.0 as usize);
+        match sum(value_of(line), total, entry.1, value) {
             Ok(value) => total = value,
             Err(fault) => return Err(fault),
         }

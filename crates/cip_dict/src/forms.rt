@@ -1,6 +1,6 @@
 //! A line of a dictionary: its entries on all variables.
-ghost use Rattle.std.specs.Prelude.{◌≡◌, ℕ, not, ◌^◌, ◌<◌, ◌≤◌, [], length, Some, None, OnOk, MatchResult, replicate, slice_set, slice_index_or};
-ghost use Rattle.cip_rational.specs.Rational.{zeroℚ, lt_test, ratio, is_zero};
+ghost use Rattle.std.specs.Prelude.{◌≡◌, not, ◌^◌, ◌<◌, ◌≤◌, [], length, Some, None, OnOk, MatchResult, replicate, slice_set, slice_index_or};
+ghost use Rattle.cip_rational.specs.Rational.{zeroℚ, lt_test, is_zero};
 ghost use Rattle.cip_problem.specs.Activity.{value_at};
 ghost use Rattle.cip_bland.specs.Tables.{form};
 ghost use Rattle.cip_bland.specs.FirstState.{form_operations};
@@ -8,13 +8,13 @@ ghost use Rattle.cip_bland.specs.Operations.{first_overflow};
 ghost use Rattle.cip_dict.specs.SparseLines.{Kept, kept_of};
 ghost use Rattle.cip_dict.specs.WholeLines.{IsSpelled};
 
-use crate::entries::{is_below, vanishes};
+use crate::entries::{is_above, vanishes};
 use crate::fault::OutOfRange;
 use crate::form_values::entries_value;
-use crate::kept::{copy_entries, entry_at, entry_of, put_entry};
+use crate::kept::{entry_of, put_entry};
 use crate::settle::{common_below, settle_entries};
-use crate::spare::Spare;
-use crate::whole::{fraction, number_of, put_over, spell_wholes, whole_entry_at};
+use crate::spare::{Spare, taken};
+use crate::whole::{fraction, number_of, spell_wholes};
 use crate::whole_entries::{put_behind, wholes_value};
 use cip_bland::Line;
 use cip_frac::Frac;
@@ -57,47 +57,19 @@ impl Model for Form {
     ghost invariant = { λ f. IsForm f.len f.is_whole f.below f.wholes.items f.entries.items };
 }
 
-/// Whether a number isn't 0.
-#[inline(always)]
-fn is_other_than_zero(n: i64) -> bool
-    ensures { (d : ℕ) → 0 < d → result ≡ not (is_zero (ratio n d)) }
-{
-    n != 0
-}
-
-/// Whether a number is positive.
-#[inline(always)]
-fn is_above_zero(n: i64) -> bool
-    ensures { (d : ℕ) → 0 < d → result ≡ lt_test zeroℚ (ratio n d) }
-{
-    n > 0
-}
-
 impl Form {
     /// So many entries of 0.
     pub(crate) fn zeros(alloc: Global, spare: &mut Spare, len: usize) -> Form
         ensures { result ≡ replicate len zeroℚ }
     {
-        let entries = spare.entries(alloc);
+        let entries = taken(alloc, &mut spare.entries, &mut spare.room);
+        let wholes = taken(alloc, &mut spare.wholes, &mut spare.room);
         Form {
             entries,
-            wholes: spare.wholes(alloc),
+            wholes,
             below: 1,
             is_whole: true,
             len,
-        }
-    }
-
-    /// No entries.
-    pub(crate) fn none(alloc: Global) -> Form
-        ensures { result ≡ [] }
-    {
-        Form {
-            entries: Vec::new(alloc),
-            wholes: Vec::new(alloc),
-            below: 1,
-            is_whole: true,
-            len: 0,
         }
     }
 
@@ -128,7 +100,7 @@ impl Form {
         ensures { result ≡ not (is_zero (value_at self.now k)) }
     {
         if self.is_whole {
-            is_other_than_zero(number_of(self.wholes.as_slice(), k))
+            number_of(self.wholes.as_slice(), k) != 0
         } else {
             !vanishes(entry_of(self.entries.as_slice(), k))
         }
@@ -141,9 +113,9 @@ impl Form {
         ensures { result ≡ lt_test zeroℚ (value_at self.now k) }
     {
         if self.is_whole {
-            is_above_zero(number_of(self.wholes.as_slice(), k))
+            number_of(self.wholes.as_slice(), k) > 0
         } else {
-            is_below(Frac::zero(), entry_of(self.entries.as_slice(), k))
+            is_above(entry_of(self.entries.as_slice(), k))
         }
     }
 
@@ -164,9 +136,11 @@ impl Form {
         ensures { (d : Kept) → result ≡ slice_index_or (kept_of (length self.now) (value_at self.now)) at d }
     {
         if self.is_whole {
-            whole_entry_at(self.wholes.as_slice(), self.below, at)
+            let wholes = self.wholes.as_slice();
+            (wholes[at].0, fraction(wholes[at].1, self.below))
         } else {
-            entry_at(self.entries.as_slice(), at)
+            let entries = self.entries.as_slice();
+            entries[at]
         }
     }
 
@@ -177,7 +151,8 @@ impl Form {
         if self.is_whole {
             spell_wholes(self.wholes.as_slice(), self.below, out)
         } else {
-            copy_entries(self.entries.as_slice(), out)
+            out.clear();
+            out.extend_from_slice(self.entries.as_slice())
         }
     }
 
@@ -200,13 +175,8 @@ impl Form {
         ensures { OnOk result (self.new ≡ slice_set self.old k entry) }
     {
         if self.is_whole {
-            put_over(
-                self.wholes.as_slice(),
-                self.below,
-                &mut self.entries,
-                k,
-                entry,
-            )?;
+            spell_wholes(self.wholes.as_slice(), self.below, &mut self.entries)?;
+            put_entry(&mut self.entries, k, entry)?;
             self.is_whole = false;
             return Ok(());
         }

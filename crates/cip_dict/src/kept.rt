@@ -1,6 +1,5 @@
 //! Lists of the entries of a line that aren't 0, each with its variable, by rising variable.
 ghost use Rattle.std.specs.Prelude.{◌≡◌, ℕ, suc, ◌+◌, ◌<◌, ◌≤◌, ◌==◌, ◌++◌, false, length, slice_index_or, OnOk, OnErr, if◌then◌else◌};
-ghost use Rattle.cip_rational.specs.Rational.{zeroℚ, is_zero};
 ghost use Rattle.cip_dict.specs.SparseLines.{Kept, entry_on, AreKept, kept_at, IsPlace, IsNext};
 
 use crate::entries::vanishes;
@@ -28,15 +27,6 @@ pub(crate) fn entry_of(entries: &[(u32, Frac)], k: u32) -> Frac
     ensures { result ≡ entry_on entries.now k }
 {
     entry_from(entries, place_from(entries, k), k)
-}
-
-/// The entry at a place, with its variable.
-#[inline(always)]
-pub(crate) fn entry_at(entries: &[(u32, Frac)], place: usize) -> (u32, Frac)
-    requires { place < length entries.now }
-    ensures { (d : Kept) → result ≡ slice_index_or entries.now place d }
-{
-    entries[place]
 }
 
 /// The place of the variable after k, where that of k is known.
@@ -105,41 +95,6 @@ pub(crate) fn keep_entry(
     Ok(())
 }
 
-/// Puts an entry other than 0 into the place of variable k. `Err` where memory was refused; then all is as before.
-fn put_at(
-    entries: &mut Vec<(u32, Frac)>,
-    place: usize,
-    k: u32,
-    entry: Frac,
-) -> Result<(), AllocError>
-    requires kept { (n : ℕ) × (k < n) × AreKept 0 n entries.old.items }
-    requires at { IsPlace k entries.old.items place }
-    requires nonzero { is_zero entry ≡ false }
-    ensures put { OnOk result ((v : ℕ) → entry_on entries.new.items v
-        ≡ (if v == k then entry else entry_on entries.old.items v)) }
-    ensures kept { (n : ℕ) → k < n → AreKept 0 n entries.old.items → AreKept 0 n entries.new.items }
-{
-    if stands_at(entries.as_slice(), place, k) {
-        entries[place] = (k, entry);
-    } else {
-        entries.insert(place, (k, entry))?;
-    }
-    Ok(())
-}
-
-/// Lets the entry on variable k go, where there is one.
-fn let_go_at(entries: &mut Vec<(u32, Frac)>, place: usize, k: u32)
-    requires kept { (n : ℕ) × AreKept 0 n entries.old.items }
-    requires at { IsPlace k entries.old.items place }
-    ensures gone { (v : ℕ) → entry_on entries.new.items v
-        ≡ (if v == k then zeroℚ else entry_on entries.old.items v) }
-    ensures kept { (n : ℕ) → AreKept 0 n entries.old.items → AreKept 0 n entries.new.items }
-{
-    if stands_at(entries.as_slice(), place, k) {
-        let _gone = entries.remove(place);
-    }
-}
-
 /// Puts an entry on variable k, whatever stood there. `Err` where memory was refused.
 pub(crate) fn put_entry(
     entries: &mut Vec<(u32, Frac)>,
@@ -156,21 +111,18 @@ pub(crate) fn put_entry(
         return Ok(());
     }
     let place = place_from(entries.as_slice(), k);
+    let stands = stands_at(entries.as_slice(), place, k);
     if vanishes(entry) {
-        let_go_at(entries, place, k);
-        Ok(())
-    } else {
-        put_at(entries, place, k, entry)
+        if !stands {
+            return Ok(());
+        }
+        let _gone = entries.remove(place);
+        return Ok(());
     }
-}
-
-/// Copies entries. `Err` where memory was refused.
-pub(crate) fn copy_entries(
-    entries: &[(u32, Frac)],
-    out: &mut Vec<(u32, Frac)>,
-) -> Result<(), AllocError>
-    ensures { OnOk result (out.new.items ≡ entries.now) }
-{
-    out.clear();
-    out.extend_from_slice(entries)
+    if stands {
+        entries[place] = (k, entry);
+        return Ok(());
+    }
+    entries.insert(place, (k, entry))?;
+    Ok(())
 }

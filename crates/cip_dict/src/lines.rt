@@ -165,22 +165,20 @@ fn solve_entries(
     Ok(())
 }
 
-/// Whether a number is positive.
-fn is_positive(n: i64) -> bool
-    ensures yes { result ≡ true → n ≡ pos (unsigned_abs n) }
-    ensures no { result ≡ false → n ≡ neg_ℤ (pos (unsigned_abs n)) }
-{
-    n > 0
-}
-
-/// A denominator with a sign.
-fn with_sign(positive: bool, below: u64) -> i64
+/// Whether a number is positive, and a denominator with its sign.
+fn signed_below(n: i64, below: u64) -> (bool, i64)
     requires { below < 2 ^ 42 }
-    ensures value { result ≡ (if positive then pos below else neg_ℤ (pos below)) }
-    ensures small { unsigned_abs result < 2 ^ 42 }
+    ensures yes { result.0 ≡ true → n ≡ pos (unsigned_abs n) }
+    ensures no { result.0 ≡ false → n ≡ neg_ℤ (pos (unsigned_abs n)) }
+    ensures value { result.1 ≡ (if result.0 then pos below else neg_ℤ (pos below)) }
+    ensures small { unsigned_abs result.1 < 2 ^ 42 }
 {
     let signed = below as i64;
-    if positive { signed } else { -signed }
+    if n > 0 {
+        (true, signed)
+    } else {
+        (false, -signed)
+    }
 }
 
 /// Turns the row of the variable that leaves round, whose numbers are `row` over `below`; answers the denominator then.
@@ -202,8 +200,7 @@ fn turn_whole(
         × (over under out.new.items ≡ kept_of n (solved_by pivot.now (entry_on (over below row.now))))) }
 {
     let own = number_of(row, pivot.entering);
-    let positive = is_positive(own);
-    let d = with_sign(positive, below);
+    let (positive, d) = signed_below(own, below);
     let leaving = [(pivot.leaving, d)];
     turn_entries(pivot, positive, d, row, &leaving, out)?;
     Ok(own.unsigned_abs())
@@ -283,37 +280,6 @@ fn substitute_entries(
     Ok(())
 }
 
-/// Keeps the entries of another line, by fractions: the row of the variable that enters, of which these are the
-/// fractions, put in its place. The line is spelled into `spelled`.
-fn substitute_spelled(
-    line: Line,
-    pivot: &Pivot,
-    entering: &[(u32, Frac)],
-    row: &Form,
-    spelled: &mut Vec<(u32, Frac)>,
-    out: &mut Vec<(u32, Frac)>,
-) -> Result<(), MoveFault>
-    requires few { length pivot.now.standing.now < 2 ^ 32 }
-    requires entering { pivot.now.entering < length pivot.now.standing.now }
-    requires new_kept { AreKept 0 (length pivot.now.standing.now) entering.now }
-    requires leaving { entry_on entering.now pivot.now.leaving ≡ pivot.now.inverse }
-    requires row_long { length row.now ≡ length pivot.now.standing.now }
-    ensures written { let n = length pivot.now.standing.now in
-        let operations = each n (substituted_operations_by line pivot.now (entry_on entering.now) (value_at row.now)) in
-        MatchResult result
-        (λ _. (first_overflow operations ≡ None)
-        × (out.new.items ≡ kept_of n (substituted_by pivot.now (entry_on entering.now) (value_at row.now))))
-        (IsMoveFault operations) }
-    ensures kept { let n = length pivot.now.standing.now in AreKept 0 n out.old.items → AreKept 0 n out.new.items }
-{
-    let b = row.entry(pivot.entering);
-    match row.spell(spelled) {
-        Ok(()) => (),
-        Err(_) => return Err(MoveFault::NoMemory),
-    }
-    substitute_entries(line, pivot, b, entering, spelled.as_slice(), out)
-}
-
 /// Writes another line in whole numbers, where that and the row of the variable that enters, `new`, are kept so and the
 /// numbers stay small; answers whether it did.
 fn put_form(
@@ -361,34 +327,6 @@ fn put_form(
     }
 }
 
-/// Writes another line by fractions; `entering` are those of the row of the variable that enters.
-fn write_parted(
-    line: Line,
-    pivot: &Pivot,
-    entering: &[(u32, Frac)],
-    row: &Form,
-    out: &mut Form,
-    spelled: &mut Vec<(u32, Frac)>,
-) -> Result<(), MoveFault>
-    requires few { length pivot.now.standing.now < 2 ^ 32 }
-    requires entering { pivot.now.entering < length pivot.now.standing.now }
-    requires new_kept { AreKept 0 (length pivot.now.standing.now) entering.now }
-    requires leaving { entry_on entering.now pivot.now.leaving ≡ pivot.now.inverse }
-    requires row_long { length row.now ≡ length pivot.now.standing.now }
-    ensures written { let n = length pivot.now.standing.now in
-        let operations = each n (substituted_operations_by line pivot.now (entry_on entering.now) (value_at row.now)) in
-        MatchResult result
-        (λ _. (first_overflow operations ≡ None)
-        × (out.new ≡ table n (substituted_by pivot.now (entry_on entering.now) (value_at row.now))))
-        (IsMoveFault operations) }
-    ensures long { length out.new ≡ length pivot.now.standing.now }
-{
-    out.len = pivot.standing.len();
-    out.is_whole = false;
-    out.entries.clear();
-    substitute_spelled(line, pivot, entering, row, spelled, &mut out.entries)
-}
-
 /// Spells a line, where that isn't done. `Err` where memory was refused.
 fn ensure_spelled(line: &Form, spelled: &mut Spelled) -> Result<(), AllocError>
     requires { HasSpelled line.now spelled.old }
@@ -400,41 +338,6 @@ fn ensure_spelled(line: &Form, spelled: &mut Spelled) -> Result<(), AllocError>
         spelled.is_done = true;
     }
     Ok(())
-}
-
-/// Writes another line by fractions; the row of the variable that enters, `new`, is spelled, where that isn't done.
-fn write_by_fractions(
-    line: Line,
-    pivot: &Pivot,
-    new: &Form,
-    row: &Form,
-    out: &mut Form,
-    scratch: &mut Scratch,
-) -> Result<(), MoveFault>
-    requires few { length pivot.now.standing.now < 2 ^ 32 }
-    requires entering { pivot.now.entering < length pivot.now.standing.now }
-    requires leaving { pivot.now.leaving < length pivot.now.standing.now }
-    requires new_long { length new.now ≡ length pivot.now.standing.now }
-    requires new_spelled { HasSpelled new.now scratch.old.entering }
-    requires row_long { length row.now ≡ length pivot.now.standing.now }
-    requires out_long { length out.old ≡ length pivot.now.standing.now }
-    requires is_leaving { value_at new.now pivot.now.leaving ≡ pivot.now.inverse }
-    ensures written { let n = length pivot.now.standing.now in
-        let operations = each n (substituted_operations_by line pivot.now (value_at new.now) (value_at row.now)) in
-        MatchResult result
-        (λ _. (first_overflow operations ≡ None)
-        × (out.new ≡ table n (substituted_by pivot.now (value_at new.now) (value_at row.now))))
-        (IsMoveFault operations) }
-    ensures long { length out.new ≡ length pivot.now.standing.now }
-    ensures spelled { HasSpelled new.now scratch.new.entering }
-{
-    match ensure_spelled(new, &mut scratch.entering) {
-        Ok(()) => {
-            let entries = scratch.entering.entries.as_slice();
-            write_parted(line, pivot, entries, row, out, &mut scratch.row)
-        }
-        Err(_) => Err(MoveFault::NoMemory),
-    }
 }
 
 /// Writes another line: the row of the variable that enters, `new`, put in its place. In `scratch` that row is spelled,
@@ -464,10 +367,31 @@ pub(crate) fn write_substituted(
     ensures spelled { HasSpelled new.now scratch.new.entering }
 {
     match put_form(pivot, new, row, out, &mut scratch.sums) {
-        Ok(true) => Ok(()),
-        Ok(false) => write_by_fractions(line, pivot, new, row, out, scratch),
-        Err(_) => Err(MoveFault::NoMemory),
+        Ok(true) => return Ok(()),
+        Ok(false) => (),
+        Err(_) => return Err(MoveFault::NoMemory),
     }
+    match ensure_spelled(new, &mut scratch.entering) {
+        Ok(()) => (),
+        Err(_) => return Err(MoveFault::NoMemory),
+    }
+    out.len = pivot.standing.len();
+    out.is_whole = false;
+    out.entries.clear();
+    let b = row.entry(pivot.entering);
+    match row.spell(&mut scratch.row) {
+        Ok(()) => (),
+        Err(_) => return Err(MoveFault::NoMemory),
+    }
+    let entering = scratch.entering.entries.as_slice();
+    substitute_entries(
+        line,
+        pivot,
+        b,
+        entering,
+        scratch.row.as_slice(),
+        &mut out.entries,
+    )
 }
 
 /// The entry of a line on variable k.

@@ -51,28 +51,6 @@ fn long_product(a: i64, c: i64) -> i64
     a * c
 }
 
-/// a * c
-#[inline(always)]
-fn short_size(a: u64, c: u64) -> u64
-    requires first { a < 2 ^ 20 }
-    requires second { c < 2 ^ 20 }
-    ensures value { result ≡ a * c }
-    ensures short { result < 2 ^ 40 }
-{
-    a * c
-}
-
-/// a * c
-#[inline(always)]
-fn long_size(a: u64, c: u64) -> u64
-    requires first { a < 2 ^ 20 }
-    requires second { c < 2 ^ 40 }
-    ensures value { result ≡ a * c }
-    ensures short { result < 2 ^ 60 }
-{
-    a * c
-}
-
 /// Numerator and denominator of a / b + (n / below) * (c / d), not in lowest terms.
 #[inline(always)]
 fn terms_of_sum(a: i64, b: u64, c: i64, d: u64, n: i64, below: u64) -> (i64, u64)
@@ -86,10 +64,10 @@ fn terms_of_sum(a: i64, b: u64, c: i64, d: u64, n: i64, below: u64) -> (i64, u64
     ensures under { result.1 ≡ b * (below * d) }
     ensures short { magnitude result.0 < 2 ^ 61 }
 {
-    let under = short_size(below, d);
+    let under = below * d;
     let first = long_product(under as i64, a);
     let second = long_product(short_product(n, c), b as i64);
-    (first + second, long_size(b, under))
+    (first + second, b * under)
 }
 
 /// n over d in lowest terms.

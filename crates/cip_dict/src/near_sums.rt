@@ -29,23 +29,6 @@ pub(crate) enum Put {
     Far,
 }
 
-/// Whether a number fits 64 bits, with its opposite.
-#[inline(always)]
-fn is_near(z: i128) -> bool
-    ensures { result ≡ true → magnitude z < 2 ^ 63 }
-{
-    z > i64::MIN as i128 && z <= i64::MAX as i128
-}
-
-/// A number that neither of two is above.
-#[inline(always)]
-fn above_both(a: u64, b: u64) -> u64
-    ensures first { a ≤ result }
-    ensures second { b ≤ result }
-{
-    a | b
-}
-
 /// What is told with one number more.
 #[inline(always)]
 fn with_number(near: Near, z: i64) -> Near
@@ -60,7 +43,7 @@ fn with_number(near: Near, z: i64) -> Near
     } else {
         short_common(near.g, size)
     };
-    let most = above_both(near.most, size);
+    let most = near.most | size;
     Near { g, most }
 }
 
@@ -97,7 +80,7 @@ fn sum_near(
     let mut step = next_step(row, 0, new, 0, len);
     while step.k < len {
         let z = substituted_number(pivot, factors, step.n, step.y, step.k);
-        if !is_near(z) {
+        if z <= i64::MIN as i128 || z > i64::MAX as i128 {
             return Ok(None);
         }
         keep_number(out, step.k, z as i64)?;
@@ -121,27 +104,6 @@ fn divide_near(numbers: &mut [(u32, i64)], g: u64) -> bool
         }
     }
     true
-}
-
-/// Divides numbers and their denominator by what they have in common, g; answers the denominator then, where all are
-/// below 2^42.
-fn reduce_near(numbers: &mut [(u32, i64)], under: u64, g: u64) -> Option<u64>
-    requires positive { 0 < under }
-    requires divisor { 0 < g }
-    requires near { AreBelow (2 ^ 63) numbers.old }
-    ensures { IfSome result (λ below. (0 < below) × (below < 2 ^ 42) × AreBelow (2 ^ 42) numbers.new
-        × (over below numbers.new ≡ over under numbers.old)) }
-{
-    match short_part(under, g) {
-        Some(below) => {
-            if below < SMALL && divide_near(numbers, g) {
-                Some(below)
-            } else {
-                None
-            }
-        }
-        None => None,
-    }
 }
 
 /// Writes the numbers of a row over `under` after that of the variable that enters, `new`, has been put in its place,
@@ -179,8 +141,12 @@ pub(crate) fn put_near(
             Put::Large
         });
     }
-    match reduce_near(out, under, near.g) {
-        Some(below) => Ok(Put::Written(below)),
+    match short_part(under, near.g) {
+        Some(below) => Ok(if below < SMALL && divide_near(out, near.g) {
+            Put::Written(below)
+        } else {
+            Put::Large
+        }),
         None => Ok(Put::Large),
     }
 }

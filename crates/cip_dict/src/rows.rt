@@ -1,5 +1,5 @@
 //! The rows of basic variables in an exchange.
-ghost use Rattle.std.specs.Prelude.{◌≡◌, ◌<◌, ◌^◌, true, length, false, None, OnOk, IfOk, MatchResult, slice_index_or, if◌then◌else◌};
+ghost use Rattle.std.specs.Prelude.{◌≡◌, ◌<◌, ◌^◌, true, length, false, None, OnOk, IfOk, MatchResult, if◌then◌else◌};
 ghost use Rattle.cip_problem.specs.Activity.{value_at};
 ghost use Rattle.cip_bland.specs.Tables.{table, each};
 ghost use Rattle.cip_bland.specs.Operations.{first_overflow};
@@ -110,15 +110,6 @@ pub(crate) fn write_rows(
     Ok(())
 }
 
-/// Whether a variable is marked.
-#[inline(always)]
-pub(crate) fn is_marked(changed: &[bool], v: usize) -> bool
-    requires { v < length changed.now }
-    ensures { result ≡ slice_index_or changed.now v false }
-{
-    changed[v]
-}
-
 /// Takes a row from another list, where it changes, and gives the old one for it.
 #[inline(always)]
 fn take_row(changes: bool, row: &mut Form, other: &mut Form)
@@ -148,6 +139,6 @@ pub(crate) fn take_rows(
     ensures other_long { HasRows standing.now other.new }
 {
     for v in 0..standing.len() {
-        take_row(is_marked(changed, v), &mut rows[v], &mut other[v]);
+        take_row(changed[v], &mut rows[v], &mut other[v]);
     }
 }

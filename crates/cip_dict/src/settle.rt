@@ -4,23 +4,22 @@ ghost use Rattle.cip_rational.specs.Rational.{ratio, numerator, denominator};
 ghost use Rattle.cip_rational.specs.Range.{magnitude};
 ghost use Rattle.cip_dict.specs.WholeLines.{over, AreBelow};
 
-use crate::forms::Form;
-use crate::kept::entry_at;
 use crate::lists::Lists;
 use crate::whole_sums::{SMALL, product_of, short_common};
 use cip_frac::Frac;
 use std::alloc::AllocError;
 
-/// A common multiple of two denominators, or the first alone where there is none below 2^42.
-fn with_denominator(below: u64, d: u64) -> u64
+/// A common multiple of a denominator and that of a fraction, or the first alone where there is none below 2^42.
+fn with_denominator(below: u64, entry: Frac) -> u64
     requires positive { 0 < below }
     requires small { below < 2 ^ 42 }
-    requires other_positive { 0 < d }
-    requires other_small { d < 2 ^ 42 }
     ensures positive { 0 < result }
     ensures small { result < 2 ^ 42 }
 {
-    if d == 1 || d == below {
+    let Some((_, d)) = small_terms(entry) else {
+        return below;
+    };
+    if d <= 1 || d == below {
         return below;
     }
     let common = short_common(below, d);
@@ -45,17 +44,6 @@ fn small_terms(entry: Frac) -> Option<(i64, u64)>
     Some((n as i64, d.unsigned_abs() as u64))
 }
 
-/// The denominator of a fraction, where its terms are below 2^42; else 1.
-fn denominator_of(entry: Frac) -> u64
-    ensures positive { 0 < result }
-    ensures small { result < 2 ^ 42 }
-{
-    match small_terms(entry) {
-        Some((_, d)) => { if d == 0 { 1 } else { d } }
-        None => 1,
-    }
-}
-
 /// A common denominator of entries, where there is one below 2^42.
 pub(crate) fn common_below(entries: &[(u32, Frac)]) -> u64
     ensures positive { 0 < result }
@@ -63,7 +51,7 @@ pub(crate) fn common_below(entries: &[(u32, Frac)]) -> u64
 {
     let mut below = 1;
     for at in 0..entries.len() {
-        below = with_denominator(below, denominator_of(entry_at(entries, at).1));
+        below = with_denominator(below, entries[at].1);
     }
     below
 }
@@ -114,23 +102,13 @@ pub(crate) fn settle_entries(
 {
     out.clear();
     for at in 0..entries.len() {
-        let entry = entry_at(entries, at);
+        let entry = entries[at];
         match whole_of(entry.1, below) {
             Some(number) => out.push((entry.0, number))?,
             None => return Ok(false),
         }
     }
     Ok(true)
-}
-
-/// Keeps the lines of rows as whole numbers from now on, where they can be. `Err` where memory was refused.
-fn settle_rows(rows: &mut [Form]) -> Result<(), AllocError>
-    ensures { rows.new ≡ rows.old }
-{
-    for v in 0..rows.len() {
-        rows[v].settle()?;
-    }
-    Ok(())
 }
 
 /// Keeps the lines of these lists as whole numbers from now on, where they can be. `Err` where memory was refused.
@@ -140,6 +118,9 @@ pub(crate) fn settle_lists(lists: &mut Lists) -> Result<(), AllocError>
     ensures values { lists.new.values.items ≡ lists.old.values.items }
     ensures cost { lists.new.cost ≡ lists.old.cost }
 {
-    settle_rows(lists.rows.as_mut_slice())?;
+    let rows = lists.rows.as_mut_slice();
+    for v in 0..rows.len() {
+        rows[v].settle()?;
+    }
     lists.costs.settle()
 }

@@ -1,9 +1,7 @@
 //! Lists of dictionaries that are done with.
-ghost use Rattle.std.specs.Prelude.{◌≡◌, false, [], IfOk, replicate};
-ghost use Rattle.cip_rational.specs.Rational.{zeroℚ};
+ghost use Rattle.std.specs.Prelude.{◌≡◌, [], IfOk, replicate};
 
 use crate::forms::Form;
-use crate::lists::Scratch;
 use cip_bland::Stand;
 use cip_frac::Frac;
 use cip_lin::Sides;
@@ -17,10 +15,10 @@ const MOST_SPARE: usize = 1 << 21;
 #[derive(Drop)]
 pub struct Spare {
     pub(crate) numbers: Vec<Vec<Frac>>,
-    entries: Vec<Vec<(u32, Frac)>>,
-    wholes: Vec<Vec<(u32, i64)>>,
+    pub(crate) entries: Vec<Vec<(u32, Frac)>>,
+    pub(crate) wholes: Vec<Vec<(u32, i64)>>,
     /// How many entries those lists have room for, and at most `usize::MAX`.
-    room: usize,
+    pub(crate) room: usize,
     pub(crate) forms: Vec<Vec<Form>>,
     pub(crate) stands: Vec<Vec<Option<Stand>>>,
     pub(crate) sides: Vec<Vec<Sides>>,
@@ -43,6 +41,38 @@ pub(crate) fn keep<T: Drop>(kept: &mut Vec<Vec<T>>, list: Vec<T>) {
     let _kept = kept.push(list).is_ok();
 }
 
+/// So many times an item; `Err` where the memory was refused.
+pub(crate) fn filled<T: Copy + Drop>(
+    alloc: Global,
+    kept: &mut Vec<Vec<T>>,
+    n: usize,
+    item: T,
+) -> Result<Vec<T>, AllocError>
+    ensures { IfOk result (λ list. list.items ≡ replicate n item) }
+{
+    let mut list = emptied(alloc, kept);
+    list.resize(n, item)?;
+    Ok(list)
+}
+
+/// An empty list, as `emptied` answers it, for which there is room then among the lists that have room for so many.
+pub(crate) fn taken<T: Drop>(alloc: Global, kept: &mut Vec<Vec<T>>, room: &mut usize) -> Vec<T>
+    ensures { result.items ≡ [] }
+{
+    let list = emptied(alloc, kept);
+    *room = room.saturating_sub(list.capacity());
+    list
+}
+
+/// Keeps a list that has room for some; lets it go where all that are kept would then have room for more than
+/// `MOST_SPARE`: else the lists would come to have room for as many as the longest line that each of them ever was.
+pub(crate) fn keep_counted<T: Drop>(kept: &mut Vec<Vec<T>>, room: &mut usize, list: Vec<T>) {
+    let all = room.saturating_add(list.capacity());
+    if list.capacity() > 0 && all <= MOST_SPARE && kept.push(list).is_ok() {
+        *room = all;
+    }
+}
+
 impl Spare {
     /// None so far.
     pub fn new(alloc: Global) -> Spare {
@@ -58,55 +88,6 @@ impl Spare {
         }
     }
 
-    /// So many zeros; `Err` where the memory was refused.
-    pub(crate) fn zeros(&mut self, alloc: Global, n: usize) -> Result<Vec<Frac>, AllocError>
-        ensures { IfOk result (λ numbers. numbers.items ≡ replicate n zeroℚ) }
-    {
-        let mut numbers = emptied(alloc, &mut self.numbers);
-        numbers.resize(n, Frac::zero())?;
-        Ok(numbers)
-    }
-
-    /// These numbers; `Err` where the memory was refused.
-    pub(crate) fn copy_of(
-        &mut self,
-        alloc: Global,
-        numbers: &[Frac],
-    ) -> Result<Vec<Frac>, AllocError>
-        ensures { IfOk result (λ copy. copy.items ≡ numbers.now) }
-    {
-        let mut copy = emptied(alloc, &mut self.numbers);
-        copy.extend_from_slice(numbers)?;
-        Ok(copy)
-    }
-
-    /// An empty list of entries.
-    pub(crate) fn entries(&mut self, alloc: Global) -> Vec<(u32, Frac)>
-        ensures { result.items ≡ [] }
-    {
-        let list = emptied(alloc, &mut self.entries);
-        self.room = self.room.saturating_sub(list.capacity());
-        list
-    }
-
-    /// An empty list of whole numbers.
-    pub(crate) fn wholes(&mut self, alloc: Global) -> Vec<(u32, i64)>
-        ensures { result.items ≡ [] }
-    {
-        let list = emptied(alloc, &mut self.wholes);
-        self.room = self.room.saturating_sub(list.capacity());
-        list
-    }
-
-    /// So many marks, none of them set; `Err` where the memory was refused.
-    pub(crate) fn marks(&mut self, alloc: Global, n: usize) -> Result<Vec<bool>, AllocError>
-        ensures { IfOk result (λ marks. marks.items ≡ replicate n false) }
-    {
-        let mut marks = emptied(alloc, &mut self.marks);
-        marks.resize(n, false)?;
-        Ok(marks)
-    }
-
     /// Keeps a list of lines and the list of entries of each that has some.
     pub(crate) fn keep_forms(&mut self, mut list: Vec<Form>) {
         for _ in 0..list.len() {
@@ -119,31 +100,7 @@ impl Spare {
 
     /// Keeps the lists of a line.
     pub(crate) fn keep_form(&mut self, form: Form) {
-        self.keep_entries(form.entries);
-        self.keep_wholes(form.wholes);
-    }
-
-    /// Keeps a list of entries that has room for some; lets it go where all that are kept would then have room for more
-    /// than `MOST_SPARE`: else the lists would come to have room for as many as the longest line that each of them ever
-    /// was.
-    pub(crate) fn keep_entries(&mut self, list: Vec<(u32, Frac)>) {
-        let room = self.room.saturating_add(list.capacity());
-        if list.capacity() > 0 && room <= MOST_SPARE && self.entries.push(list).is_ok() {
-            self.room = room;
-        }
-    }
-
-    /// Keeps the lists of fractions of what a dictionary works with.
-    pub(crate) fn keep_scratch(&mut self, scratch: Scratch) {
-        self.keep_entries(scratch.entering.entries);
-        self.keep_entries(scratch.row);
-    }
-
-    /// The same of a list of whole numbers.
-    fn keep_wholes(&mut self, list: Vec<(u32, i64)>) {
-        let room = self.room.saturating_add(list.capacity());
-        if list.capacity() > 0 && room <= MOST_SPARE && self.wholes.push(list).is_ok() {
-            self.room = room;
-        }
+        keep_counted(&mut self.entries, &mut self.room, form.entries);
+        keep_counted(&mut self.wholes, &mut self.room, form.wholes);
     }
 }

@@ -15,7 +15,6 @@ use crate::fault::OutOfRange;
 use crate::forms::Form;
 use crate::lines::{is_basic, number_at};
 use crate::pivots::Pivot;
-use crate::rows::is_marked;
 use cip_bland::{EntryPlace, Line, Stand};
 use cip_frac::Frac;
 
@@ -61,25 +60,9 @@ fn is_moved(standing: &[Option<Stand>], j: u32, v: usize) -> bool
     is_basic(standing, v) || v == j as usize
 }
 
-/// Writes the value of the basic variable v, which is what it was, after the variable that enters has moved by t;
-/// `false` where an operation leaves the range. A row that doesn't change has no entry on that, but for the row of the
-/// one that leaves.
-#[inline(always)]
-fn move_basic(pivot: &Pivot, t: Frac, v: usize, row: &Form, changes: bool, value: &mut Frac) -> bool
-    requires on { pivot.now.entering < length row.now }
-    requires basic { basic_in pivot.now.standing.now v ≡ true }
-    requires marked { changes ≡ changes_by pivot.now v row.now }
-    ensures { IsAdded result value.old (value_at row.now pivot.now.entering) t value.new }
-{
-    if changes || v == pivot.leaving as usize {
-        row.add_times(pivot.entering, t, value)
-    } else {
-        true
-    }
-}
-
 /// Writes the value of variable v after the one that enters has moved, if it may change; `false` where an operation
-/// leaves the range.
+/// leaves the range. A row that doesn't change has no entry on the one that enters, but for the row of the one that
+/// leaves.
 #[inline(always)]
 fn move_on(pivot: &Pivot, shift: &Shift, changed: &[bool], v: usize, value: &mut Frac) -> bool
     requires few { length pivot.now.standing.now < 2 ^ 32 }
@@ -103,14 +86,11 @@ fn move_on(pivot: &Pivot, shift: &Shift, changed: &[bool], v: usize, value: &mut
         value.add_assign(shift.by)
     } else if is_basic(pivot.standing, v) {
         *value = number_at(shift.values, v);
-        move_basic(
-            pivot,
-            shift.by,
-            v,
-            &shift.rows[v],
-            is_marked(changed, v),
-            value,
-        )
+        if changed[v] || v == pivot.leaving as usize {
+            shift.rows[v].add_times(pivot.entering, shift.by, value)
+        } else {
+            true
+        }
     } else {
         true
     }

@@ -1,11 +1,10 @@
 //! Lists of whole numbers over one denominator, each with its variable, by rising variable.
-ghost use Rattle.std.specs.Prelude.{◌≡◌, ℕ, suc, ◌+◌, ◌^◌, ◌<◌, ◌≤◌, ◌==◌, length, slice_index_or, OnOk, if◌then◌else◌};
+ghost use Rattle.std.specs.Prelude.{◌≡◌, ℕ, suc, ◌+◌, ◌^◌, ◌<◌, ◌≤◌, length, slice_index_or, OnOk};
 ghost use Rattle.cip_rational.specs.Rational.{ratio};
 ghost use Rattle.cip_rational.specs.Range.{magnitude};
-ghost use Rattle.cip_dict.specs.SparseLines.{Kept, entry_on, AreKept, IsPlace, IsNext};
+ghost use Rattle.cip_dict.specs.SparseLines.{AreKept, IsPlace, IsNext};
 ghost use Rattle.cip_dict.specs.WholeLines.{Whole, over, number_on, AreBelow, IsWhole};
 
-use crate::kept::put_entry;
 use crate::listed::{place_from, stands_at};
 use cip_frac::Frac;
 use std::alloc::AllocError;
@@ -32,22 +31,6 @@ pub(crate) fn fraction(n: i64, d: u64) -> Frac
     }
 }
 
-/// The number on variable k, of which the place is known.
-#[inline(always)]
-pub(crate) fn number_from(wholes: &[(u32, i64)], place: usize, k: u32) -> i64
-    requires kept { (n : ℕ) × AreKept 0 n (over 1 wholes.now) }
-    requires small { AreBelow (2 ^ 42) wholes.now }
-    requires at { IsPlace k (over 1 wholes.now) place }
-    ensures value { result ≡ number_on wholes.now k }
-    ensures small { magnitude result < 2 ^ 42 }
-{
-    if stands_at(wholes, place, k) {
-        wholes[place].1
-    } else {
-        0
-    }
-}
-
 /// The number on variable k.
 pub(crate) fn number_of(wholes: &[(u32, i64)], k: u32) -> i64
     requires kept { (n : ℕ) × AreKept 0 n (over 1 wholes.now) }
@@ -55,7 +38,12 @@ pub(crate) fn number_of(wholes: &[(u32, i64)], k: u32) -> i64
     ensures value { result ≡ number_on wholes.now k }
     ensures small { magnitude result < 2 ^ 42 }
 {
-    number_from(wholes, place_from(wholes, k), k)
+    let place = place_from(wholes, k);
+    if stands_at(wholes, place, k) {
+        wholes[place].1
+    } else {
+        0
+    }
 }
 
 /// The variable at a place and the number on it, or `len` and 0 where there is none.
@@ -165,15 +153,6 @@ pub(crate) fn next_step(
     }
 }
 
-/// The fraction at a place, with its variable.
-pub(crate) fn whole_entry_at(wholes: &[(u32, i64)], below: u64, place: usize) -> (u32, Frac)
-    requires there { place < length wholes.now }
-    requires whole { IsWhole below wholes.now }
-    ensures { (d : Kept) → result ≡ slice_index_or (over below wholes.now) place d }
-{
-    (wholes[place].0, fraction(wholes[place].1, below))
-}
-
 /// Spells whole numbers over one denominator as fractions. `Err` where memory was refused.
 pub(crate) fn spell_wholes(
     wholes: &[(u32, i64)],
@@ -188,23 +167,4 @@ pub(crate) fn spell_wholes(
         out.push((wholes[at].0, fraction(wholes[at].1, below)))?;
     }
     Ok(())
-}
-
-/// Spells whole numbers over one denominator as fractions, with another entry on variable k. `Err` where memory was
-/// refused.
-pub(crate) fn put_over(
-    wholes: &[(u32, i64)],
-    below: u64,
-    out: &mut Vec<(u32, Frac)>,
-    k: u32,
-    entry: Frac,
-) -> Result<(), AllocError>
-    requires whole { IsWhole below wholes.now }
-    requires kept { (n : ℕ) × (k < n) × AreKept 0 n (over below wholes.now) }
-    ensures put { OnOk result ((v : ℕ) → entry_on out.new.items v
-        ≡ (if v == k then entry else entry_on (over below wholes.now) v)) }
-    ensures kept { OnOk result ((n : ℕ) → k < n → AreKept 0 n (over below wholes.now) → AreKept 0 n out.new.items) }
-{
-    spell_wholes(wholes, below, out)?;
-    put_entry(out, k, entry)
 }

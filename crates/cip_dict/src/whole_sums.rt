@@ -1,5 +1,5 @@
 //! Sums of whole numbers over one denominator.
-ghost use Rattle.std.specs.Prelude.{◌≡◌, ℕ, pos, ◌+◌, ◌*◌, ◌^◌, ◌<◌, ◌==◌, ◌++◌, ◌+ℤ◌, ◌*ℤ◌, neg_ℤ, true, false, length, IfSome, OnOk, IfOk, if◌then◌else◌};
+ghost use Rattle.std.specs.Prelude.{◌≡◌, ℕ, pos, ◌+◌, ◌*◌, ◌^◌, ◌<◌, ◌==◌, ◌++◌, ◌+ℤ◌, ◌*ℤ◌, true, false, length, IfSome, OnOk, IfOk, if◌then◌else◌};
 ghost use Rattle.cip_rational.specs.Range.{magnitude};
 ghost use Rattle.cip_dict.specs.Lists.{basic_in};
 ghost use Rattle.cip_dict.specs.Pivots.{absent_by, put_by};
@@ -148,27 +148,14 @@ pub(crate) fn small_part(z: i128, g: u128) -> Option<i64>
     requires { 0 < g }
     ensures { IfSome result (λ w. (z ≡ w *ℤ pos g) × (magnitude w < 2 ^ 42)) }
 {
-    match part_of(z.unsigned_abs(), g) {
-        Some(part) => signed_part(z < 0, part),
-        None => None,
-    }
-}
-
-/// A number with a sign, where it is below 2^42.
-#[inline(always)]
-fn signed_part(below_zero: bool, part: u128) -> Option<i64>
-    ensures { IfSome result (λ w. (w ≡ (if below_zero then neg_ℤ (pos part) else pos part))
-        × (magnitude w < 2 ^ 42)) }
-{
+    let Some(part) = part_of(z.unsigned_abs(), g) else {
+        return None;
+    };
     if part >= SMALL as u128 {
         return None;
     }
     let number = part as i64;
-    if below_zero {
-        Some(-number)
-    } else {
-        Some(number)
-    }
+    if z < 0 { Some(-number) } else { Some(number) }
 }
 
 /// The greatest common divisor of two numbers: most often the first.

@@ -1,9 +1,9 @@
 -- The rows that a group gives, and those of all groups.
-use Rattle.std.proofs.Common.{◌≡◌, ℕ, zero, suc, ◌+◌, ◌*◌, ◌/◌, ◌%◌, ◌<◌, ◌≤◌, ◌==◌, Bool, true, false, cond, not, None, List, [], ◌∷◌, ◌++◌, length, map, refl, sym, ap, ◌∙◌, arith, append_assoc}
-use Rattle.std.specs.Prelude.{nat_lt, slice_index_or, slice_set}
+use Rattle.std.proofs.Common.{◌≡◌, ℕ, zero, suc, ◌+◌, ◌*◌, ◌/◌, ◌%◌, ◌<◌, ◌≤◌, ◌==◌, Bool, true, false, cond, not, None, List, [], ◌∷◌, ◌++◌, length, map, refl, sym, ap, ◌∙◌, arith, append_assoc, min}
+use Rattle.std.specs.Prelude.{slice_index_or, slice_set}
 use Rattle.std.specs.List.{filter}
 use Rattle.std.proofs.lemmas.List.{append-nil}
-use Rattle.std.proofs.lemmas.Bool.{ltb-true, ne_eqb, eq-eqb, eqb-false}
+use Rattle.std.proofs.lemmas.Bool.{ne_eqb, eq-eqb, eqb-false}
 use Rattle.cip_problem.specs.Program.{Term, Row}
 use Rattle.cip_problem.specs.Program as problem
 use Rattle.cip_text_rules.specs.MpsProgram.{is_free, row_with}
@@ -135,17 +135,8 @@ first_rows here behind group groups few full =
         λ i. numbers_of (b i) (slice_index_or (group ∷ groups) (a i) [])
 
 -- how many rows the next group has, and those behind it
-pub group_parts : (left here behind groups : ℕ) → here ≡ cond (nat_lt left 64) left 64 → behind + here ≡ left → left ≤ 64 * suc groups → (here ≤ 64) × (((k : ℕ) → k < behind → here ≡ 64) × (behind ≤ 64 * groups))
-group_parts left here behind groups e s l = go (nat_lt left 64) refl
-  where
-    go : (b : Bool) → nat_lt left 64 ≡ b → (here ≤ 64) × (((k : ℕ) → k < behind → here ≡ 64) × (behind ≤ 64 * groups))
-    go true q =
-        let m : here ≡ left = e ∙ ap (λ b. cond b left 64) q in
-        let d : left < 64 = ltb-true left 64 q in
-        (omega (arith, m, d), (λ k h. absurd (omega (arith, m, s, h)), omega (arith, m, s)))
-    go false q =
-        let m : here ≡ 64 = e ∙ ap (λ b. cond b left 64) q in
-        (omega (arith, m), (λ k h. m, omega (arith, m, s, l)))
+pub group_parts : (left here behind groups : ℕ) → here ≡ min left 64 → behind + here ≡ left → left ≤ 64 * suc groups → (here ≤ 64) × (((k : ℕ) → k < behind → here ≡ 64) × (behind ≤ 64 * groups))
+group_parts left here behind groups e s l = (omega (arith, e), (λ k h. omega (arith, e, s, h), omega (arith, e, s, l)))
 
 -- one group more
 pub one_group : (here behind : List RowRead) (group : List Entry) (groups : List (List Entry)) (before all : List Row) → length here ≤ 64 → ((k : ℕ) → k < length behind → length here ≡ 64)

@@ -1,12 +1,9 @@
 //! The lines of BOUNDS.
 ghost use Rattle.std.specs.Prelude.{◌≡◌, ℕ, ◌<◌, ◌||◌, List, false, vec_len, IfSome};
-ghost use Rattle.cip_rational.specs.Numeral.{Numeral};
 ghost use Rattle.cip_mps_lines.specs.MpsKinds.{bound_kind_in};
 ghost use Rattle.cip_text_rules.specs.MpsWords.{number_in};
-ghost use Rattle.cip_text_rules.specs.MpsBounds.{unbounded};
 ghost use Rattle.cip_text_rules.specs.MpsRules as text;
 ghost use Rattle.cip_text_rules.specs.MpsRules.{least, is_mixed_by};
-ghost use Rattle.cip_text_rules.specs.MpsState.{item_at};
 ghost use Rattle.cip_text_rules.specs.MpsLineTests.{bound_tests};
 ghost use Rattle.cip_mps.specs.DraftStates.{kept};
 
@@ -27,18 +24,6 @@ fn is_no_bound(kind: BoundKind, value: &BoundNumber<'_>) -> bool
 }
 
 impl Draft {
-    /// Whether a bound record of this type makes the column of a number both whole and semi-continuous.
-    fn mixes(&self, kind: BoundKind, column: Option<usize>) -> bool
-        requires { IfSome column (λ number. number < vec_len self.now.columns) }
-        ensures { (value : Numeral) → result
-            ≡ is_mixed_by (bound_kind_in kind) value (item_at (unbounded false) self.now.columns.items column) }
-    {
-        match column {
-            None => false,
-            Some(number) => self.columns[number].is_mixed_by(kind),
-        }
-    }
-
     /// The least kind of fault of a line of BOUNDS, of which the number of the column is given.
     pub(crate) fn bound_fault(
         &self,
@@ -56,10 +41,10 @@ impl Draft {
         if value.is_too_fine() {
             return Some(7);
         }
-        if column.is_none() {
+        let Some(number) = column else {
             return Some(9);
-        }
-        if is_no_bound(kind, value) || self.mixes(kind, column) {
+        };
+        if is_no_bound(kind, value) || self.columns[number].is_mixed_by(kind) {
             return Some(21);
         }
         None

@@ -61,11 +61,16 @@ fn any_semi(columns: &[ColumnDraft]) -> bool
     false
 }
 
-/// The choice of each column.
-fn each_choice(alloc: Global, columns: &[ColumnDraft]) -> Result<Choices, AllocError>
-    ensures { IfOk result (λ choices. choices ≡ map (λ column. choice_of (settled column)) columns.now) }
+/// The choices of the columns; there are none, and they take no memory, where no column is semi-continuous.
+pub(crate) fn choices_of(alloc: Global, columns: &[ColumnDraft]) -> Result<Choices, AllocError>
+    ensures { IfOk result (λ choices. choices
+        ≡ (if list_any (λ column. is_semi (settled column)) columns.now
+        then map (λ column. choice_of (settled column)) columns.now else [])) }
 {
     let mut choices = Choices::new(alloc);
+    if !any_semi(columns) {
+        return Ok(choices);
+    }
     for column in columns {
         let Ok(()) = choices.push(column.choice()) else {
             drop(choices);
@@ -73,19 +78,6 @@ fn each_choice(alloc: Global, columns: &[ColumnDraft]) -> Result<Choices, AllocE
         };
     }
     Ok(choices)
-}
-
-/// The choices of the columns; there are none, and they take no memory, where no column is semi-continuous.
-pub(crate) fn choices_of(alloc: Global, columns: &[ColumnDraft]) -> Result<Choices, AllocError>
-    ensures { IfOk result (λ choices. choices
-        ≡ (if list_any (λ column. is_semi (settled column)) columns.now
-        then map (λ column. choice_of (settled column)) columns.now else [])) }
-{
-    if any_semi(columns) {
-        each_choice(alloc, columns)
-    } else {
-        Ok(Choices::new(alloc))
-    }
 }
 
 /// The number of a column among numbers by rising column, none of which stands before it, and those behind it.

@@ -1,14 +1,13 @@
 //! The tests of a line of COLUMNS.
-ghost use Rattle.std.specs.Prelude.{◌≡◌, ◌<◌, ◌+◌, ◌&&◌, not, nat_lt, nat_le, is_some, vec_len, IfSome, length};
+ghost use Rattle.std.specs.Prelude.{◌≡◌, ◌<◌, ◌+◌, vec_len, IfSome, length};
 ghost use Rattle.std.specs.List.{list_any};
-ghost use Rattle.cip_problem.specs.Limits.{most_columns, most_entries};
 ghost use Rattle.cip_mps_lines.specs.MpsLines.{values_of};
 ghost use Rattle.cip_text_rules.specs.MpsWords.{number_in};
-ghost use Rattle.cip_text_rules.specs.MpsRules.{least, is_before_last};
+ghost use Rattle.cip_text_rules.specs.MpsRules.{least};
 ghost use Rattle.cip_text_rules.specs.MpsState.{no_row, item_at, row_at};
 ghost use Rattle.cip_text_rules.specs.MpsSteps.{holds};
 ghost use Rattle.cip_text_rules.specs.MpsLineTests.{has_unknown};
-ghost use Rattle.cip_mps.specs.DraftLines.{entries_in, column_rules};
+ghost use Rattle.cip_mps.specs.DraftLines.{column_rules};
 ghost use Rattle.cip_mps.specs.DraftStates.{kept};
 ghost use Rattle.cip_mps.specs.FoundRows.{AreFound};
 
@@ -56,31 +55,6 @@ impl Draft {
         self.holds(column, rows.first) || second
     }
 
-    /// Whether a column of this number has another behind it.
-    fn is_ended(&self, column: Option<usize>) -> bool
-        requires { IfSome column (λ number. number < vec_len self.now.columns) }
-        ensures { result ≡ is_before_last column (length self.now.column_names) }
-    {
-        match column {
-            None => false,
-            Some(number) => number + 1 < self.columns.len(),
-        }
-    }
-
-    /// Whether one column more is too many, where the column of a line has no number yet.
-    fn is_full(&self, column: Option<usize>) -> bool
-        ensures { result ≡ (not (is_some column) && nat_le most_columns (length self.now.column_names)) }
-    {
-        column.is_none() && self.columns.len() >= MOST_COLUMNS
-    }
-
-    /// Whether the values that aren't 0 are too many.
-    fn has_many_entries(&self, values: &Pairs<'_>) -> bool
-        ensures { result ≡ nat_lt most_entries (self.now.entries + entries_in (values_of values.now)) }
-    {
-        self.entries + count_entries(values) > MOST_ENTRIES
-    }
-
     /// The least kind of fault of a line of COLUMNS, of which the numbers of the column and of the rows are given.
     pub(crate) fn column_fault(
         &self,
@@ -109,10 +83,16 @@ impl Draft {
         if self.any_holds(column, values, rows) || are_twins(values) {
             return Some(11);
         }
-        if self.is_ended(column) {
-            return Some(12);
-        }
-        if self.is_full(column) || self.has_many_entries(values) {
+        let full = match column {
+            None => self.columns.len() >= MOST_COLUMNS,
+            Some(number) => {
+                if number + 1 < self.columns.len() {
+                    return Some(12);
+                }
+                false
+            }
+        };
+        if full || self.entries + count_entries(values) > MOST_ENTRIES {
             return Some(18);
         }
         if name.len() > LONGEST_NAME {

@@ -1,6 +1,6 @@
 //! The rows of the program, made of one group.
-ghost use Rattle.std.specs.Prelude.{◌≡◌, ◌≤◌, true, map, length, IfOk, OnOk};
-ghost use Rattle.cip_mps.specs.GroupedRows.{empty_row, follow, put_numbers};
+ghost use Rattle.std.specs.Prelude.{◌≡◌, ◌≤◌, map, length, IfOk};
+ghost use Rattle.cip_mps.specs.GroupedRows.{empty_row, put_numbers};
 
 use crate::groups::{Far, GROUP, Group, Near};
 use crate::row_head::RowHead;
@@ -72,23 +72,14 @@ impl Group {
         rows_with_room(alloc, heads, counts.as_slice())
     }
 
-    /// Puts its numbers into rows. `Err` comes where a growth was refused.
-    fn put_into(&self, rows: &mut Vec<Row>) -> Result<(), AllocError>
-        requires { follow rows.old.items self.now ≡ true }
-        ensures { OnOk result (rows.new.items ≡ put_numbers rows.old.items self.now) }
-    {
-        put_near(rows, self.near.as_slice())?;
-        put_far(rows, self.far.as_slice())?;
-        Ok(())
-    }
-
     /// The rows of these heads, with open sides where they are of type N. `Err` comes where a growth was refused.
     pub(crate) fn into_rows(self, alloc: Global, heads: &[RowHead]) -> Result<Vec<Row>, AllocError>
         requires { length heads.now ≤ 64 }
         ensures { IfOk result (λ rows. rows.items ≡ put_numbers (map empty_row heads.now) self) }
     {
         let mut rows = self.empty_rows(alloc, heads)?;
-        self.put_into(&mut rows)?;
+        put_near(&mut rows, self.near.as_slice())?;
+        put_far(&mut rows, self.far.as_slice())?;
         Ok(rows)
     }
 }

@@ -10,7 +10,8 @@ ghost use Rattle.cip_text_rules.specs.MpsSteps.{mps_steps};
 ghost use Rattle.cip_mps.specs.LinesRead.{state_of_lines, stage_of, IsTaken};
 
 use crate::laws::places_join;
-use crate::{Draft, Line, LinePlace, Part, Program, record_of, said};
+use crate::{Draft, Line, LinePlace, Part, Program, RowTable, record_of, said};
+use cip_mps_lines::NameIndex;
 use std::alloc::{AllocError, Global};
 
 /// What was read of the lines that have ended. Behind ENDATA no line is looked at.
@@ -38,7 +39,18 @@ impl LineReader {
     {
         LineReader {
             place: LinePlace::new(alloc),
-            draft: Draft::new(alloc),
+            draft: Draft {
+                alloc,
+                opened: Vec::new(alloc),
+                sense: None,
+                row_names: NameIndex::new(alloc),
+                rows: RowTable::new(alloc),
+                column_names: NameIndex::new(alloc),
+                columns: Vec::new(alloc),
+                row_count: 0,
+                entries: 0,
+                near: 0,
+            },
             ended: false,
         }
     }

@@ -1,16 +1,13 @@
 //! A text of free MPS, in whatever pieces it comes.
-ghost use Rattle.std.specs.Prelude.{◌≡◌, ◌+◌, ◌<◌, ◌≤◌, ◌∷◌, ◌++◌, [], ℕ, List, Option, length, true, false, IfSome, OnOk, IfOk, MatchResult, fold};
+ghost use Rattle.std.specs.Prelude.{◌≡◌, ◌<◌, ◌≤◌, [], ℕ, List, Option, true, false, IfSome, OnOk, IfOk, MatchResult};
 ghost use Rattle.std.specs.List.{list_any};
-ghost use Rattle.cip_problem.specs.Limits.{longest_text};
 ghost use Rattle.cip_text_rules.specs.Lines.{is_line_feed};
 ghost use Rattle.cip_text_rules.specs.LineTexts.{outcome_of};
-ghost use Rattle.cip_text_rules.specs.LineEnds.{Stage};
-ghost use Rattle.cip_text_rules.specs.LineStream.{Stream, byte_read, stream_of};
+ghost use Rattle.cip_text_rules.specs.LineStream.{stream_of};
 ghost use Rattle.cip_text.specs.PieceFaults.{has_kind_to};
-ghost use Rattle.cip_text.specs.PieceCuts.{no_bytes, cut_of, with_bytes, with_feed, known_fault};
+ghost use Rattle.cip_text.specs.PieceCuts.{cut_of, with_bytes, with_feed, known_fault};
 ghost use Rattle.cip_text.specs.PieceStands.{progress_after, IsRead, IsLastRead, outcome_with};
 ghost use Rattle.cip_text_rules.specs.MpsOutcome.{mps_reading, HasProgram};
-ghost use Rattle.cip_text_rules.specs.MpsState.{State};
 ghost use Rattle.cip_text_rules.specs.MpsSteps.{mps_steps};
 
 use crate::Program;
@@ -39,18 +36,6 @@ pub struct MpsText {
 impl MpsText {
     ghost use Rattle.cip_mps.specs.MpsReaders.{HasCome, IsFaultOf};
     ghost use Rattle.cip_mps.specs.MpsTexts.{kept_of, stage_of, StandsFor};
-
-    /// Before the first byte.
-    pub(crate) fn new(alloc: Global) -> MpsText
-        ensures kept { kept_of result ≡ no_bytes }
-        ensures stage { stage_of result ≡ mps_steps.start }
-    {
-        MpsText {
-            alloc,
-            pieces: Pieces::new(alloc),
-            lines: LineReader::new(alloc),
-        }
-    }
 
     /// Reads the line that has not ended, all of which is kept, and says the kind of its fault, if it has one.
     fn read_unread(&mut self) -> Result<Option<u32>, AllocError>
@@ -96,43 +81,6 @@ impl MpsText {
         }
     }
 
-    /// Takes the last bytes of a line, and the line feed behind them. What the lines have left is let go where this one
-    /// is faulty.
-    fn end_line(&mut self, tail: &[u8]) -> Result<(), AllocError>
-        requires no_feed { list_any is_line_feed tail.now ≡ false }
-        requires few { (kept_of self.old).size + length tail.now ≤ longest_text }
-        ensures reads { (s : Stream (Stage State)) → StandsFor self.old s
-            → OnOk result (StandsFor self.new (fold (byte_read mps_steps) s (tail.now ++ 10 ∷ []))) }
-        ensures size { OnOk result ((kept_of self.new).size ≡ (kept_of self.old).size + length tail.now + 1) }
-    {
-        let kind = self.read_line(tail)?;
-        self.pieces.end_line_with(tail, kind);
-        self.let_go(kind);
-        Ok(())
-    }
-
-    /// Takes bytes of the text that are looked at.
-    fn take_bytes(&mut self, bytes: &[u8]) -> Result<(), AllocError>
-        requires { (kept_of self.old).size + length bytes.now ≤ longest_text + 1 }
-        ensures { (s : Stream (Stage State)) → StandsFor self.old s
-            → OnOk result (StandsFor self.new (fold (byte_read mps_steps) s bytes.now)) }
-    {
-        let mut rest = bytes;
-        while let Some((tail, behind)) = cut_line(rest) {
-            self.end_line(tail)?;
-            rest = behind;
-        }
-        self.pieces.keep(rest)
-    }
-
-    /// The fault at a line that has ended.
-    fn known_fault(&self) -> Option<KnownFault>
-        ensures fault { result ≡ known_fault 18 (kept_of self.now) }
-        ensures kinds { has_kind_to 21 result ≡ true }
-    {
-        self.pieces.known_fault(TOO_MANY)
-    }
-
     /// Reads the last line where it has no line feed, and says the kind of its fault, if it has one.
     fn read_last(&mut self) -> Result<Option<u32>, AllocError>
         ensures read { IfOk result (IsLastRead mps_steps (kept_of self.old) (stage_of self.old) (stage_of self.new)) }
@@ -146,14 +94,6 @@ impl MpsText {
         }
     }
 
-    /// The kind of the fault behind the last line, if there is one: ENDATA is missing.
-    fn end_kind(&self) -> Option<u32>
-        ensures fault { result ≡ mps_steps.end_fault (stage_of self.now) }
-        ensures kinds { IfSome result (λ k. (0 < k) × (k ≤ 21)) }
-    {
-        if self.lines.ended { None } else { Some(NO_END) }
-    }
-
     /// The fault of the text that ends here, if it has one.
     fn close(&mut self) -> Result<Option<KnownFault>, AllocError>
         ensures outcome { (text : List ℕ) → StandsFor self.old (stream_of mps_steps text)
@@ -163,7 +103,7 @@ impl MpsText {
     {
         texts_are_read();
         let last_kind = self.read_last()?;
-        let end_kind = self.end_kind();
+        let end_kind = if self.lines.ended { None } else { Some(NO_END) };
         Ok(self.pieces.fault_at_end(last_kind, end_kind, TOO_MANY))
     }
 
@@ -175,15 +115,6 @@ impl MpsText {
         let known = self.close()?;
         told::<MpsKind>(known)?;
         Ok(())
-    }
-
-    /// The program that the lines have said.
-    fn into_program(self) -> Result<Program, AllocError>
-        ensures { IfOk result (λ program. program ≡ mps_steps.result (stage_of self)) }
-    {
-        let MpsText { pieces, lines, .. } = self;
-        drop(pieces);
-        lines.into_program()
     }
 }
 
@@ -214,24 +145,39 @@ impl PieceText for MpsText {
     ghost is_given = { λ _ bytes answer. MatchResult answer (HasProgram bytes) (IsFaultOf bytes) };
 
     fn begin(alloc: Global) -> Option<MpsText> {
-        Some(MpsText::new(alloc))
+        Some(MpsText {
+            alloc,
+            pieces: Pieces::new(alloc),
+            lines: LineReader::new(alloc),
+        })
     }
 
+    /// What the lines have left is let go where one is faulty.
     fn take(&mut self, piece: &[u8]) -> Result<(), AllocError> {
-        let looked = self.pieces.looked_at(piece);
-        self.take_bytes(looked)
+        let mut rest = self.pieces.looked_at(piece);
+        while let Some((tail, behind)) = cut_line(rest) {
+            let kind = self.read_line(tail)?;
+            self.pieces.end_line_with(tail, kind);
+            self.let_go(kind);
+            rest = behind;
+        }
+        self.pieces.keep(rest)
     }
 
     /// A fault is known where a line that has ended is faulty.
     fn known(&self) -> Result<(), TextFault<MpsKind>> {
         faults_of_ended_lines();
-        told(self.known_fault())
+        told(self.pieces.known_fault(TOO_MANY))
     }
 
     fn finish(self) -> Result<Program, ReadFault<MpsKind>> {
         let mut text = self;
         match text.end() {
-            Ok(()) => Ok(text.into_program()?),
+            Ok(()) => {
+                let MpsText { pieces, lines, .. } = text;
+                drop(pieces);
+                Ok(lines.into_program()?)
+            }
             Err(fault) => {
                 drop(text);
                 Err(fault)

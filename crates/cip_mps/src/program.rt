@@ -57,7 +57,10 @@ fn objective_constant(sense: Option<bool>, rows: &RowTable) -> Frac
 {
     match objective_at(rows) {
         None => minimized(sense, Frac::zero().neg()),
-        Some(number) => minimized(sense, rows.head(number).right_side_or_zero().neg()),
+        Some(number) => {
+            let right_side = rows.head(number).right_side.unwrap_or(Frac::zero());
+            minimized(sense, right_side.neg())
+        }
     }
 }
 

@@ -23,7 +23,7 @@ impl Draft {
     {
         match row {
             None => false,
-            Some(number) => self.rows.head(number).has_range(),
+            Some(number) => self.rows.head(number).range.is_some(),
         }
     }
 

@@ -23,7 +23,7 @@ impl Draft {
     {
         match row {
             None => false,
-            Some(number) => self.rows.head(number).has_right_side(),
+            Some(number) => self.rows.head(number).right_side.is_some(),
         }
     }
 

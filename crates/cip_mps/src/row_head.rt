@@ -1,8 +1,7 @@
 //! A row without its numbers.
-ghost use Rattle.std.specs.Prelude.{◌≡◌, false, None, Some, is_some};
+ghost use Rattle.std.specs.Prelude.{◌≡◌, false, None, Some};
 ghost use Rattle.cip_mps_lines.specs.MpsKinds.{row_kind_in};
 ghost use Rattle.cip_text_rules.specs.MpsProgram.{is_free};
-ghost use Rattle.cip_text_rules.specs.MpsState.{right_side_of};
 ghost use Rattle.cip_text_rules.specs.MpsSteps.{or_else, new_row, overflows_with, with_right_side, with_range};
 ghost use Rattle.cip_mps.specs.GroupedRows.{sides_or_open};
 
@@ -15,9 +14,9 @@ use std::marker::Model;
 /// A row without its numbers: its type, and its values in RHS and RANGES. The side that RANGES moves can be formed.
 #[derive(Drop)]
 pub(crate) struct RowHead {
-    kind: RowKind,
-    right_side: Option<Frac>,
-    range: Option<Frac>,
+    pub(crate) kind: RowKind,
+    pub(crate) right_side: Option<Frac>,
+    pub(crate) range: Option<Frac>,
 }
 
 impl Model for RowHead {
@@ -75,20 +74,6 @@ impl RowHead {
         is_free_kind(self.kind)
     }
 
-    /// Whether it has a value in RHS.
-    pub(crate) fn has_right_side(&self) -> bool
-        ensures { result ≡ is_some self.now.right_side }
-    {
-        self.right_side.is_some()
-    }
-
-    /// Whether it has a value in RANGES.
-    pub(crate) fn has_range(&self) -> bool
-        ensures { result ≡ is_some self.now.range }
-    {
-        self.range.is_some()
-    }
-
     /// Whether a side can't be formed with a value in RHS, which counts where there is none yet.
     pub(crate) fn is_wide_with_right_side(&self, value: Frac) -> bool
         ensures { result ≡ overflows_with (Some value) None (Some self.now) }
@@ -119,13 +104,6 @@ impl RowHead {
         ensures { self.new ≡ with_range value self.old }
     {
         self.range = either(self.range, Some(value));
-    }
-
-    /// Its right-hand side, 0 where it has none.
-    pub(crate) fn right_side_or_zero(&self) -> Frac
-        ensures { result ≡ right_side_of self.now }
-    {
-        self.right_side.unwrap_or(Frac::zero())
     }
 
     /// Its sides; open ones where it is of type N.

@@ -10,7 +10,7 @@ ghost use Rattle.cip_text_rules.specs.MpsBounds.{settled, lacks_sides};
 ghost use Rattle.cip_text_rules.specs.MpsProgram.{is_free};
 ghost use Rattle.cip_text_rules.specs.MpsRules.{least, stands_behind, is_opened, has_many_words};
 ghost use Rattle.cip_text_rules.specs.MpsSteps.{or_else};
-ghost use Rattle.cip_text_rules.specs.MpsLineTests.{opening_tests, end_tests};
+ghost use Rattle.cip_text_rules.specs.MpsLineTests.{end_tests};
 ghost use Rattle.cip_mps.specs.DraftLines.{section_tests, sense_said_on};
 ghost use Rattle.cip_mps.specs.DraftStates.{kept};
 
@@ -147,22 +147,6 @@ impl Draft {
         false
     }
 
-    /// The least kind of fault of a section line that isn't ENDATA.
-    fn opening_fault(&self, part: Part, words: &Fields<'_>) -> Option<u32>
-        ensures { result ≡ least (opening_tests (kept self.now) (part_of part) (fields_left words.now)) }
-    {
-        if self.is_late(part) {
-            return Some(2);
-        }
-        if is_miscounted(part, words) {
-            return Some(4);
-        }
-        if has_bad_sense(part, words) {
-            return Some(21);
-        }
-        None
-    }
-
     /// The least kind of fault of the line ENDATA.
     fn end_fault(&self, words: &Fields<'_>) -> Option<u32>
         ensures { result ≡ least (end_tests (kept self.now) (fields_left words.now)) }
@@ -189,10 +173,19 @@ impl Draft {
     pub(crate) fn section_fault(&self, part: Part, words: &Fields<'_>) -> Option<u32>
         ensures { result ≡ least (section_tests (kept self.now) (part_of part) (fields_left words.now)) }
     {
-        match part {
-            Part::End => self.end_fault(words),
-            _ => self.opening_fault(part, words),
+        if let Part::End = part {
+            return self.end_fault(words);
         }
+        if self.is_late(part) {
+            return Some(2);
+        }
+        if is_miscounted(part, words) {
+            return Some(4);
+        }
+        if has_bad_sense(part, words) {
+            return Some(21);
+        }
+        None
     }
 
     /// Keeps a sense, where there is none yet.

@@ -1,22 +1,18 @@
 //! One line more.
-ghost use Rattle.std.specs.Prelude.{◌≡◌, IfOk, option_map};
+ghost use Rattle.std.specs.Prelude.{IfOk, option_map};
 ghost use Rattle.cip_text.specs.TextLines.{fields_left};
 ghost use Rattle.cip_mps_lines.specs.MpsKinds.{part_of, row_kind_in, bound_kind_in};
 ghost use Rattle.cip_mps_lines.specs.MpsLines.{values_of, saying_of};
 ghost use Rattle.cip_text_rules.specs.MpsSayings as text;
-ghost use Rattle.cip_text_rules.specs.MpsSayings.{no_place};
-ghost use Rattle.cip_text_rules.specs.MpsFacts.{no_facts};
-ghost use Rattle.cip_text_rules.specs.MpsState.{state_of};
 ghost use Rattle.cip_mps.specs.DraftStates.{kept};
 ghost use Rattle.cip_mps.specs.DraftSteps.{IsStep};
 
-use crate::RowTable;
 use crate::draft::Draft;
 use crate::sections::sense_on;
-use cip_mps_lines::{BoundKind, BoundNumber, Line, NameIndex, Pairs, Part, RowKind, sense_of};
+use cip_mps_lines::{BoundKind, BoundNumber, Line, Pairs, Part, RowKind, sense_of};
 use cip_text::Fields;
 use cip_text_rules::step_laws::lines_have_tests;
-use std::alloc::{AllocError, Global};
+use std::alloc::AllocError;
 
 impl Draft {
     /// Reads a section line.
@@ -171,24 +167,6 @@ impl Draft {
                 value,
             } => Ok(self.read_bound(*kind, set_name, column, value)),
             Line::BadBound => Ok(Some(14)),
-        }
-    }
-
-    /// No line was read.
-    pub fn new(alloc: Global) -> Draft
-        ensures { kept result ≡ state_of no_place no_facts }
-    {
-        Draft {
-            alloc,
-            opened: Vec::new(alloc),
-            sense: None,
-            row_names: NameIndex::new(alloc),
-            rows: RowTable::new(alloc),
-            column_names: NameIndex::new(alloc),
-            columns: Vec::new(alloc),
-            row_count: 0,
-            entries: 0,
-            near: 0,
         }
     }
 }

@@ -1,5 +1,5 @@
 //! The rows of the program.
-ghost use Rattle.std.specs.Prelude.{◌≡◌, ◌++◌, nat_lt, if◌then◌else◌, map, IfOk, OnOk};
+ghost use Rattle.std.specs.Prelude.{◌≡◌, ◌++◌, map, IfOk, OnOk};
 ghost use Rattle.std.specs.List.{filter};
 ghost use Rattle.cip_text_rules.specs.MpsState.{is_kept, finished_row};
 ghost use Rattle.cip_mps.specs.GroupedRows.{kept_rows};
@@ -8,7 +8,7 @@ use crate::groups::GROUP;
 use crate::row_head::RowHead;
 use crate::row_table::RowTable;
 use cip_lin::Row;
-use std::alloc::{AllocError, Global};
+use std::alloc::AllocError;
 
 /// Puts the rows whose heads aren't of type N behind others. `Err` comes where a growth was refused.
 fn keep_rows(finished: &mut Vec<Row>, heads: &[RowHead], rows: Vec<Row>) -> Result<(), AllocError>
@@ -30,13 +30,6 @@ fn keep_rows(finished: &mut Vec<Row>, heads: &[RowHead], rows: Vec<Row>) -> Resu
     Ok(())
 }
 
-/// How many of the rows that are left the next group has.
-fn rows_of_next(left: usize) -> usize
-    ensures { result ≡ (if nat_lt left 64 then left else 64) }
-{
-    if left < GROUP { left } else { GROUP }
-}
-
 impl RowTable {
     /// The rows of the program, in their order: all but those of type N. `Err` comes where a growth was refused. The
     /// numbers of 64 rows are dropped before those of the next are looked at.
@@ -53,7 +46,7 @@ impl RowTable {
         let mut finished = Vec::new(alloc);
         let mut rest = heads.as_slice();
         for group in groups {
-            let (here, behind) = rest.split_at(rows_of_next(rest.len()));
+            let (here, behind) = rest.split_at(rest.len().min(GROUP));
             let rows = group.into_rows(alloc, here)?;
             keep_rows(&mut finished, here, rows)?;
             rest = behind;

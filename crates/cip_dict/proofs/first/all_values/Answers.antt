@@ -14,8 +14,9 @@ rows_and_cost-found-requires-clause-at_long c =
 pub returns-in-Ok : goal.returns-in-Ok
 returns-in-Ok c =
     let at : c.as_slice-begun.result.now ≡ column_values_of c.args.columns.now = c.as_slice-begun.ensures.value ∙ c.in_ok-at.ensures in
+    let values : c.extend_from_slice.new.self.items ≡ c.as_slice-begun.result.now = grind (arith, common_steps) in
     let e = rw at at c.in-Ok.ensures in
-    (e.0, e.1 ∙ ap (λ xs. xs ++ table c.args.m (row_form (length c.args.columns.now) c.args.rows.now (column_values_of c.args.columns.now))) (c.in_ok-values.ensures ∙ at), e.2)
+    (e.0, e.1 ∙ ap (λ xs. xs ++ table c.args.m (row_form (length c.args.columns.now) c.args.rows.now (column_values_of c.args.columns.now))) (values ∙ at), e.2)
 
 pub returns-in-Err : goal.returns-in-Err
 returns-in-Err c = grind (arith, common_steps)

@@ -2,10 +2,10 @@ use Rattle.std.proofs.Common.{◌≡◌, ◌∙◌, ◌++◌, ap, length}
 use Rattle.cip_dict.specs.State.{state}
 use Rattle.cip_dict.proofs.first.first_lists.Goals as goal
 
-pub returns-in-Ok-settled_room : goal.returns-in-Ok-settled_room
-returns-in-Ok-settled_room c =
-    let e = c.settled_room.ensures in
-    let same : state (c.args.system.now.columns.now ++ c.args.system.now.rows.now) c.args.standing.now c.settled_room.new.lists ≡ state (c.args.system.now.columns.now ++ c.args.system.now.rows.now) c.args.standing.now c.in-Ok.lists =
+pub returns-in-Ok-room_for : goal.returns-in-Ok-room_for
+returns-in-Ok-room_for c =
+    let e = c.settle_lists.ensures in
+    let same : state (c.args.system.now.columns.now ++ c.args.system.now.rows.now) c.args.standing.now c.settle_lists.new.lists ≡ state (c.args.system.now.columns.now ++ c.args.system.now.rows.now) c.args.standing.now c.in-Ok.lists =
     λ k. record {
       sides = c.args.system.now.columns.now ++ c.args.system.now.rows.now;
       standing = c.args.standing.now;
@@ -21,5 +21,5 @@ returns-in-Ok-settled_room c =
         costs = ap length e.costs ∙ c.in-Ok.ensures.2.costs;
         values = ap length e.values ∙ c.in-Ok.ensures.2.values;
       },
-      c.in-Ok-settled_room.ensures.room,
+      c.in-Ok-room_for.ensures,
     )

@@ -10,5 +10,5 @@ returns c = record {
   rows = empty_has_rows c.args.standing.now c.in-Ok.rows.items c.in-Ok.ensures;
   changed = ap length c.in_ok-changed.ensures ∙ length-replicate (length c.args.standing.now) false;
   costs = ap length c.zeros-costs.ensures ∙ length-replicate (length c.args.standing.now) zeroℚ;
-  values = ap length c.in_ok-values.ensures ∙ length-replicate (length c.args.standing.now) zeroℚ;
+  values = ap length c.in_ok-values.ensures ∙ length-replicate (length c.args.standing.now) c.zero.result;
 }

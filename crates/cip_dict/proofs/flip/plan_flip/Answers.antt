@@ -15,13 +15,13 @@ use Rattle.cip_dict.proofs.flip.plan_flip.Goals as goal
 
 pub write_flips-requires-clause-arrives : goal.write_flips-requires-clause-arrives
 write_flips-requires-clause-arrives c =
-    let v : c.number-value.result ≡ value_at c.args.lists.now.values.items c.args.j = rw c.as_slice.ensures.value at c.number-value.ensures in
+    let v : c.number_at-value.result ≡ value_at c.args.lists.now.values.items c.args.j = rw c.as_slice.ensures.value at c.number_at-value.ensures in
     arrive c.side_of-side.result (value_at c.args.lists.now.values.items c.args.j) c.in-Ok.t (rw v at c.in-Ok.ensures.1)
 
 pub returns-in-Ok-clause-written : goal.returns-in-Ok-clause-written
 returns-in-Ok-clause-written c =
-    let v : c.number-value.result ≡ value_at c.args.lists.now.values.items c.args.j = rw c.as_slice.ensures.value at c.number-value.ensures in
-    let side : c.side_of-side.result ≡ standing_value (sides_at c.args.sides.now c.args.j) (other_stand (stand (state c.args.sides.now c.args.standing.now c.args.lists.now) c.args.j)) = c.side_of-side.ensures ∙ ap (standing_value (sides_at c.args.sides.now c.args.j)) c.other_at-other.ensures in
+    let v : c.number_at-value.result ≡ value_at c.args.lists.now.values.items c.args.j = rw c.as_slice.ensures.value at c.number_at-value.ensures in
+    let side : c.side_of-side.result ≡ standing_value (sides_at c.args.sides.now c.args.j) (other_stand (stand (state c.args.sides.now c.args.standing.now c.args.lists.now) c.args.j)) = c.side_of-side.ensures ∙ ap (standing_value (sides_at c.args.sides.now c.args.j)) c.other_of-other.ensures in
     let fits = rw (side, v) at c.in-Ok.ensures.0 in
     let t : c.in-Ok.t ≡ way (state c.args.sides.now c.args.standing.now c.args.lists.now) c.args.j = rw (side, v) at c.in-Ok.ensures.1 in
     let last = rw t at c.write_flips.ensures.written in

@@ -17,7 +17,8 @@ places-preserved c =
     let is : e ≡ get_or c.args.entries.now c.places.place e = c.index-entries-place.is in
     let below : e.0 < c.args.n = rw (← is) at (c.is_within.ensures.below c.places-test.true e) in
     let place = next_place c.args.line c.args.n c.args.entries.now (value_at c.args.values.now) c.requires.kept.0 c.requires.kept.1 c.places.place s.0 e s.2 s.3 c.places.total s.4 l is below in
-    let sum = next_sum c.args.line c.args.n c.args.entries.now (value_at c.args.values.now) c.requires.kept.0 c.requires.kept.1 c.places.place s.0 e s.2 s.3 c.places.total s.4 l is below c.in-Ok.value c.in-Ok.ensures.0 c.in-Ok.ensures.1 in
+    let here = rw (c.value_of.ensures, c.number_at-value.ensures) at c.in-Ok.ensures in
+    let sum = next_sum c.args.line c.args.n c.args.entries.now (value_at c.args.values.now) c.requires.kept.0 c.requires.kept.1 c.places.place s.0 e s.2 s.3 c.places.total s.4 l is below c.in-Ok.value here.0 here.1 in
     (suc e.0, omega (arith, below), rw add-one place, sum.0, sum.1)
 
 pub returns-in-Err : goal.returns-in-Err
@@ -27,7 +28,7 @@ returns-in-Err c =
     let l : c.places.place < length c.args.entries.now = c.is_within.ensures.within c.places-test.true in
     let is : e ≡ get_or c.args.entries.now c.places.place e = c.index-entries-place.is in
     let below : e.0 < c.args.n = rw (← is) at (c.is_within.ensures.below c.places-test.true e) in
-    next_wide c.args.line c.args.n c.args.entries.now (value_at c.args.values.now) c.requires.kept.0 c.requires.kept.1 c.places.place s.0 e s.2 s.3 c.places.total s.4 l is below c.in-Err.fault.place c.in-Err.ensures
+    next_wide c.args.line c.args.n c.args.entries.now (value_at c.args.values.now) c.requires.kept.0 c.requires.kept.1 c.places.place s.0 e s.2 s.3 c.places.total s.4 l is below c.in-Err.fault.place (rw (c.value_of.ensures, c.number_at-value.ensures) at c.in-Err.ensures)
 
 pub returns : goal.returns
 returns c =
@@ -35,11 +36,11 @@ returns c =
     form_gap c.args.line s.0 c.args.n (entry_on c.args.entries.now) (value_at c.args.values.now) c.places.total s.1 s.3 s.4
     (λ k a b. entry_between s.0 k c.args.entries.now c.places.place 0 c.requires.kept.0 c.requires.kept.1 s.2 a (λ d w. let r = c.is_within.ensures.past c.places-test.false d w in omega (arith, b, r)))
 
-pub entry_step-requires : goal.entry_step-requires
-entry_step-requires c = grind (arith, common_steps)
-
 pub overflow_add-place : goal.overflow_add-place
 overflow_add-place c = omega arith
 
 pub places-smaller : goal.places-smaller
 places-smaller c = omega arith
+
+pub number_at-value-requires : goal.number_at-value-requires
+number_at-value-requires c = grind (arith, common_steps)

@@ -1,7 +1,40 @@
+use Rattle.std.proofs.Common.{◌∙◌, ℕ, length, refl, sym, subst, arith}
+use Rattle.cip_problem.specs.Activity.{value_at}
+use Rattle.cip_bland.specs.Exchange.{substituted}
+use Rattle.cip_bland.specs.MoveOperations.{substituted_operations}
+use Rattle.cip_dict.specs.Lists.{basic_in}
+use Rattle.cip_dict.specs.SparseLines.{entry_on}
+use Rattle.cip_dict.specs.WholeLines.{IsSpelled}
+use Rattle.cip_dict.proofs.Dense.{dense_long, dense_read, dense_written, entering_written, row_written}
 use Rattle.cip_dict.proofs.lines.write_substituted.Goals as goal
+
+pub substitute_entries-requires-clause-leaving : goal.substitute_entries-requires-clause-leaving
+substitute_entries-requires-clause-leaving c =
+    rw c.as_slice-entering.ensures.value
+    (sym (dense_read (length c.args.new.now) c.ensure_spelled.new.spelled.entries.items c.args.new.now c.args.pivot.now.leaving c.in-Ok.ensures.done.same (omega (arith, c.requires.leaving, c.requires.new_long))) ∙ c.requires.is_leaving)
+
+pub substitute_entries-requires-clause-on : goal.substitute_entries-requires-clause-on
+substitute_entries-requires-clause-on c =
+    rw c.as_slice.ensures.value (c.entry-b.ensures ∙ dense_read (length c.args.row.now) c.spell.new.out.items c.args.row.now c.args.pivot.now.entering c.in-Ok-spell.ensures.same (omega (arith, c.requires.entering, c.requires.row_long)))
+
+pub returns-clause-written : goal.returns-clause-written
+returns-clause-written c =
+    let spelled : IsSpelled (length c.args.pivot.now.standing.now) c.args.new.now c.ensure_spelled.new.spelled.entries.items = subst (λ (n : ℕ). IsSpelled n c.args.new.now c.ensure_spelled.new.spelled.entries.items) c.requires.new_long c.in-Ok.ensures.done in
+    let entries = rw (c.as_slice.ensures.value, c.as_slice-entering.ensures.value) at c.substitute_entries.ensures.written in
+    let row = row_written (length c.args.pivot.now.standing.now) c.args.line (basic_in c.args.pivot.now.standing.now) c.args.pivot.now.leaving c.args.pivot.now.entering c.args.pivot.now.inverse (length c.args.row.now) c.spell.new.out.items c.args.row.now c.in-Ok-spell.ensures.same c.requires.row_long _ c.requires.entering c.substitute_entries.new.out.items c.substitute_entries.result entries in
+    let form = dense_written (length c.args.pivot.now.standing.now)
+    (substituted_operations c.args.line (basic_in c.args.pivot.now.standing.now) c.args.pivot.now.leaving c.args.pivot.now.entering c.args.pivot.now.inverse (entry_on c.ensure_spelled.new.spelled.entries.items) (value_at c.args.row.now))
+    (substituted_operations c.args.line (basic_in c.args.pivot.now.standing.now) c.args.pivot.now.leaving c.args.pivot.now.entering c.args.pivot.now.inverse (entry_on c.ensure_spelled.new.spelled.entries.items) (value_at c.args.row.now))
+    (substituted (basic_in c.args.pivot.now.standing.now) c.args.pivot.now.leaving c.args.pivot.now.entering c.args.pivot.now.inverse (entry_on c.ensure_spelled.new.spelled.entries.items) (value_at c.args.row.now))
+    (substituted (basic_in c.args.pivot.now.standing.now) c.args.pivot.now.leaving c.args.pivot.now.entering c.args.pivot.now.inverse (entry_on c.ensure_spelled.new.spelled.entries.items) (value_at c.args.row.now))
+    c.substitute_entries.new.out.items c.substitute_entries.result (λ k l. refl) (λ k l. refl) row in
+    entering_written (length c.args.pivot.now.standing.now) c.args.line (basic_in c.args.pivot.now.standing.now) c.args.pivot.now.leaving c.args.pivot.now.entering c.args.pivot.now.inverse c.ensure_spelled.new.spelled.entries.items c.args.new.now spelled.same c.requires.new_long (value_at c.args.row.now) _ c.substitute_entries.result form
+
+pub returns-clause-long : goal.returns-clause-long
+returns-clause-long c = dense_long _ _
+
+pub returns-in-Err-spell-clause-long : goal.returns-in-Err-spell-clause-long
+returns-in-Err-spell-clause-long c = dense_long _ _
 
 pub returns-in-Ok-true-clause-written : goal.returns-in-Ok-true-clause-written
 returns-in-Ok-true-clause-written c = c.in-Ok-true.ensures.written c.in-Ok-true.field-0-test c.args.line
-
-pub write_by_fractions-requires-clause-out_long : goal.write_by_fractions-requires-clause-out_long
-write_by_fractions-requires-clause-out_long c = c.in-Ok-false.ensures.long

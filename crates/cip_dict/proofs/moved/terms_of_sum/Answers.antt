@@ -1,14 +1,21 @@
-use Rattle.std.proofs.Common.{◌≡◌, ◌*◌, pos, ◌+ℤ◌, to_z, ap₂, arith, ap, ◌∙◌}
+use Rattle.std.proofs.Common.{◌≡◌, ◌<◌, ◌-◌, ◌^◌, ◌*◌, pos, ◌+ℤ◌, to_z, ap₂, refl, arith}
 use Rattle.std.specs.Int.{w64}
+use Rattle.std.proofs.lemmas.Nat.{mul-le}
 use Rattle.std.proofs.lemmas.Int.{ints, fits_signed_from_abs}
 use Rattle.cip_dict.proofs.Added.{read_word}
 use Rattle.cip_dict.proofs.moved.terms_of_sum.Goals as goal
 
 pub overflow_cast-under : goal.overflow_cast-under
-overflow_cast-under c = omega (arith, ints, c.short_size-under.ensures.short)
+overflow_cast-under c =
+    let l = mul-le c.args.below c.args.d (2 ^ 20 - 1) (2 ^ 20 - 1) (omega (arith, c.requires.entry_below)) (omega (arith, c.requires.factor_below)) in
+    let short : c.args.below * c.args.d < 2 ^ 40 = omega (arith, l) in
+    omega (arith, ints, short)
 
 pub long_product-first-requires-clause-first : goal.long_product-first-requires-clause-first
-long_product-first-requires-clause-first c = omega (arith, ints, c.short_size-under.ensures.short)
+long_product-first-requires-clause-first c =
+    let l = mul-le c.args.below c.args.d (2 ^ 20 - 1) (2 ^ 20 - 1) (omega (arith, c.requires.entry_below)) (omega (arith, c.requires.factor_below)) in
+    let short : c.args.below * c.args.d < 2 ^ 40 = omega (arith, l) in
+    omega (arith, ints, short)
 
 pub long_product-first-requires-clause-second : goal.long_product-first-requires-clause-second
 long_product-first-requires-clause-second c = rw (read_word c.args.a (omega (arith, c.requires.own))) c.requires.own
@@ -35,20 +42,22 @@ overflow_add-result c =
     rw (a, b) (fits_signed_from_abs w64 (c.long_product-first.result +ℤ c.long_product-second.result) (omega (arith, ints, c.long_product-first.ensures.short, c.long_product-second.ensures.short)))
 
 pub returns-clause-under : goal.returns-clause-under
-returns-clause-under c = c.long_size.ensures.value ∙ ap (λ u. c.args.b * u) c.short_size-under.ensures.value
+returns-clause-under c = refl
 
 pub returns-clause-over : goal.returns-clause-over
 returns-clause-over c =
     let a = read_word c.long_product-first.result (omega (arith, c.long_product-first.ensures.short)) in
     let b = read_word c.long_product-second.result (omega (arith, c.long_product-second.ensures.short)) in
     let r = read_word (c.long_product-first.result +ℤ c.long_product-second.result) (omega (arith, ints, c.long_product-first.ensures.short, c.long_product-second.ensures.short)) in
-    let under : to_z w64 c.short_size-under.result ≡ pos c.short_size-under.result = omega (arith, ints, c.short_size-under.ensures.short) in
+    let l = mul-le c.args.below c.args.d (2 ^ 20 - 1) (2 ^ 20 - 1) (omega (arith, c.requires.entry_below)) (omega (arith, c.requires.factor_below)) in
+    let short : c.args.below * c.args.d < 2 ^ 40 = omega (arith, l) in
+    let under : to_z w64 (c.args.below * c.args.d) ≡ pos (c.args.below * c.args.d) = omega (arith, ints, short) in
     let under_b : to_z w64 c.args.b ≡ pos c.args.b = omega (arith, ints, c.requires.own_below) in
     let own = read_word c.args.a (omega (arith, c.requires.own)) in
     let n = read_word c.args.n (omega (arith, c.requires.entry)) in
     let f = read_word c.args.c (omega (arith, c.requires.factor)) in
     let s = read_word c.short_product.result (omega (arith, c.short_product.ensures.short)) in
-    let first = rw (under, c.short_size-under.ensures.value, own) at c.long_product-first.ensures.value in
+    let first = rw (under, own) at c.long_product-first.ensures.value in
     let third = rw (n, f) at c.short_product.ensures.value in
     let second = rw (s, under_b, third) at c.long_product-second.ensures.value in
     rw (a, b, r) (ap₂ (λ x y. x +ℤ y) first second)
@@ -59,3 +68,16 @@ returns-clause-short c =
     let b = read_word c.long_product-second.result (omega (arith, c.long_product-second.ensures.short)) in
     let r = read_word (c.long_product-first.result +ℤ c.long_product-second.result) (omega (arith, ints, c.long_product-first.ensures.short, c.long_product-second.ensures.short)) in
     rw (a, b, r) (omega (arith, ints, c.long_product-first.ensures.short, c.long_product-second.ensures.short))
+
+pub overflow_mul-under : goal.overflow_mul-under
+overflow_mul-under c =
+    let l = mul-le c.args.below c.args.d (2 ^ 20 - 1) (2 ^ 20 - 1) (omega (arith, c.requires.entry_below)) (omega (arith, c.requires.factor_below)) in
+    let short : c.args.below * c.args.d < 2 ^ 40 = omega (arith, l) in
+    omega (arith, short)
+
+pub overflow_mul-result : goal.overflow_mul-result
+overflow_mul-result c =
+    let l = mul-le c.args.below c.args.d (2 ^ 20 - 1) (2 ^ 20 - 1) (omega (arith, c.requires.entry_below)) (omega (arith, c.requires.factor_below)) in
+    let short : c.args.below * c.args.d < 2 ^ 40 = omega (arith, l) in
+    let m = mul-le c.args.b (c.args.below * c.args.d) (2 ^ 20 - 1) (2 ^ 40 - 1) (omega (arith, c.requires.own_below)) (omega (arith, short)) in
+    omega (arith, m)

@@ -26,9 +26,6 @@ sum_near-requires-clause-new_small c = c.requires.new_small
 pub sum_near-requires-clause-positive : goal.sum_near-requires-clause-positive
 sum_near-requires-clause-positive c = c.requires.positive
 
-pub reduce_near-requires-clause-positive : goal.reduce_near-requires-clause-positive
-reduce_near-requires-clause-positive c = c.requires.positive
-
 pub returns-else-near-lt-SMALL : goal.returns-else-near-lt-SMALL
 returns-else-near-lt-SMALL c = grind (arith, common_steps)
 
@@ -38,8 +35,8 @@ returns-in-None c = grind (arith, common_steps)
 pub returns-in-Ok-None : goal.returns-in-Ok-None
 returns-in-Ok-None c = grind (arith, common_steps)
 
-pub returns-in-Some : goal.returns-in-Some
-returns-in-Some c = grind (arith, common_steps)
-
 pub returns-then-near-lt-SMALL : goal.returns-then-near-lt-SMALL
 returns-then-near-lt-SMALL c = grind (arith, common_steps)
+
+pub returns-then-divide_near : goal.returns-then-divide_near
+returns-then-divide_near c = grind (arith, common_steps)

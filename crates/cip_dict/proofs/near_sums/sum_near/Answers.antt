@@ -1,6 +1,7 @@
 use Rattle.std.proofs.Common.{◌≡◌, ◌<◌, ◌≤◌, ◌∙◌, to_z, of_z, length, arith, suc, sym, subst, lit<, ◌^◌, ap}
 use Rattle.std.specs.Int.{w64, w128}
 use Rattle.std.proofs.lemmas.Int.{ints, fits_signed_from_abs}
+use Rattle.cip_rational.specs.Range.{magnitude}
 use Rattle.cip_dict.specs.Lists.{basic_in}
 use Rattle.cip_dict.specs.SparseLines.{IsNext}
 use Rattle.cip_dict.specs.WholeLines.{over, put_number, AreBelow, wholes_of}
@@ -36,10 +37,14 @@ pub substituted_number-z-requires-clause-new_small : goal.substituted_number-z-r
 substituted_number-z-requires-clause-new_small c = rw (read_small c.loop-step.step.y c.loop-step.invariant.new_small) c.loop-step.invariant.new_small
 
 pub overflow_cast-z : goal.overflow_cast-z
-overflow_cast-z c = fits_signed_from_abs w64 _ (c.is_near.ensures c.if-not-is_near.false)
+overflow_cast-z c =
+    let near : magnitude (to_z w128 (of_z w128 c.substituted_number-z.result)) < 2 ^ 63 = omega (arith, ints, c.if-z.false, c.if-z-2.false) in
+    fits_signed_from_abs w64 _ near
 
 pub overflow_cast-z-in-loop-step : goal.overflow_cast-z-in-loop-step
-overflow_cast-z-in-loop-step c = fits_signed_from_abs w64 _ (c.is_near.ensures c.if-not-is_near.false)
+overflow_cast-z-in-loop-step c =
+    let near : magnitude (to_z w128 (of_z w128 c.substituted_number-z.result)) < 2 ^ 63 = omega (arith, ints, c.if-z.false, c.if-z-2.false) in
+    fits_signed_from_abs w64 _ near
 
 pub loop-step-preserved : goal.loop-step-preserved
 loop-step-preserved c =
@@ -49,7 +54,8 @@ loop-step-preserved c =
     let z : c.substituted_number-z.result ≡ put_number (basic_in c.args.pivot.now.standing.now) c.args.pivot.now.leaving c.args.pivot.now.entering c.args.factors.own c.args.factors.new c.args.row.now c.args.new.now c.loop-step.step.k =
     rw (read_small c.loop-step.step.n c.loop-step.invariant.row_small, read_small c.loop-step.step.y c.loop-step.invariant.new_small, c.loop-step.invariant.row_value l, c.loop-step.invariant.new_value l) at c.substituted_number-z.ensures.value in
     let kept : to_z w128 (of_z w128 c.substituted_number-z.result) ≡ c.substituted_number-z.result = omega (arith, ints, c.substituted_number-z.ensures.small) in
-    let short : to_z w64 (of_z w64 (to_z w128 (of_z w128 c.substituted_number-z.result))) ≡ to_z w128 (of_z w128 c.substituted_number-z.result) = read_word (to_z w128 (of_z w128 c.substituted_number-z.result)) (c.is_near.ensures c.if-not-is_near.false) in
+    let near : magnitude (to_z w128 (of_z w128 c.substituted_number-z.result)) < 2 ^ 63 = omega (arith, ints, c.if-z.false, c.if-z-2.false) in
+    let short : to_z w64 (of_z w64 (to_z w128 (of_z w128 c.substituted_number-z.result))) ≡ to_z w128 (of_z w128 c.substituted_number-z.result) = read_word (to_z w128 (of_z w128 c.substituted_number-z.result)) near in
     record {
       within = c.next_step-step-in-loop-step.ensures.within;
       row_value = λ l. c.next_step-step-in-loop-step.ensures.row_value l next.row_place;
@@ -63,7 +69,7 @@ loop-step-preserved c =
       positive = c.with_number-near.ensures.positive;
       under = λ s. c.loop-step.invariant.under (omega (arith, s, c.with_number-near.ensures.before));
       small = λ s. c.in_ok-keep_number.ensures.below (2 ^ 42) (omega (arith, s, c.with_number-near.ensures.this)) (c.loop-step.invariant.small (omega (arith, s, c.with_number-near.ensures.before)));
-      near = c.in_ok-keep_number.ensures.below (2 ^ 63) (rw short (c.is_near.ensures c.if-not-is_near.false)) c.loop-step.invariant.near;
+      near = c.in_ok-keep_number.ensures.below (2 ^ 63) (rw short near) c.loop-step.invariant.near;
     }
 
 pub loop-step-smaller : goal.loop-step-smaller
@@ -76,7 +82,7 @@ loop-step-smaller c =
 
 pub returns-in_err-keep_number-clause-near : goal.returns-in_err-keep_number-clause-near
 returns-in_err-keep_number-clause-near c =
-    let near = c.is_near.ensures c.if-not-is_near.false in
+    let near : magnitude (to_z w128 (of_z w128 c.substituted_number-z.result)) < 2 ^ 63 = omega (arith, ints, c.if-z.false, c.if-z-2.false) in
     c.in_err-keep_number.ensures.below (2 ^ 63) (rw (read_word (to_z w128 (of_z w128 c.substituted_number-z.result)) near) near) c.loop-step.invariant.near
 
 pub returns-clause-told : goal.returns-clause-told

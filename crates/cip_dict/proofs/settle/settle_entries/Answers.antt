@@ -1,6 +1,7 @@
 use Rattle.std.proofs.lemmas.Grind.{common_steps}
-use Rattle.std.proofs.Common.{◌≡◌, to_z, of_z, sym, subst, ◌^◌, arith}
+use Rattle.std.proofs.Common.{◌≡◌, ◌∙◌, to_z, of_z, sym, subst, ◌^◌, arith}
 use Rattle.std.specs.Int.{w64}
+use Rattle.std.proofs.lemmas.List.{get_or_default}
 use Rattle.cip_rational.specs.Rational.{zeroℚ}
 use Rattle.cip_dict.specs.WholeLines.{AreBelow}
 use Rattle.cip_dict.proofs.WholeParts.{read_small, append_below}
@@ -12,7 +13,7 @@ loop-at-preserved c =
     let w : to_z w64 (of_z w64 c.in-Some.number) ≡ c.in-Some.number = read_small c.in-Some.number c.in-Some.ensures.1 in
     let is = rw w at c.in_ok-push-in-Some.ensures.items in
     record {
-      written = settled_more c.args.entries.now c.loop-at.at c.args.below c.loop-at.out.items c.push.new.self.items c.entry_at-entry.result c.in-Some.number c.loop-at-test.true c.loop-at.invariant.written is (c.entry_at-entry.ensures (0, zeroℚ)) c.in-Some.ensures.0;
+      written = settled_more c.args.entries.now c.loop-at.at c.args.below c.loop-at.out.items c.push.new.self.items c.index-entries-at.result c.in-Some.number c.loop-at-test.true c.loop-at.invariant.written is (c.index-entries-at.is ∙ get_or_default c.args.entries.now c.loop-at.at c.index-entries-at.result (0, zeroℚ) c.loop-at-test.true) c.in-Some.ensures.0;
       small = subst (AreBelow (2 ^ 42)) (sym is) (append_below (2 ^ 42) c.loop-at.out.items _ c.in-Some.number c.loop-at.invariant.small c.in-Some.ensures.1);
     }
 

@@ -1,9 +1,12 @@
-use Rattle.std.proofs.Common.{◌≡◌, not, sym, ap, ◌∙◌}
+use Rattle.std.proofs.Common.{◌≡◌, not, of_z, nat_eq, sym, ap, ◌∙◌, arith}
+use Rattle.std.specs.Int.{w64}
+use Rattle.std.proofs.lemmas.Int.{ints}
+use Rattle.std.proofs.lemmas.Bool.{eqb-true, eqb-false}
 use Rattle.cip_rational.specs.Rational.{is_zero}
 use Rattle.cip_dict.specs.WholeLines.{number_on}
 use Rattle.cip_dict.proofs.Dense.{dense_read}
 use Rattle.cip_dict.proofs.FormParts.{one_kept, whole_test, parted_view}
-use Rattle.cip_dict.proofs.WholeParts.{read_small}
+use Rattle.cip_dict.proofs.WholeParts.{other_ratio}
 use Rattle.cip_dict.proofs.forms.Form.has.Goals as goal
 
 pub number_of-requires-clause-kept : goal.number_of-requires-clause-kept
@@ -12,7 +15,9 @@ number_of-requires-clause-kept c = (c.self.inside.len, rw c.as_slice.ensures.val
 pub returns-then-self : goal.returns-then-self
 returns-then-self c =
     let number : c.number_of.result ≡ number_on c.self.inside.wholes.items c.args.k = rw c.as_slice.ensures.value at c.number_of.ensures.value in
-    whole_test c.self.inside.len c.self.inside.is_whole c.self.inside.below c.self.inside.wholes.items c.self.inside.entries.items c.args.self.now c.self.invariant c.self.view_is (λ q. not (is_zero q)) _ c.is_other_than_zero.result c.args.k c.if-self.true c.requires (read_small c.number_of.result c.number_of.ensures.small ∙ number) c.is_other_than_zero.ensures
+    whole_test c.self.inside.len c.self.inside.is_whole c.self.inside.below c.self.inside.wholes.items c.self.inside.entries.items c.args.self.now c.self.invariant c.self.view_is (λ q. not (is_zero q)) c.number_of.result (not (nat_eq (of_z w64 c.number_of.result) 0)) c.args.k c.if-self.true c.requires number (λ d h. other_ratio c.number_of.result d (nat_eq (of_z w64 c.number_of.result) 0) h
+    (λ e. let z = eqb-true (of_z w64 c.number_of.result) 0 e in omega (arith, ints, z, c.number_of.ensures.small))
+    (λ e n. let z = eqb-false (of_z w64 c.number_of.result) 0 e in omega (arith, ints, z, n, c.number_of.ensures.small)))
 
 pub returns-else-self : goal.returns-else-self
 returns-else-self c =

@@ -1,36 +1,78 @@
-use Rattle.std.proofs.Common.{◌∙◌, List, ap, length, get_or, arith}
+use Rattle.std.proofs.lemmas.Grind.{common_steps}
+use Rattle.std.proofs.Common.{◌<◌, ◌∙◌, ◌^◌, List, pos, int_lt, sym, ap, length, get_or, arith}
+use Rattle.std.proofs.lemmas.List.{get_or_default}
 use Rattle.cip_rational.specs.Rational.{zeroℚ, lt_test}
 use Rattle.cip_dict.specs.SparseLines.{Kept}
-use Rattle.cip_dict.specs.WholeLines.{over}
 use Rattle.cip_dict.proofs.FormParts.{whole_all, parted_all}
-use Rattle.cip_dict.proofs.WholeParts.{length_over}
+use Rattle.cip_dict.proofs.WholeParts.{above_ratio, length_over, at_over, read_small, item_below}
 use Rattle.cip_dict.proofs.forms.Form.sign_at.Goals as goal
 
-pub whole_sign_at-requires-clause-there : goal.whole_sign_at-requires-clause-there
-whole_sign_at-requires-clause-there c =
+pub bounds-wholes-at : goal.bounds-wholes-at
+bounds-wholes-at c =
     let l = ap length (whole_all c.self.inside.len c.self.inside.is_whole c.self.inside.below c.self.inside.wholes.items c.self.inside.entries.items c.args.self.now c.self.invariant c.self.view_is c.if-self.true) in
-    rw c.as_slice.ensures.value (omega (arith, l, length_over c.self.inside.below c.self.inside.wholes.items, c.requires))
+    rw c.as_slice-wholes.ensures.value (omega (arith, l, length_over c.self.inside.below c.self.inside.wholes.items, c.requires))
 
-pub whole_sign_at-requires-clause-small : goal.whole_sign_at-requires-clause-small
-whole_sign_at-requires-clause-small c = rw c.as_slice.ensures.value (c.self.invariant.whole c.if-self.true).numbers
-
-pub entry_sign_at-requires : goal.entry_sign_at-requires
-entry_sign_at-requires c =
+pub bounds-entries-at : goal.bounds-entries-at
+bounds-entries-at c =
     let l = ap length (parted_all c.self.inside.len c.self.inside.is_whole c.self.inside.below c.self.inside.wholes.items c.self.inside.entries.items c.args.self.now c.self.invariant c.self.view_is c.if-self.false) in
-    rw c.as_slice-else-self.ensures.value (omega (arith, l, c.requires))
+    rw c.as_slice-entries.ensures.value (omega (arith, l, c.requires))
 
 pub returns-then-self-clause-variable : goal.returns-then-self-clause-variable
-returns-then-self-clause-variable c = λ d.
-    c.whole_sign_at.ensures.variable c.self.inside.below d (c.self.invariant.whole c.if-self.true).positive ∙ ap (λ ws. (get_or (over c.self.inside.below ws) c.args.at d).0) c.as_slice.ensures.value ∙ ap (λ (xs : List Kept). (get_or xs c.args.at d).0) (whole_all c.self.inside.len c.self.inside.is_whole c.self.inside.below c.self.inside.wholes.items c.self.inside.entries.items c.args.self.now c.self.invariant c.self.view_is c.if-self.true)
+returns-then-self-clause-variable c =
+    let all = whole_all c.self.inside.len c.self.inside.is_whole c.self.inside.below c.self.inside.wholes.items c.self.inside.entries.items c.args.self.now c.self.invariant c.self.view_is c.if-self.true in
+    let l = ap length all in
+    let there : c.args.at < length c.self.inside.wholes.items = omega (arith, l, length_over c.self.inside.below c.self.inside.wholes.items, c.requires) in
+    λ d. rw c.as_slice-wholes.ensures.value (ap (λ (e : Kept). e.0) (sym (at_over c.self.inside.below c.self.inside.wholes.items c.args.at d (0, pos 0) there))
+    ∙ ap (λ (xs : List Kept). (get_or xs c.args.at d).0) all)
 
 pub returns-then-self-clause-above : goal.returns-then-self-clause-above
-returns-then-self-clause-above c = λ d.
-    c.whole_sign_at.ensures.above c.self.inside.below d (c.self.invariant.whole c.if-self.true).positive ∙ ap (λ ws. lt_test zeroℚ (get_or (over c.self.inside.below ws) c.args.at d).1) c.as_slice.ensures.value ∙ ap (λ (xs : List Kept). lt_test zeroℚ (get_or xs c.args.at d).1) (whole_all c.self.inside.len c.self.inside.is_whole c.self.inside.below c.self.inside.wholes.items c.self.inside.entries.items c.args.self.now c.self.invariant c.self.view_is c.if-self.true)
+returns-then-self-clause-above c =
+    let all = whole_all c.self.inside.len c.self.inside.is_whole c.self.inside.below c.self.inside.wholes.items c.self.inside.entries.items c.args.self.now c.self.invariant c.self.view_is c.if-self.true in
+    let l = ap length all in
+    let there : c.args.at < length c.self.inside.wholes.items = omega (arith, l, length_over c.self.inside.below c.self.inside.wholes.items, c.requires) in
+    let whole = c.self.invariant.whole c.if-self.true in
+    let number = read_small (get_or c.self.inside.wholes.items c.args.at (0, pos 0)).1 (item_below (2 ^ 42) c.self.inside.wholes.items c.args.at (0, pos 0) whole.numbers there) in
+    λ d. rw c.as_slice-wholes.ensures.value (ap (int_lt (pos 0)) number ∙ above_ratio (get_or c.self.inside.wholes.items c.args.at (0, pos 0)).1 c.self.inside.below whole.positive
+    ∙ ap (λ (e : Kept). lt_test zeroℚ e.1) (sym (at_over c.self.inside.below c.self.inside.wholes.items c.args.at d (0, pos 0) there))
+    ∙ ap (λ (xs : List Kept). lt_test zeroℚ (get_or xs c.args.at d).1) all)
 
 pub returns-else-self-clause-variable : goal.returns-else-self-clause-variable
-returns-else-self-clause-variable c = λ d.
-    c.entry_sign_at.ensures.variable d ∙ ap (λ (xs : List Kept). (get_or xs c.args.at d).0) (c.as_slice-else-self.ensures.value ∙ parted_all c.self.inside.len c.self.inside.is_whole c.self.inside.below c.self.inside.wholes.items c.self.inside.entries.items c.args.self.now c.self.invariant c.self.view_is c.if-self.false)
+returns-else-self-clause-variable c =
+    let all = parted_all c.self.inside.len c.self.inside.is_whole c.self.inside.below c.self.inside.wholes.items c.self.inside.entries.items c.args.self.now c.self.invariant c.self.view_is c.if-self.false in
+    let l = ap length all in
+    let there : c.args.at < length c.self.inside.entries.items = omega (arith, l, c.requires) in
+    let is = rw c.as_slice-entries.ensures.value at c.index-entries-at.is in
+    λ d. ap (λ (e : Kept). e.0) (is ∙ get_or_default c.self.inside.entries.items c.args.at c.index-entries-at.result d there)
+    ∙ ap (λ (xs : List Kept). (get_or xs c.args.at d).0) all
 
 pub returns-else-self-clause-above : goal.returns-else-self-clause-above
-returns-else-self-clause-above c = λ d.
-    c.entry_sign_at.ensures.above d ∙ ap (λ (xs : List Kept). lt_test zeroℚ (get_or xs c.args.at d).1) (c.as_slice-else-self.ensures.value ∙ parted_all c.self.inside.len c.self.inside.is_whole c.self.inside.below c.self.inside.wholes.items c.self.inside.entries.items c.args.self.now c.self.invariant c.self.view_is c.if-self.false)
+returns-else-self-clause-above c =
+    let all = parted_all c.self.inside.len c.self.inside.is_whole c.self.inside.below c.self.inside.wholes.items c.self.inside.entries.items c.args.self.now c.self.invariant c.self.view_is c.if-self.false in
+    let l = ap length all in
+    let there : c.args.at < length c.self.inside.entries.items = omega (arith, l, c.requires) in
+    let is = rw c.as_slice-entries.ensures.value at c.index-entries-at.is in
+    λ d. c.is_above.ensures ∙ ap (λ (e : Kept). lt_test zeroℚ e.1) (is ∙ get_or_default c.self.inside.entries.items c.args.at c.index-entries-at.result d there)
+    ∙ ap (λ (xs : List Kept). lt_test zeroℚ (get_or xs c.args.at d).1) all
+
+pub offset_bounds-wholes-at : goal.offset_bounds-wholes-at
+offset_bounds-wholes-at c =
+    let l = ap length (whole_all c.self.inside.len c.self.inside.is_whole c.self.inside.below c.self.inside.wholes.items c.self.inside.entries.items c.args.self.now c.self.invariant c.self.view_is c.if-self.true) in
+    let there : c.args.at < length c.as_slice-wholes.result.now = rw c.as_slice-wholes.ensures.value (omega (arith, l, length_over c.self.inside.below c.self.inside.wholes.items, c.requires)) in
+    grind (arith, common_steps)
+
+pub offset_bounds-wholes-at-then-self : goal.offset_bounds-wholes-at-then-self
+offset_bounds-wholes-at-then-self c =
+    let l = ap length (whole_all c.self.inside.len c.self.inside.is_whole c.self.inside.below c.self.inside.wholes.items c.self.inside.entries.items c.args.self.now c.self.invariant c.self.view_is c.if-self.true) in
+    let there : c.args.at < length c.as_slice-wholes.result.now = rw c.as_slice-wholes.ensures.value (omega (arith, l, length_over c.self.inside.below c.self.inside.wholes.items, c.requires)) in
+    grind (arith, common_steps)
+
+pub bounds-wholes-at-then-self : goal.bounds-wholes-at-then-self
+bounds-wholes-at-then-self c =
+    let l = ap length (whole_all c.self.inside.len c.self.inside.is_whole c.self.inside.below c.self.inside.wholes.items c.self.inside.entries.items c.args.self.now c.self.invariant c.self.view_is c.if-self.true) in
+    rw c.as_slice-wholes.ensures.value (omega (arith, l, length_over c.self.inside.below c.self.inside.wholes.items, c.requires))
+
+pub offset_bounds-entries-at : goal.offset_bounds-entries-at
+offset_bounds-entries-at c =
+    let l = ap length (parted_all c.self.inside.len c.self.inside.is_whole c.self.inside.below c.self.inside.wholes.items c.self.inside.entries.items c.args.self.now c.self.invariant c.self.view_is c.if-self.false) in
+    let there : c.args.at < length c.as_slice-entries.result.now = rw c.as_slice-entries.ensures.value (omega (arith, l, c.requires)) in
+    grind (arith, common_steps)

@@ -1,4 +1,5 @@
-use Rattle.std.proofs.Common.{ap, ◌∙◌}
+use Rattle.std.proofs.lemmas.Grind.{common_steps}
+use Rattle.std.proofs.Common.{ap, ◌∙◌, arith}
 use Rattle.cip_dict.specs.WholeLines.{over}
 use Rattle.cip_dict.proofs.Dense.{on_ok}
 use Rattle.cip_dict.proofs.FormParts.{whole_kept, whole_view, parted_kept, parted_view, spelled_as}
@@ -11,5 +12,5 @@ returns-then-self c =
 
 pub returns-else-self : goal.returns-else-self
 returns-else-self c =
-    on_ok c.copy_entries.result _ _ c.copy_entries.ensures
-    (λ e. spelled_as c.self.inside.len c.self.inside.entries.items c.args.self.now (parted_kept c.self.inside.len c.self.inside.is_whole c.self.inside.below c.self.inside.wholes.items c.self.inside.entries.items c.args.self.now c.self.invariant c.self.view_is c.if-self.false) (parted_view c.self.inside.len c.self.inside.is_whole c.self.inside.below c.self.inside.wholes.items c.self.inside.entries.items c.args.self.now c.self.invariant c.self.view_is c.if-self.false) c.copy_entries.new.out.items (e ∙ c.as_slice-else-self.ensures.value))
+    on_ok c.extend_from_slice.result _ _ (grind (arith, common_steps))
+    (λ e. spelled_as c.self.inside.len c.self.inside.entries.items c.args.self.now (parted_kept c.self.inside.len c.self.inside.is_whole c.self.inside.below c.self.inside.wholes.items c.self.inside.entries.items c.args.self.now c.self.invariant c.self.view_is c.if-self.false) (parted_view c.self.inside.len c.self.inside.is_whole c.self.inside.below c.self.inside.wholes.items c.self.inside.entries.items c.args.self.now c.self.invariant c.self.view_is c.if-self.false) c.extend_from_slice.new.self.items e)

@@ -5,4 +5,4 @@ use Rattle.cip_dict.proofs.Dense.{dense_none}
 use Rattle.cip_dict.proofs.forms.Form.zeros.Goals as goal
 
 pub returns : goal.returns
-returns c = ap (λ ws. dense c.args.len (over 1 ws)) c.wholes.ensures ∙ sym (dense_none c.args.len)
+returns c = ap (λ ws. dense c.args.len (over 1 ws)) c.taken-wholes.ensures ∙ sym (dense_none c.args.len)

@@ -10,4 +10,4 @@ use Rattle.cip_mps.proofs.mps_text.MpsTextPieceText.known.Goals as goal
 pub returns : goal.returns
 returns c = λ bytes h.
     let text = c.args.self.now in
-    told_by mps_reading mps_steps c.faults_of_ended_lines.ensures bytes (kept_of text) (stage_of text) h kind_number c.told.result (subst (λ known. IsSaid kind_number known c.told.result) c.known_fault.ensures.fault c.told.ensures)
+    told_by mps_reading mps_steps c.faults_of_ended_lines.ensures bytes (kept_of text) (stage_of text) h kind_number c.told.result (subst (λ known. IsSaid kind_number known c.told.result) c.known_fault.ensures c.told.ensures)

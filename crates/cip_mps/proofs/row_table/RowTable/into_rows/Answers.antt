@@ -17,9 +17,9 @@ loop-group-preserved c =
     let all = map finished_row (filter is_kept c.args.self) in
     let split : into_iter_items c.loop-group.group-iterator ≡ c.in-Some.group ∷ groups = c.in-Some.ensures.steps.0 in
     let joined : here ++ behind ≡ c.loop-group.rest.now =
-    ap (λ (xs : List _). xs ++ behind) c.split_at.ensures.front ∙ ap (λ (xs : List _). take c.rows_of_next.result c.loop-group.rest.now ++ xs) c.split_at.ensures.back ∙ take-append-drop c.rows_of_next.result c.loop-group.rest.now in
+    ap (λ (xs : List _). xs ++ behind) c.split_at.ensures.front ∙ ap (λ (xs : List _). take c.min.result c.loop-group.rest.now ++ xs) c.split_at.ensures.back ∙ take-append-drop c.min.result c.loop-group.rest.now in
     let parts = group_parts (length c.loop-group.rest.now) (length here) (length behind) (length groups)
-    (c.split_at.ensures.front_len ∙ c.rows_of_next.ensures) (omega (arith, c.split_at.ensures.front_len, c.split_at.ensures.back_len)) (let e = ap length split in let h = c.loop-group.invariant.enough in omega (arith, e, h)) in
+    (c.split_at.ensures.front_len ∙ c.min.ensures) (omega (arith, c.split_at.ensures.front_len, c.split_at.ensures.back_len)) (let e = ap length split in let h = c.loop-group.invariant.enough in omega (arith, e, h)) in
     let step = one_group here behind c.in-Some.group groups before all parts.0 parts.1.0 ((λ i. before ++ finished (joined i) (sym split i)) ∙ c.loop-group.invariant.finished) in
     let kept = c.in_ok-keep_rows.ensures ∙ ap (λ rows. before ++ kept_rows here rows) c.in_ok-rows.ensures in
     record {

@@ -2,7 +2,7 @@ use Rattle.std.proofs.Common.{◌≡◌, ◌++◌, None}
 use Rattle.cip_bland.specs.Tables.{table, each}
 use Rattle.cip_bland.specs.Operations.{first_overflow}
 use Rattle.cip_dict.specs.FirstLists.{row_form, row_operations}
-use Rattle.cip_dict.proofs.first.row_values.Given as goal
+use Rattle.cip_dict.proofs.first.rows_and_cost.Given as goal
 
 abbrev pub invariant-loop-r : goal.invariant-loop-r
 invariant-loop-r l = record {
