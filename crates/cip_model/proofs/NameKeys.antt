@@ -1,6 +1,6 @@
 -- The numbers that have the bytes of short names.
 use Rattle.std.proofs.Common.{◌≡◌, ℕ, ◌+◌, ◌*◌, ◌<◌, ◌==◌, Bool, true, false, cond, ◌&&◌, List, [], ◌∷◌, length, ◌≤◌, drop, length-drop, Option, None, Some, refl, sym, ap, ◌∙◌, arith}
-use Rattle.std.specs.Prelude.{nat_lt, option_map, Result, Ok, Err, OnOk}
+use Rattle.std.specs.Prelude.{nat_lt, option_map}
 use Rattle.std.specs.BTreeMap.{get_by}
 use Rattle.std.specs.Str.{bytes_eq}
 use Rattle.std.specs.Ordering.{nat_cmp}
@@ -97,16 +97,15 @@ no_key name key place e l m = sym (ap (λ o. cond (nat_lt (length name) 16) (opt
 
 -- ---- one name more
 
--- names of which one has a number and the other none differ
-differ : (xs ys : List ℕ) (k : ℕ) → key_of xs ≡ Some k → key_of ys ≡ None → bytes_eq ys xs ≡ false
-differ xs ys k p q = go (bytes_eq ys xs) refl
+-- names that have not one number differ
+differ : (xs ys : List ℕ) → (key_of xs ≡ key_of ys → ⊥) → bytes_eq xs ys ≡ false
+differ xs ys apart = go (bytes_eq xs ys) refl
   where
-    go : (b : Bool) → bytes_eq ys xs ≡ b → b ≡ false
+    go : (b : Bool) → bytes_eq xs ys ≡ b → b ≡ false
     go false e = refl
-    go true e =
-        let same : ys ≡ xs = (bytes_eq-Decides ys xs).0 e in
-        let no : None ≡ Some k = sym q ∙ ap key_of same ∙ p in absurd (cc)
+    go true e = absurd (apart (ap key_of ((bytes_eq-Decides xs ys).0 e)))
 
+-- a name with a number is put in
 pub short_put : (old new : Order) (name : List ℕ) (key number : ℕ) → key_of name ≡ Some key
     → ((other : List ℕ) → number_by None new other ≡ number_by None old other)
     → ((j : ℕ) → get_by (λ item. nat_cmp j item) new.short ≡ cond (j == key) (Some number) (get_by (λ item. nat_cmp j item) old.short))
@@ -114,10 +113,20 @@ pub short_put : (old new : Order) (name : List ℕ) (key number : ℕ) → key_o
 short_put old new name key number e same put other = go (key_of other) refl
   where
     go : (o : Option ℕ) → key_of other ≡ o → number_by o new other ≡ cond (bytes_eq other name) (Some number) (number_by o old other)
-    go None q = same other ∙ ap (λ b. cond b (Some number) (number_by None old other)) (sym (differ name other key e q))
+    go None q =
+        let apart : key_of other ≡ key_of name → ⊥ = λ one. let no : None ≡ Some key = sym q ∙ one ∙ e in absurd (cc) in
+        same other ∙ ap (λ b. cond b (Some number) (number_by None old other)) (sym (differ other name apart))
     go (Some j) q = put j ∙ ap (λ b. cond b (Some number) (get_by (λ item. nat_cmp j item) old.short)) (alike other name j key q e)
 
--- what follows from a growth that was not refused
-pub if_ok : {A E : Type 0} (result : Result A E) (P Q : Type 0) → (P → Q) → OnOk result P → OnOk result Q
-if_ok (Ok a) P Q f p = f p
-if_ok (Err e) P Q f p = tt
+-- a name without a number is put in
+pub long_put : (old new : Order) (name : List ℕ) (number : ℕ) → key_of name ≡ None
+    → ((key : ℕ) (other : List ℕ) → number_by (Some key) new other ≡ number_by (Some key) old other)
+    → ((other : List ℕ) → number_by None new other ≡ cond (bytes_eq other name) (Some number) (number_by None old other))
+    → (other : List ℕ) → number_in new other ≡ cond (bytes_eq other name) (Some number) (number_in old other)
+long_put old new name number e same put other = go (key_of other) refl
+  where
+    go : (o : Option ℕ) → key_of other ≡ o → number_by o new other ≡ cond (bytes_eq other name) (Some number) (number_by o old other)
+    go None q = put other
+    go (Some key) q =
+        let apart : key_of other ≡ key_of name → ⊥ = λ one. let no : Some key ≡ None = sym q ∙ one ∙ e in absurd (cc) in
+        same key other ∙ ap (λ b. cond b (Some number) (number_by (Some key) old other)) (sym (differ other name apart))

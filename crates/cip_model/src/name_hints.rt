@@ -1,6 +1,7 @@
 //! Names that stand one behind another in a list of bytes, and hints where a name may stand among them: a table of
 //! numbers by the fingerprints of names. A hint says nothing until the name at its number was compared, so no contract
-//! speaks of fingerprints, nor of the places of the table. A name whose number has over 17 bits has no hint.
+//! speaks of fingerprints, nor of the places of the table. A name whose number has over 17 bits has no hint. A hint has
+//! 4 bytes, and the table no place yet, or as many as a power of two; a free place is 0.
 ghost use Rattle.std.specs.Prelude.{◌≡◌, ◌<◌, Some, length, slice_get, IfSome};
 ghost use Rattle.cip_model.specs.Keys.{pieces_from, start_from, AreRising};
 
@@ -11,12 +12,6 @@ const MOST_LOOKS: usize = 16;
 
 /// The bits of a hint that have the number of a name and 1 more; the others are of the name's fingerprint.
 const NUMBER: u32 = 0x1_FFFF;
-
-/// Hints by fingerprints, of 4 bytes each: none yet, or as many places as a power of two. A free place is 0.
-#[derive(Drop)]
-pub(crate) struct Hints {
-    places: Vec<u32>,
-}
 
 /// Where the piece of this number starts: where the one before it ends.
 fn start_of(ends: &[u32], number: usize) -> usize
@@ -78,90 +73,53 @@ fn put_in(places: &mut [u32], print: u64, number: usize) {
     }
 }
 
-/// A table of so many places with the hints of these names.
-fn table(alloc: Global, count: usize, bytes: &[u8], ends: &[u32]) -> Result<Vec<u32>, AllocError>
+/// Puts a hint of a name that comes behind those that stand one behind another, each with its hint, into the table,
+/// which grows by itself. `Err` comes where a growth was refused.
+pub(crate) fn put_hint(
+    alloc: Global,
+    hints: &mut Vec<u32>,
+    bytes: &[u8],
+    ends: &[u32],
+    name: &[u8],
+) -> Result<(), AllocError>
     requires { AreRising 0 ends.now (length bytes.now) }
 {
-    let mut places = vec![in alloc; 0u32; count]?;
-    for number in 0..ends.len() {
-        put_in(
-            places.as_mut_slice(),
-            fingerprint(piece(bytes, ends, number)),
-            number,
-        );
+    let count = hints.len();
+    if ends.len() >= count / 16 * 9 {
+        let wider = if count == 0 { 16 } else { count * 2 };
+        let mut places = vec![in alloc; 0u32; wider]?;
+        for number in 0..ends.len() {
+            let print = fingerprint(piece(bytes, ends, number));
+            put_in(places.as_mut_slice(), print, number);
+        }
+        *hints = places;
     }
-    Ok(places)
+    put_in(hints.as_mut_slice(), fingerprint(name), ends.len());
+    Ok(())
 }
 
-/// The number that a hint gives, if the name stands there.
-fn hinted(hint: u32, mark: u32, bytes: &[u8], ends: &[u32], name: &[u8]) -> Option<usize>
+/// The number of a name, of names that stand one behind another, if the hints have it.
+pub(crate) fn hinted(hints: &[u32], bytes: &[u8], ends: &[u32], name: &[u8]) -> Option<usize>
     requires { AreRising 0 ends.now (length bytes.now) }
     ensures { IfSome result (λ number. slice_get (pieces_from 0 bytes.now ends.now) number ≡ Some name.now) }
 {
-    if hint & !NUMBER != mark {
+    let print = fingerprint(name);
+    let count = hints.len();
+    if count == 0 {
         return None;
     }
-    let behind = (hint & NUMBER) as usize;
-    if behind == 0 || behind > ends.len() {
-        return None;
-    }
-    let number = behind - 1;
-    if piece(bytes, ends, number) == name {
-        Some(number)
-    } else {
-        None
-    }
-}
-
-impl Hints {
-    /// No hint yet.
-    pub(crate) fn new(alloc: Global) -> Hints {
-        Hints {
-            places: Vec::new(alloc),
-        }
-    }
-
-    /// Hints that a name comes behind those that stand one behind another. `Err` comes where a growth was refused.
-    pub(crate) fn put(
-        &mut self,
-        alloc: Global,
-        bytes: &[u8],
-        ends: &[u32],
-        name: &[u8],
-    ) -> Result<(), AllocError>
-        requires { AreRising 0 ends.now (length bytes.now) }
-    {
-        let number = ends.len();
-        let count = self.places.len();
-        if number >= count / 16 * 9 {
-            let wider = if count == 0 { 16 } else { count * 2 };
-            self.places = table(alloc, wider, bytes, ends)?;
-        }
-        put_in(self.places.as_mut_slice(), fingerprint(name), number);
-        Ok(())
-    }
-
-    /// The number of a name, of names that stand one behind another, if the hints have it.
-    pub(crate) fn find(&self, bytes: &[u8], ends: &[u32], name: &[u8]) -> Option<usize>
-        requires { AreRising 0 ends.now (length bytes.now) }
-        ensures { IfSome result (λ number. slice_get (pieces_from 0 bytes.now ends.now) number ≡ Some name.now) }
-    {
-        let print = fingerprint(name);
-        let mark = marked(print);
-        let places = self.places.as_slice();
-        let count = places.len();
-        if count == 0 {
+    for look in 0..MOST_LOOKS {
+        let hint = hints[place_of(print, look, count)];
+        if hint == 0 {
             return None;
         }
-        for look in 0..MOST_LOOKS {
-            let hint = places[place_of(print, look, count)];
-            if hint == 0 {
-                return None;
-            }
-            if let Some(number) = hinted(hint, mark, bytes, ends, name) {
-                return Some(number);
-            }
+        let behind = (hint & NUMBER) as usize;
+        if hint & !NUMBER != marked(print) || behind == 0 || behind > ends.len() {
+            continue;
         }
-        None
+        if piece(bytes, ends, behind - 1) == name {
+            return Some(behind - 1);
+        }
     }
+    None
 }

@@ -1,9 +1,9 @@
 //! Names and their numbers.
-ghost use Rattle.std.specs.Prelude.{◌≡◌, ℕ, ◌+◌, ◌<◌, ◌++◌, ◌∷◌, ◌↔◌, [], List, Some, None, IsTrue, length, vec_len, vec_capacity, slice_get, IfSome, IfOk, OnOk, OnErr, MatchResult};
+ghost use Rattle.std.specs.Prelude.{◌≡◌, ℕ, ◌+◌, ◌<◌, ◌++◌, ◌∷◌, ◌↔◌, [], List, Some, None, IsTrue, length, vec_len, vec_capacity, slice_get, IfSome, OnOk, OnErr, MatchResult};
 ghost use Rattle.cip_problem.specs.Names.{number_of};
 ghost use Rattle.cip_model.specs.Keys.{AreRising};
 
-use crate::name_hints::{Hints, piece};
+use crate::name_hints::{hinted, piece, put_hint};
 use crate::name_order::Order;
 use std::alloc::{AllocError, Global};
 use std::marker::Model;
@@ -17,7 +17,7 @@ pub struct Names {
     bytes: Vec<u8>,
     ends: Vec<u32>,
     order: Order,
-    hints: Hints,
+    hints: Vec<u32>,
 }
 
 impl Model for Names {
@@ -35,31 +35,13 @@ impl Model for Names {
     ghost invariant = { AreOrdered };
 }
 
-/// Puts the place behind a name behind those of others, for which there is room.
-fn push(ends: &mut Vec<u32>, end: u32)
-    requires { vec_len ends.old < vec_capacity ends.old }
-    ensures { ends.new.items ≡ ends.old.items ++ end ∷ [] }
-{
-    let _ = ends.push(end);
-}
-
-/// The place behind so many bytes more. `Err` comes where it is no `u32`.
-fn end_of(start: usize, more: usize) -> Result<u32, AllocError>
-    ensures { IfOk result (λ end. end ≡ start + more) }
-{
-    match start.checked_add(more) {
-        Some(end) if end <= u32::MAX as usize => Ok(end as u32),
-        _ => Err(AllocError),
-    }
-}
-
 /// Writes a name behind the others, with room for the place behind it, which is answered. `Err` comes where a growth
 /// was refused, or the names would have more bytes than `u32::MAX`, and leaves names and ends as they were.
 fn written(
     alloc: Global,
     bytes: &mut Vec<u8>,
     ends: &mut Vec<u32>,
-    hints: &mut Hints,
+    hints: &mut Vec<u32>,
     name: &[u8],
 ) -> Result<u32, AllocError>
     requires { AreRising 0 ends.old.items (length bytes.old.items) }
@@ -69,8 +51,11 @@ fn written(
         × (vec_len ends.new < vec_capacity ends.new))
         (λ _. bytes.new.items ≡ bytes.old.items) }
 {
-    let end = end_of(bytes.len(), name.len())?;
-    hints.put(alloc, bytes.as_slice(), ends.as_slice(), name)?;
+    let end = match bytes.len().checked_add(name.len()) {
+        Some(end) if end <= u32::MAX as usize => end as u32,
+        _ => return Err(AllocError),
+    };
+    put_hint(alloc, hints, bytes.as_slice(), ends.as_slice(), name)?;
     ends.reserve(1)?;
     match bytes.extend_from_slice(name) {
         Ok(()) => Ok(end),
@@ -90,7 +75,7 @@ impl Names {
             bytes: Vec::new(alloc),
             ends: Vec::new(alloc),
             order: Order::new(alloc),
-            hints: Hints::new(alloc),
+            hints: Vec::new(alloc),
         }
     }
 
@@ -113,10 +98,8 @@ impl Names {
         ensures number { result ≡ number_of self.now name.now }
         ensures within { IfSome result (λ number. number < length self.now) }
     {
-        match self
-            .hints
-            .find(self.bytes.as_slice(), self.ends.as_slice(), name)
-        {
+        let hints = self.hints.as_slice();
+        match hinted(hints, self.bytes.as_slice(), self.ends.as_slice(), name) {
             Some(number) => Some(number),
             None => self.order.get(name),
         }
@@ -154,7 +137,7 @@ impl Names {
             self.bytes.truncate(start);
             return Err(error);
         }
-        push(&mut self.ends, end);
+        self.ends.push_reserved(end);
         Ok(())
     }
 }

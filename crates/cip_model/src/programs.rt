@@ -7,12 +7,12 @@ ghost use Rattle.cip_model.specs.Verdicts.{verdict_of};
 ghost use Rattle.cip_model.specs.Least.{least_cost_from};
 ghost use Rattle.cip_model.specs.Meaning.{VerdictHolds, BoundHolds};
 
-use crate::checks::{broken_row, cost, least_cost, not_whole, outside};
+use crate::checks::{broken_row, cost, not_whole, outside};
 use crate::names::Names;
 use crate::parts::{Parts, Sense};
 use crate::verdicts::{Place, Verdict};
 use cip_frac::Frac;
-use cip_lin::{Bounds, Choices, Least, Row};
+use cip_lin::{Bounds, Choices, Least, Row, add_least};
 use std::marker::Model;
 
 /// A program: rows and columns by number from 0, at most `MOST_ROWS` and `MOST_COLUMNS`. Costs and
@@ -155,6 +155,18 @@ impl Program {
         ensures meaning { BoundHolds (box_bound self.now bounds.now) result }
     {
         let costs = self.parts.costs.as_slice();
-        least_cost(self.parts.constant, costs, bounds.as_slice())
+        let sides = bounds.as_slice();
+        let mut sum = self.parts.constant;
+        for at in 0..costs.len() {
+            let (cost, own) = (costs[at], sides[at]);
+            if cost == Frac::zero() {
+                continue;
+            }
+            match add_least(sum, cost, own) {
+                Least::Value(value) => sum = value,
+                other => return other,
+            }
+        }
+        Least::Value(sum)
     }
 }

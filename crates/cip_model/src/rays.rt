@@ -1,13 +1,10 @@
 //! The test of a ray beside a point.
-ghost use Rattle.std.specs.Prelude.{◌≡◌, ◌↔◌, ◌&&◌, ◌||◌, not, length, All, IsTrue};
-ghost use Rattle.cip_rational.specs.Rational.{zeroℚ, le_test, lt_test};
+ghost use Rattle.std.specs.Prelude.{◌≡◌, ◌↔◌, length, All, IsTrue};
+ghost use Rattle.cip_rational.specs.Rational.{zeroℚ, le_test};
 ghost use Rattle.cip_problem.specs.Activity.{StandsBelow};
 ghost use Rattle.cip_problem.specs.WellFormed.{columns};
-ghost use Rattle.cip_frac.specs.Order.{same_rational};
 ghost use Rattle.cip_frac.specs.Outcomes.{dot_from};
-ghost use Rattle.cip_lin.specs.RowSums.{activity_from};
-ghost use Rattle.cip_model.specs.RayTests as tests;
-ghost use Rattle.cip_model.specs.RayTests.{stays, all_stay, all_still, row_stays, rows_stay, cost_falls};
+ghost use Rattle.cip_model.specs.RayTests.{stays, all_stay, all_still, rows_stay, cost_falls};
 ghost use Rattle.cip_problem.specs.Falling.{FallsWithoutEnd};
 ghost use Rattle.cip_model.specs.Rays.{IsShownRay, ShownRaysFall};
 
@@ -24,38 +21,14 @@ fn is_at_most(a: Frac, b: Frac) -> bool
     a <= b
 }
 
-/// Whether one number is below another.
-fn is_below(a: Frac, b: Frac) -> bool
-    ensures { result ≡ lt_test a b }
-{
-    a < b
-}
-
-/// Whether a value with this low side may change by so much, however often.
-fn falls_not(low: Option<Frac>, change: Frac) -> bool
-    ensures { result ≡ tests.falls_not low change }
-{
-    match low {
-        None => true,
-        Some(_) => is_at_most(Frac::zero(), change),
-    }
-}
-
-/// Whether a value with this high side may.
-fn rises_not(high: Option<Frac>, change: Frac) -> bool
-    ensures { result ≡ tests.rises_not high change }
-{
-    match high {
-        None => true,
-        Some(_) => is_at_most(change, Frac::zero()),
-    }
-}
-
-/// Whether a value between these sides may.
+/// Whether a value between these sides may change by so much, however often.
 fn may_change(low: Option<Frac>, high: Option<Frac>, change: Frac) -> bool
     ensures { result ≡ stays low high change }
 {
-    falls_not(low, change) && rises_not(high, change)
+    if low.is_some() && !is_at_most(Frac::zero(), change) {
+        return false;
+    }
+    high.is_none() || is_at_most(change, Frac::zero())
 }
 
 /// Whether each column may change so.
@@ -72,35 +45,18 @@ fn keeps_bounds(bounds: &[Sides], ray: &[Frac]) -> bool
     true
 }
 
-/// Whether a column may change so, if it is whole.
-fn is_still(whole: bool, change: Frac) -> bool
-    ensures { result ≡ (not whole || same_rational change zeroℚ) }
-{
-    !whole || change == Frac::zero()
-}
-
 /// Whether no whole column changes.
 fn keeps_wholes(whole: &[bool], ray: &[Frac]) -> bool
     requires { length whole.now ≡ length ray.now }
     ensures { result ≡ all_still whole.now ray.now }
 {
     for at in 0..ray.len() {
-        if !is_still(whole[at], ray[at]) {
+        let (wants_whole, change) = (whole[at], ray[at]);
+        if wants_whole && change != Frac::zero() {
             return false;
         }
     }
     true
-}
-
-/// Whether a row may change so; `false` too where the sum overflows.
-fn keeps_row(row: &Row, ray: &[Frac]) -> bool
-    requires { StandsBelow (length ray.now) row.now.terms }
-    ensures { result ≡ row_stays row.now (activity_from zeroℚ row.now.terms ray.now) }
-{
-    match row.activity(ray) {
-        Ok(change) => may_change(row.low(), row.high(), change),
-        Err(_) => false,
-    }
 }
 
 /// Whether each row may change so; `false` too where the sum of one overflows.
@@ -109,7 +65,11 @@ fn keeps_rows(rows: &[Row], ray: &[Frac]) -> bool
     ensures { result ≡ rows_stay rows.now ray.now }
 {
     for at in 0..rows.len() {
-        if !keeps_row(&rows[at], ray) {
+        let row = &rows[at];
+        let Ok(change) = row.activity(ray) else {
+            return false;
+        };
+        if !may_change(row.low(), row.high(), change) {
             return false;
         }
     }
@@ -122,7 +82,7 @@ fn lowers_cost(costs: &[Frac], ray: &[Frac]) -> bool
     ensures { result ≡ cost_falls (dot_from zeroℚ costs.now ray.now) }
 {
     match cost(Frac::zero(), costs, ray) {
-        Ok(change) => is_below(change, Frac::zero()),
+        Ok(change) => change < Frac::zero(),
         Err(_) => false,
     }
 }

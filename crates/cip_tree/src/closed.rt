@@ -1,5 +1,5 @@
 //! Open nodes are let go by their bounds.
-ghost use Rattle.std.specs.Prelude.{◌≡◌, ◌≤◌, ◌∷◌, [], ℕ, All, count_by};
+ghost use Rattle.std.specs.Prelude.{◌≡◌, ◌≤◌, ℕ, All, count_by};
 ghost use Rattle.cip_tree.specs.declared.kept.Stage.TheVariants.{Open};
 ghost use Rattle.cip_tree.specs.Slots.{AreSoundSlots};
 ghost use Rattle.cip_tree.specs.Inside.{StandsAs, is_at};
@@ -9,19 +9,6 @@ use crate::kept::{Kept, release};
 use crate::queue::{OpenNode, stays};
 use cip_domain::Frac;
 use slab::Slab;
-
-/// Lets go of an open node if its bound is at least a cost, and of nodes that ended and that only it needed.
-fn release_dear(kept: &mut Slab<Kept>, node: &OpenNode, cost: Frac)
-    requires kept { AreSoundSlots kept.old.slots }
-    requires waiting { StandsAs Open kept.old.slots node.now }
-    ensures slots { AreReleased kept.old.slots kept.new.slots (dearer cost (node.now ∷ [])) }
-    ensures kept { AreSoundSlots kept.new.slots }
-    ensures capacity { kept.new.capacity ≡ kept.old.capacity }
-{
-    if !stays(node.bound, cost) {
-        release(kept, node.place);
-    }
-}
 
 /// Lets go of the nodes whose bound is at least a cost, and of those that ended and that only they needed.
 pub(crate) fn release_from(kept: &mut Slab<Kept>, nodes: &[OpenNode], cost: Frac)
@@ -33,6 +20,8 @@ pub(crate) fn release_from(kept: &mut Slab<Kept>, nodes: &[OpenNode], cost: Frac
     ensures capacity { kept.new.capacity ≡ kept.old.capacity }
 {
     for node in nodes {
-        release_dear(kept, node, cost);
+        if !stays(node.bound, cost) {
+            release(kept, node.place);
+        }
     }
 }

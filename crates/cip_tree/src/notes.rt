@@ -1,8 +1,6 @@
 //! What a node's own work changed.
-ghost use Rattle.std.specs.Prelude.{◌≡◌};
-ghost use Rattle.cip_tree.specs.Notes.{noted_change};
 
-use cip_domain::{Change, Frac, Side};
+use cip_domain::{Frac, Side};
 
 /// A value for one side of a column; it counts where the side is weaker or open.
 #[derive(Clone, Copy)]
@@ -11,11 +9,4 @@ pub(crate) struct Note {
     pub(crate) col: u32,
     pub(crate) side: Side,
     pub(crate) value: Frac,
-}
-
-/// A note as a change.
-pub(crate) fn change_of(note: Note) -> Change
-    ensures { result ≡ noted_change note }
-{
-    Change::of_side(note.col, note.side, note.value)
 }

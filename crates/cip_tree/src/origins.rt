@@ -1,6 +1,6 @@
 //! Halves of nodes that were split. A half keeps which one it is, and no sides: what a choice leaves is told by the
 //! root's choice of the column.
-ghost use Rattle.std.specs.Prelude.{◌≡◌, Some};
+ghost use Rattle.std.specs.Prelude.{◌≡◌, Some, cond};
 ghost use Rattle.cip_problem.specs.Box.{no_sides};
 ghost use Rattle.cip_tree.specs.Origins.{IsNear, filled, filled_sides, half_change, low_part, high_part};
 ghost use Rattle.cip_tree.specs.declared.origins.Parting.TheVariants.{Whole};
@@ -67,31 +67,19 @@ fn made_change(col: u32, choice: Choice, on: bool) -> Change
 }
 
 impl Origin {
-    /// The low half of the node at a place.
-    pub(crate) fn low(parting: Parting, parent: usize, col: u32, at: i128) -> Origin
+    /// The low or the high half of the node at a place.
+    pub(crate) fn half(parting: Parting, is_low: bool, parent: usize, col: u32, at: i128) -> Origin
         requires { parting ≡ Whole → IsNear at }
-        ensures { result ≡ record { parent = parent; change = half_change (low_part parting) col at } }
+        ensures { result ≡ record {
+          parent = parent;
+          change = half_change (cond is_low (low_part parting) (high_part parting)) col at;
+        } }
     {
-        let (half, at) = match parting {
-            Parting::Whole => (Half::AtMost, at),
-            Parting::Chosen => (Half::Off, 0),
-        };
-        Origin {
-            at,
-            parent,
-            col,
-            half,
-        }
-    }
-
-    /// The high half of the node at a place.
-    pub(crate) fn high(parting: Parting, parent: usize, col: u32, at: i128) -> Origin
-        requires { parting ≡ Whole → IsNear at }
-        ensures { result ≡ record { parent = parent; change = half_change (high_part parting) col at } }
-    {
-        let (half, at) = match parting {
-            Parting::Whole => (Half::AtLeast, at),
-            Parting::Chosen => (Half::On, 0),
+        let (half, at) = match (parting, is_low) {
+            (Parting::Whole, true) => (Half::AtMost, at),
+            (Parting::Whole, false) => (Half::AtLeast, at),
+            (Parting::Chosen, true) => (Half::Off, 0),
+            (Parting::Chosen, false) => (Half::On, 0),
         };
         Origin {
             at,

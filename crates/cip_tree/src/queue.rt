@@ -122,21 +122,14 @@ impl Model for Queue {
 }
 
 impl Queue {
-    /// The queue of no node, without room.
-    fn empty(alloc: Global) -> Queue
-        ensures { result.nodes ≡ [] }
-    {
-        Queue {
-            heap: BinaryHeap::new(alloc),
-            most: None,
-        }
-    }
-
     /// The queue of one node; `Err` where the memory for it was refused.
     pub(crate) fn new(alloc: Global, node: OpenNode) -> Result<Queue, AllocError>
         ensures { IfOk result (λ queue. queue.nodes ≡ node ∷ []) }
     {
-        let mut queue = Queue::empty(alloc);
+        let mut queue = Queue {
+            heap: BinaryHeap::new(alloc),
+            most: None,
+        };
         queue.reserve(1)?;
         queue.push(node);
         Ok(queue)

@@ -1,5 +1,5 @@
 //! The tree of a search's nodes.
-ghost use Rattle.std.specs.Prelude.{MatchResult, OnOk, vec_len, vec_capacity, ◌≡◌, ◌≢◌, ◌+◌, ◌-◌, ◌<◌, ◌≤◌, ◌^◌, ℕ, [], ◌∷◌, ◌++◌, length, filter, All, IfOk, MatchOption, None, Some};
+ghost use Rattle.std.specs.Prelude.{MatchResult, OnOk, vec_len, vec_capacity, ◌≡◌, ◌+◌, ◌-◌, ◌<◌, ◌≤◌, ◌^◌, ℕ, [], ◌∷◌, ◌++◌, length, filter, All, IfOk, MatchOption, None, Some};
 ghost use Rattle.std.specs.List.Sorted.{IsPermutation};
 ghost use Rattle.slab.specs.Slab.{HasRoomFor};
 ghost use Rattle.cip_problem.specs.Log.{Closed, Parked, Split};
@@ -10,8 +10,7 @@ ghost use Rattle.cip_problem.specs.Box.{sides_at};
 ghost use Rattle.cip_domain.specs.Domain.{tightening};
 ghost use Rattle.cip_domain.specs.Narrowing.{ArePlainPast};
 ghost use Rattle.cip_tree.specs.Splitting.{IsParting, IsSplitFault};
-ghost use Rattle.cip_tree.specs.Slots.{slot_at, open_slot};
-ghost use Rattle.cip_tree.specs.Entries.{entry_of, entries_of};
+ghost use Rattle.cip_tree.specs.Entries.{entries_of};
 ghost use Rattle.cip_tree.specs.Nodes.{TakenNode, IsTaken, base_at, region_of, box_of, shown};
 ghost use Rattle.cip_tree.specs.Tightening.{IsTightened};
 ghost use Rattle.cip_tree.specs.Walks.{IsEntered};
@@ -24,9 +23,9 @@ use crate::nodes::Node;
 use crate::notes::Note;
 use crate::origins::{Origin, Parting};
 use crate::queue::{OpenNode, Queue};
-use crate::splits::{SplitFault, flag_at, whole_parting};
+use crate::splits::SplitFault;
 use crate::walks::Walk;
-use cip_domain::{Bounds, Choices, Frac, Region, Side, Tightened};
+use cip_domain::{Bounds, Choices, Frac, Region, Side, Tightened, can_halve};
 use slab::Slab;
 use std::alloc::{AllocError, Global};
 use std::marker::Model;
@@ -88,27 +87,6 @@ struct Rooted {
     place: usize,
 }
 
-/// The root of a tree, by itself; `Err` where the memory for it was refused.
-fn kept_root(alloc: Global) -> Result<Rooted, AllocError>
-    ensures { IfOk result (λ r. (slot_at r.kept.slots r.place ≡ Some (open_slot 0 None))
-        × ((other : ℕ) → other ≢ r.place → slot_at r.kept.slots other ≡ None)) }
-{
-    let mut kept = Slab::new(alloc);
-    let place = kept.insert(new_kept(alloc, 0, None))?;
-    Ok(Rooted { kept, place })
-}
-
-/// The root as an open node.
-fn first_node(bound: &Option<Frac>, place: usize) -> OpenNode
-    ensures { result ≡ record { bound = bound.now; id = 0; place = place } }
-{
-    OpenNode {
-        bound: *bound,
-        id: 0,
-        place,
-    }
-}
-
 /// What the tree of one open node begins with.
 #[derive(Drop)]
 struct Started {
@@ -134,10 +112,16 @@ fn root_parts(
     let Ok(whole) = whole.to_vec(alloc) else {
         return Err(AllocError);
     };
-    let Ok(rooted) = kept_root(alloc) else {
+    let mut kept = Slab::new(alloc);
+    let Ok(place) = kept.insert(new_kept(alloc, 0, None)) else {
         return Err(AllocError);
     };
-    let Ok(queue) = Queue::new(alloc, first_node(bound, rooted.place)) else {
+    let first = OpenNode {
+        bound: *bound,
+        id: 0,
+        place,
+    };
+    let Ok(queue) = Queue::new(alloc, first) else {
         return Err(AllocError);
     };
     let Ok(parked) = Vec::with_capacity(alloc, 1) else {
@@ -151,7 +135,7 @@ fn root_parts(
     };
     Ok(Started {
         whole,
-        rooted,
+        rooted: Rooted { kept, place },
         queue,
         parked,
         log,
@@ -198,49 +182,7 @@ fn open_node(node: &Node, id: u64, place: usize) -> OpenNode
     }
 }
 
-/// The entry of a node that was split, whose halves have the number `low` and the next one.
-fn split_entry(node: &Node, col: u32, at: i128, low: u64) -> Logged
-    requires { low < 2 ^ 63 }
-    ensures { entry_of result ≡ record {
-      node = node.now.number;
-      bound = node.now.bound;
-      end = Split col at low (low + 1);
-    } }
-{
-    Logged {
-        id: node.id,
-        bound: node.bound,
-        end: End::Split {
-            col,
-            at,
-            low,
-            high: low + 1,
-        },
-    }
-}
-
 impl Tree {
-    /// The tree of one open node with this region and this bound, by what it begins with.
-    fn begun(alloc: Global, root: Region, bound: Option<Frac>, parts: Started) -> Tree
-        requires past { ArePlainPast root }
-        requires started { IsStarted root bound parts }
-        ensures { IsNew result root parts.whole.items bound }
-    {
-        Tree {
-            alloc,
-            root,
-            root_bound: bound,
-            whole: parts.whole,
-            kept: parts.rooted.kept,
-            queue: parts.queue,
-            parked: parts.parked,
-            log: parts.log,
-            ids: 1,
-            in_work: 0,
-            walk: Walk::new(alloc, parts.work),
-        }
-    }
-
     /// The tree of one open node, number 0, with this region, which is in work, and this bound, `None` where none is
     /// known; `whole` says of each column whether it wants whole values. `Err` comes where the memory for it was
     /// refused.
@@ -255,7 +197,19 @@ impl Tree {
         ensures { IfOk result (λ tree. IsNew tree root whole.now bound) }
     {
         match root_parts(alloc, &root, whole, &bound) {
-            Ok(parts) => Ok(Tree::begun(alloc, root, bound, parts)),
+            Ok(parts) => Ok(Tree {
+                alloc,
+                root,
+                root_bound: bound,
+                whole: parts.whole,
+                kept: parts.rooted.kept,
+                queue: parts.queue,
+                parked: parts.parked,
+                log: parts.log,
+                ids: 1,
+                in_work: 0,
+                walk: Walk::new(alloc, parts.work),
+            }),
             Err(_) => Err(AllocError),
         }
     }
@@ -369,10 +323,14 @@ impl Tree {
             (λ parting. IsParting self.now node col at parting)
             (λ fault. IsSplitFault self.now node col at fault) }
     {
-        let whole = flag_at(self.whole.as_slice(), col);
+        let whole = self.whole[col as usize];
         let choice = self.choices().at(col);
         if whole && choice.is_plain() {
-            return whole_parting(self.bounds().sides(col), at);
+            return if can_halve(self.bounds().sides(col), at) {
+                Ok(Parting::Whole)
+            } else {
+                Err(SplitFault::Outside)
+            };
         }
         if !whole && choice.is_open() {
             Ok(Parting::Chosen)
@@ -413,8 +371,8 @@ impl Tree {
         let low = self.ids;
         let high = low + 1;
         let parent = node.place;
-        let low_origin = Origin::low(parting, parent, col, at);
-        let high_origin = Origin::high(parting, parent, col, at);
+        let low_origin = Origin::half(parting, true, parent, col, at);
+        let high_origin = Origin::half(parting, false, parent, col, at);
         let low_kept = new_kept(self.alloc, low, Some(low_origin));
         let high_kept = new_kept(self.alloc, high, Some(high_origin));
         let (low_place, high_place) = part(&mut self.kept, parent, notes, low_kept, high_kept);
@@ -422,7 +380,11 @@ impl Tree {
         self.queue.push(open_node(node, low, low_place));
         self.in_work -= 1;
         self.ids = low + 2;
-        self.log.push_reserved(split_entry(node, col, at, low));
+        self.log.push_reserved(Logged {
+            id: node.id,
+            bound: node.bound,
+            end: End::Split { col, at, low, high },
+        });
         Ok((low, high))
     }
 

@@ -1,6 +1,6 @@
 //! The region in work, and the way to it: the nodes from the root down to the one that was entered last. The next node
 //! is reached from the nearest node that its way shares with this one.
-ghost use Rattle.std.specs.Prelude.{ℕ, ◌≡◌, ◌-◌, ◌<◌, [], ◌∷◌, length, take, true, IfOk, OnOk, OnErr, MatchOption, MatchResult};
+ghost use Rattle.std.specs.Prelude.{ℕ, ◌≡◌, ◌<◌, [], ◌∷◌, length, true, IfOk, MatchOption, MatchResult};
 ghost use Rattle.slab.specs.Slab.{ContainsKey};
 ghost use Rattle.cip_problem.specs.Box.{sides_at};
 ghost use Rattle.cip_domain.specs.Changes.{side_change};
@@ -12,7 +12,7 @@ ghost use Rattle.cip_tree.specs.Tightening.{region_after};
 ghost use Rattle.cip_tree.specs.Walks.{last_stop, AreNarrowed, EndsAt, EndsThere, IsParent, IsDescent, Climbs, IsWalked, StaysWalked, GoesBack, StepsDown, Descends, Enters};
 
 use crate::kept::Kept;
-use crate::notes::{Note, change_of};
+use crate::notes::Note;
 use crate::origins::Origin;
 use cip_domain::{Change, Checkpoint, DomainStore, Frac, Region, Side, Tightened};
 use slab::Slab;
@@ -91,7 +91,8 @@ fn narrow_by(domain: &mut DomainStore, notes: &[Note]) -> Result<bool, AllocErro
     ensures marks { KeepsMarks domain.old domain.new }
 {
     for note in notes {
-        if !domain.narrow(change_of(*note))? {
+        let change = Change::of_side(note.col, note.side, note.value);
+        if !domain.narrow(change)? {
             return Ok(false);
         }
     }
@@ -140,58 +141,20 @@ impl Walk {
         self.stops.last().copied()
     }
 
-    /// Whether the last node on the way has a greater number.
-    fn ends_past(&self, number: u64) -> bool
-        ensures { result ≡ true → 0 < length self.now.stops }
-    {
-        match self.last() {
-            None => false,
-            Some(stop) => stop.number > number,
-        }
-    }
-
-    /// Whether the last node on the way has this number.
-    fn ends_at(&self, number: u64) -> bool
-        ensures { result ≡ true → EndsAt self.now.stops number }
-    {
-        match self.last() {
-            None => false,
-            Some(stop) => stop.number == number,
-        }
-    }
-
-    /// Forgets the last node on the way.
-    fn forget_last(&mut self)
-        requires { 0 < length self.old.stops }
-        ensures domain { self.new.domain ≡ self.old.domain }
-        ensures stops { self.new.stops ≡ take (length self.old.stops - 1) self.old.stops }
-    {
-        let count = self.stops.len();
-        self.stops.truncate(count - 1);
-    }
-
     /// Forgets the nodes on the way with greater numbers than this; whether the last of those that are left has it.
     fn turn_back(&mut self, number: u64) -> bool
         ensures domain { self.new.domain ≡ self.old.domain }
         ensures walked { (slots : Slots) → StaysWalked slots self.old self.new }
         ensures ends { result ≡ true → EndsAt self.new.stops number }
     {
-        while self.ends_past(number) {
-            self.forget_last();
+        while let Some(stop) = self.last() {
+            if stop.number <= number {
+                return stop.number == number;
+            }
+            let count = self.stops.len();
+            self.stops.truncate(count - 1);
         }
-        self.ends_at(number)
-    }
-
-    /// Begins the way anew, at a root of this number. `Err` comes where a growth was refused; there is no way then.
-    fn start_over(&mut self, number: u64) -> Result<(), AllocError>
-        ensures domain { self.new.domain ≡ self.old.domain }
-        ensures ok { OnOk result (self.new.stops ≡ record { number = number; mark = 0 } ∷ []) }
-        ensures err { OnErr result (self.new.stops ≡ []) }
-    {
-        self.stops.clear();
-        let mark = Checkpoint::start();
-        self.stops.push(Stop { number, mark })?;
-        Ok(())
+        false
     }
 
     /// The place of a node's parent, where the way doesn't pass the node itself; later nodes on the way are forgotten.
@@ -212,7 +175,10 @@ impl Walk {
         }
         match &slot.origin {
             None => {
-                self.start_over(slot.number)?;
+                self.stops.clear();
+                let number = slot.number;
+                let mark = Checkpoint::start();
+                self.stops.push(Stop { number, mark })?;
                 Ok(None)
             }
             Some(origin) => Ok(Some(origin.parent())),

@@ -5,9 +5,6 @@ use Rattle.cip_model.proofs.checks.not_whole.Goals as goal
 pub loop-at-preserved : goal.loop-at-preserved
 loop-at-preserved c = grind (arith, common_steps)
 
-pub returns-then-is_fractional : goal.returns-then-is_fractional
-returns-then-is_fractional c = grind (arith, common_steps)
-
 pub returns : goal.returns
 returns c = grind (arith, common_steps)
 

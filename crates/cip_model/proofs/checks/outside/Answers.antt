@@ -5,8 +5,8 @@ use Rattle.cip_model.proofs.checks.outside.Goals as goal
 pub loop-at-preserved : goal.loop-at-preserved
 loop-at-preserved c = grind (arith, common_steps)
 
-pub returns-then-not-is_kept : goal.returns-then-not-is_kept
-returns-then-not-is_kept c = grind (arith, common_steps)
+pub returns-then-not-contains : goal.returns-then-not-contains
+returns-then-not-contains c = grind (arith, common_steps)
 
 pub returns : goal.returns
 returns c = grind (arith, common_steps)

@@ -8,8 +8,8 @@ returns-in-Ok-clause-written c = grind (arith, common_steps)
 pub returns-in-Err-clause-written : goal.returns-in-Err-clause-written
 returns-in-Err-clause-written c = grind (arith, common_steps)
 
-pub put-requires : goal.put-requires
-put-requires c = grind (arith, common_steps)
+pub put_hint-requires : goal.put_hint-requires
+put_hint-requires c = grind (arith, common_steps)
 
 pub returns-in-Err-clause-ends : goal.returns-in-Err-clause-ends
 returns-in-Err-clause-ends c = grind (arith, common_steps)
@@ -20,5 +20,5 @@ returns-in-Ok-clause-ends c = grind (arith, common_steps)
 pub returns-in_err-reserve-clause-ends : goal.returns-in_err-reserve-clause-ends
 returns-in_err-reserve-clause-ends c = grind (arith, common_steps)
 
-pub returns-in_err-put-clause-ends : goal.returns-in_err-put-clause-ends
-returns-in_err-put-clause-ends c = grind (arith, common_steps)
+pub returns-in_err-put_hint-clause-ends : goal.returns-in_err-put_hint-clause-ends
+returns-in_err-put_hint-clause-ends c = grind (arith, common_steps)

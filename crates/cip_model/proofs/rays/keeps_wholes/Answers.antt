@@ -5,8 +5,5 @@ use Rattle.cip_model.proofs.rays.keeps_wholes.Goals as goal
 pub loop-at-preserved : goal.loop-at-preserved
 loop-at-preserved c = grind (arith, common_steps)
 
-pub returns-then-not-is_still : goal.returns-then-not-is_still
-returns-then-not-is_still c = grind (arith, common_steps)
-
 pub returns : goal.returns
 returns c = grind (arith, common_steps)

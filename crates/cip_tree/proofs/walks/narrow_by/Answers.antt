@@ -16,18 +16,18 @@ pub loop-note-preserved : goal.loop-note-preserved
 loop-note-preserved c = record {
   region = λ p.
       let past : ArePlainPast (region_of c.loop-note.domain) = subst ArePlainPast (sym (c.loop-note.invariant.region p)) (past_stays (region_of c.args.domain.now) (noted (take c.loop-note.note-index c.args.notes.now)) p) in
-      let step = subst (IsNarrowed (region_of c.loop-note.domain) (region_of c.narrow.new.self) c.change_of.result) c.if-not-branch.false (c.in_ok-narrow.ensures.narrowed past) in
+      let step = subst (IsNarrowed (region_of c.loop-note.domain) (region_of c.narrow.new.self) c.of_side-change.result) c.if-not-branch.false (c.in_ok-narrow.ensures.narrowed past) in
       one_note_more (region_of c.args.domain.now) (region_of c.loop-note.domain) (region_of c.narrow.new.self) c.args.notes.now c.loop-note.note-index c.note-item.result c.loop-note-test.true c.note-item.is (c.loop-note.invariant.region p)
-      (step ∙ ap (tightened (region_of c.loop-note.domain)) c.change_of.ensures);
+      (step ∙ ap (tightened (region_of c.loop-note.domain)) c.of_side-change.ensures);
   marks = keeps_trans c.args.domain.now c.loop-note.domain c.narrow.new.self c.loop-note.invariant.marks c.in_ok-narrow.ensures.marks;
 }
 
 pub returns-then-not-branch-clause-narrowed : goal.returns-then-not-branch-clause-narrowed
 returns-then-not-branch-clause-narrowed c = λ p.
     let past : ArePlainPast (region_of c.loop-note.domain) = subst ArePlainPast (sym (c.loop-note.invariant.region p)) (past_stays (region_of c.args.domain.now) (noted (take c.loop-note.note-index c.args.notes.now)) p) in
-    let step = subst (IsNarrowed (region_of c.loop-note.domain) (region_of c.narrow.new.self) c.change_of.result) c.if-not-branch.true (c.in_ok-narrow.ensures.narrowed past) in
+    let step = subst (IsNarrowed (region_of c.loop-note.domain) (region_of c.narrow.new.self) c.of_side-change.result) c.if-not-branch.true (c.in_ok-narrow.ensures.narrowed past) in
     none_by_notes (region_of c.args.domain.now) (region_of c.loop-note.domain) c.args.notes.now c.loop-note.note-index c.note-item.result c.loop-note-test.true c.note-item.is (c.loop-note.invariant.region p)
-    (subst (λ (t : Change). (point : List ℚ) → ¬ IsInBox (tightened (region_of c.loop-note.domain) t).box point) c.change_of.ensures step)
+    (subst (λ (t : Change). (point : List ℚ) → ¬ IsInBox (tightened (region_of c.loop-note.domain) t).box point) c.of_side-change.ensures step)
 
 pub loop-note-init : goal.loop-note-init
 loop-note-init c = record { region = λ p. refl; marks = keeps_itself c.args.domain.now }

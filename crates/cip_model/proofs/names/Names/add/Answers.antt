@@ -4,22 +4,22 @@ use Rattle.cip_problem.specs.Names.{number_of}
 use Rattle.cip_model.specs.Keys.{names_of, pieces_from, AreRising}
 use Rattle.cip_model.proofs.NamePlaces.{found_push, apart_after}
 use Rattle.cip_model.proofs.NamePieces.{length-pieces, pieces_after, rising_after}
-use Rattle.cip_model.proofs.names.Names.add.Goals.{After-push}
+use Rattle.cip_model.proofs.names.Names.add.Goals.{After-push_reserved}
 use Rattle.cip_model.proofs.names.Names.add.Goals as goal
 
 -- the pieces are the names and the new one, and the ends rise
-added : (c : After-push)
-    → (pieces_from 0 c.written.new.bytes.items c.push.new.ends.items ≡ names_of c.self.inside ++ c.args.name.items ∷ [])
-    × AreRising 0 c.push.new.ends.items (length c.written.new.bytes.items)
+added : (c : After-push_reserved)
+    → (pieces_from 0 c.written.new.bytes.items c.push_reserved.new.self.items ≡ names_of c.self.inside ++ c.args.name.items ∷ [])
+    × AreRising 0 c.push_reserved.new.self.items (length c.written.new.bytes.items)
 added c =
     let old : List ℕ = c.self.inside.bytes.items in
     let ends : List ℕ = c.self.inside.ends.items in
     let new : List ℕ = c.args.name.items in
     let bytes : List ℕ = c.written.new.bytes.items in
-    let more : List ℕ = c.push.new.ends.items in
+    let more : List ℕ = c.push_reserved.new.self.items in
     let end : ℕ = c.in-Ok.end in
     let behind : bytes ≡ old ++ new = c.in-Ok.ensures.written.0 ∙ ap (λ name. old ++ name) c.as_slice.ensures.value in
-    let ended : more ≡ ends ++ end ∷ [] = c.push.ensures ∙ ap (λ items. items ++ end ∷ []) c.in-Ok.ensures.ends in
+    let ended : more ≡ ends ++ end ∷ [] = c.push_reserved.ensures.items ∙ ap (λ items. items ++ end ∷ []) c.in-Ok.ensures.ends in
     let place : end ≡ length old + length new =
     omega (arith, c.in-Ok.ensures.written.1, ap length c.as_slice.ensures.value, c.self.inside.bytes.ok.0) in (
       pieces_after old ends new bytes more end c.self.invariant.rising behind ended place,
@@ -29,15 +29,15 @@ added c =
 pub written-requires : goal.written-requires
 written-requires c = c.self.invariant.rising
 
-pub push-requires : goal.push-requires
-push-requires c = c.in-Ok.ensures.written.2
+pub push_reserved-requires : goal.push_reserved-requires
+push_reserved-requires c = c.in-Ok.ensures.written.2
 
 pub invariant_of-self-2 : goal.invariant_of-self-2
 invariant_of-self-2 c =
     let new : List ℕ = c.args.name.items in
     let names : List (List ℕ) = names_of c.self.inside in
-    let pieces : List (List ℕ) = pieces_from 0 c.written.new.bytes.items c.push.new.ends.items in
-    let told = added (goal.at.invariant_of-self-2 c).After-push in
+    let pieces : List (List ℕ) = pieces_from 0 c.written.new.bytes.items c.push_reserved.new.self.items in
+    let told = added (goal.at.invariant_of-self-2 c).After-push_reserved in
     let count : c.len-number.result ≡ length names =
     omega (
       arith,
@@ -55,7 +55,7 @@ invariant_of-self-2 c =
     }
 
 pub returns-clause-ok : goal.returns-clause-ok
-returns-clause-ok c = rw (← c.self.view_is) (added (goal.at.returns-clause-ok c).After-push).0
+returns-clause-ok c = rw (← c.self.view_is) (added (goal.at.returns-clause-ok c).After-push_reserved).0
 
 pub invariant_of-self-in-Err : goal.invariant_of-self-in-Err
 invariant_of-self-in-Err c = grind (arith, common_steps)

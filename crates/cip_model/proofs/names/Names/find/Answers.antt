@@ -10,8 +10,8 @@ returns-in-None-clause-within c =
     rw (← c.self.view_is) (c.get.ensures ∙ c.self.invariant.found c.args.name.now) in
     number_within c.args.self.now c.args.name.now c.get.result number
 
-pub find-requires : goal.find-requires
-find-requires c = grind (arith, common_steps)
+pub hinted-requires : goal.hinted-requires
+hinted-requires c = grind (arith, common_steps)
 
 pub returns-in-Some-clause-number : goal.returns-in-Some-clause-number
 returns-in-Some-clause-number c = grind (arith, common_steps)

@@ -1,12 +1,12 @@
 use Rattle.std.proofs.lemmas.Grind.{common_steps}
-use Rattle.std.proofs.Common.{◌≡◌, ◌∷◌, [], ◌∙◌, ap, subst, arith}
+use Rattle.std.proofs.Common.{◌≡◌, ◌∷◌, [], ◌∙◌, ap, subst, arith, rules}
 use Rattle.std.specs.List.Sorted.{IsPermutation}
 use Rattle.cip_tree.proofs.Queues.{one_permuted}
 use Rattle.cip_tree.proofs.queue.Queue.new.Goals as goal
 
 pub returns : goal.returns
 returns c =
-    let none : c.reserve.new.self.nodes ≡ [] = ap (λ q. q.nodes) c.in_ok-reserve.ensures.same ∙ c.empty-queue.ensures in
+    let none : c.reserve.new.self.nodes ≡ [] = ap (λ q. q.nodes) c.in_ok-reserve.ensures.same ∙ search rules in
     one_permuted c.args.node c.push.new.self.nodes (subst (λ t. IsPermutation (c.args.node ∷ t) c.push.new.self.nodes) none c.push.ensures.nodes)
 
 pub push-requires : goal.push-requires

@@ -7,6 +7,8 @@ use Rattle.std.proofs.lemmas.List.Sorted.{length_permutation}
 use Rattle.cip_problem.specs.Log.{Entry, Split, low_node, high_node, CanSplit}
 use Rattle.cip_domain.specs.Changes.{tightened}
 use Rattle.cip_tree.specs.declared.queue.OpenNode.{OpenNode}
+use Rattle.cip_tree.specs.declared.logs.Logged.{Logged}
+use Rattle.cip_tree.specs.declared.logs.End.TheVariants.{Split as LoggedSplit}
 use Rattle.cip_tree.specs.Entries.{entry_of}
 use Rattle.cip_tree.specs.Notes.{noted}
 use Rattle.cip_tree.specs.Origins.{Origin, half_change, low_part, high_part, filled, after}
@@ -53,8 +55,8 @@ invariant_of-self-2 c =
     let low_change = half_change (low_part c.in_ok-parting.parting) c.args.col c.args.at in
     let high_change = half_change (high_part c.in_ok-parting.parting) c.args.col c.args.at in
     let notes : c.in_ok-notes.notes.items ≡ c.node.inside.notes.items = search rules in
-    let low = c.new_kept-low_kept.ensures ∙ ap (λ o. open_slot c.self.inside.ids (Some o)) (c.low-low_origin.ensures ∙ ap (λ z. (let o : Origin = record { parent = c.node.inside.place; change = half_change (low_part c.in_ok-parting.parting) c.args.col z } in o)) at_is) in
-    let high = c.new_kept-high_kept.ensures ∙ ap (λ o. open_slot (c.self.inside.ids + 1) (Some o)) (c.high-high_origin.ensures ∙ ap (λ z. (let o : Origin = record { parent = c.node.inside.place; change = half_change (high_part c.in_ok-parting.parting) c.args.col z } in o)) at_is) in
+    let low = c.new_kept-low_kept.ensures ∙ ap (λ o. open_slot c.self.inside.ids (Some o)) (c.half-low_origin.ensures ∙ ap (λ z. (let o : Origin = record { parent = c.node.inside.place; change = half_change (low_part c.in_ok-parting.parting) c.args.col z } in o)) at_is) in
+    let high = c.new_kept-high_kept.ensures ∙ ap (λ o. open_slot (c.self.inside.ids + 1) (Some o)) (c.half-high_origin.ensures ∙ ap (λ z. (let o : Origin = record { parent = c.node.inside.place; change = half_change (high_part c.in_ok-parting.parting) c.args.col z } in o)) at_is) in
     let parted =
     subst (λ l. IsParted c.self.inside.kept.slots c.part-low_place.new.kept.slots c.node.inside.place c.node.inside.notes.items l (open_slot (c.self.inside.ids + 1) (Some (let o : Origin = record { parent = c.node.inside.place; change = high_change } in o))) c.part-low_place.result.0 c.part-low_place.result.1) low
     (subst (λ l. IsParted c.self.inside.kept.slots c.part-low_place.new.kept.slots c.node.inside.place c.node.inside.notes.items c.new_kept-low_kept.result l c.part-low_place.result.0 c.part-low_place.result.1) high
@@ -74,9 +76,9 @@ invariant_of-self-2 c =
     let one = length_permutation _ _ first in
     let two = length_permutation _ _ second in
     let number = base.number ∙ c.requires.taken.same ∙ sym (ap (λ (x : TakenNode). x.number) c.node.view_is) in
-    let entry = c.split_entry.ensures ∙ ap (λ z. (let x : Entry = record { node = c.args.node.now.number; bound = c.args.node.now.bound; end = Split c.args.col z c.self.inside.ids (c.self.inside.ids + 1) } in x)) at_is
-    ∙ ap (λ (n : TakenNode). (let x : Entry = record { node = n.number; bound = n.bound; end = Split c.args.col c.args.at c.self.inside.ids (c.self.inside.ids + 1) } in x)) (sym c.node.view_is) in
-    let log = ap (λ l. map entry_of l) (c.push_reserved.ensures.items ∙ ap (λ l. l ++ c.split_entry.result ∷ []) c.make_room.ensures.log) ∙ map-append entry_of c.self.inside.log.items (c.split_entry.result ∷ []) ∙ ap (λ e. map entry_of c.self.inside.log.items ++ e ∷ []) entry in
+    let entry = ap (λ z. (let x : Entry = record { node = c.node.inside.id; bound = c.node.inside.bound; end = Split c.args.col z c.self.inside.ids (c.self.inside.ids + 1) } in x)) at_is in
+    let logged : Logged = record { id = c.node.inside.id; bound = c.node.inside.bound; end = LoggedSplit c.args.col (to_z w128 (of_z w128 c.args.at)) c.self.inside.ids (c.self.inside.ids + 1) } in
+    let log = ap (λ l. map entry_of l) (c.push_reserved.ensures.items ∙ ap (λ l. l ++ logged ∷ []) c.make_room.ensures.log) ∙ map-append entry_of c.self.inside.log.items (logged ∷ []) ∙ ap (λ e. map entry_of c.self.inside.log.items ++ e ∷ []) entry in
     let node_is : node_in region c.node.inside.id c.node.inside.bound ≡ shown c.args.self.now c.args.node.now =
     ap (λ r. node_in r c.node.inside.id c.node.inside.bound) region_is ∙ ap (λ (x : TakenNode). node_in (region_of c.args.self.now c.args.node.now) x.number x.bound) c.node.view_is in
     let can : CanSplit c.self.inside.whole.items (node_in region c.node.inside.id c.node.inside.bound) c.args.col c.args.at =
@@ -101,8 +103,8 @@ returns c =
     let low_change = half_change (low_part c.in_ok-parting.parting) c.args.col c.args.at in
     let high_change = half_change (high_part c.in_ok-parting.parting) c.args.col c.args.at in
     let notes : c.in_ok-notes.notes.items ≡ c.node.inside.notes.items = search rules in
-    let low = c.new_kept-low_kept.ensures ∙ ap (λ o. open_slot c.self.inside.ids (Some o)) (c.low-low_origin.ensures ∙ ap (λ z. (let o : Origin = record { parent = c.node.inside.place; change = half_change (low_part c.in_ok-parting.parting) c.args.col z } in o)) at_is) in
-    let high = c.new_kept-high_kept.ensures ∙ ap (λ o. open_slot (c.self.inside.ids + 1) (Some o)) (c.high-high_origin.ensures ∙ ap (λ z. (let o : Origin = record { parent = c.node.inside.place; change = half_change (high_part c.in_ok-parting.parting) c.args.col z } in o)) at_is) in
+    let low = c.new_kept-low_kept.ensures ∙ ap (λ o. open_slot c.self.inside.ids (Some o)) (c.half-low_origin.ensures ∙ ap (λ z. (let o : Origin = record { parent = c.node.inside.place; change = half_change (low_part c.in_ok-parting.parting) c.args.col z } in o)) at_is) in
+    let high = c.new_kept-high_kept.ensures ∙ ap (λ o. open_slot (c.self.inside.ids + 1) (Some o)) (c.half-high_origin.ensures ∙ ap (λ z. (let o : Origin = record { parent = c.node.inside.place; change = half_change (high_part c.in_ok-parting.parting) c.args.col z } in o)) at_is) in
     let parted =
     subst (λ l. IsParted c.self.inside.kept.slots c.part-low_place.new.kept.slots c.node.inside.place c.node.inside.notes.items l (open_slot (c.self.inside.ids + 1) (Some (let o : Origin = record { parent = c.node.inside.place; change = high_change } in o))) c.part-low_place.result.0 c.part-low_place.result.1) low
     (subst (λ l. IsParted c.self.inside.kept.slots c.part-low_place.new.kept.slots c.node.inside.place c.node.inside.notes.items c.new_kept-low_kept.result l c.part-low_place.result.0 c.part-low_place.result.1) high
@@ -122,8 +124,10 @@ returns c =
     let parked = ap (nodes_at c.self.inside.root c.part-low_place.new.kept.slots) c.make_room.ensures.parked ∙ part_parked c.self.inside.root c.self.inside.kept.slots c.part-low_place.new.kept.slots c.node.inside.place c.node.inside.notes.items c.part-low_place.result.0 c.part-low_place.result.1 low_change high_change c.self.inside.queue.nodes c.self.inside.parked.items c.self.inside.ids c.self.inside.in_work base.raw c.self.invariant.0 base.found parted c.node.inside.bound c.push.new.self.nodes c.push-2.new.self.nodes first second in
     let gone = part_gone c.self.inside.root c.self.inside.kept.slots c.part-low_place.new.kept.slots c.node.inside.place c.node.inside.notes.items c.part-low_place.result.0 c.part-low_place.result.1 low_change high_change c.self.inside.queue.nodes c.self.inside.parked.items c.self.inside.ids c.self.inside.in_work base.raw c.self.invariant.0 base.found parted c.node.inside.bound c.push.new.self.nodes c.push-2.new.self.nodes first second in
     let others = part_others c.self.inside.root c.self.inside.kept.slots c.part-low_place.new.kept.slots c.node.inside.place c.node.inside.notes.items c.part-low_place.result.0 c.part-low_place.result.1 low_change high_change c.self.inside.queue.nodes c.self.inside.parked.items c.self.inside.ids c.self.inside.in_work base.raw c.self.invariant.0 base.found parted c.node.inside.bound c.push.new.self.nodes c.push-2.new.self.nodes first second in
-    let entry = c.split_entry.ensures ∙ ap (λ z. (let x : Entry = record { node = c.args.node.now.number; bound = c.args.node.now.bound; end = Split c.args.col z c.self.inside.ids (c.self.inside.ids + 1) } in x)) at_is in
-    let log = ap (λ l. map entry_of l) (c.push_reserved.ensures.items ∙ ap (λ l. l ++ c.split_entry.result ∷ []) c.make_room.ensures.log) ∙ map-append entry_of c.self.inside.log.items (c.split_entry.result ∷ []) ∙ ap (λ e. map entry_of c.self.inside.log.items ++ e ∷ []) entry in
+    let entry = ap (λ z. (let x : Entry = record { node = c.node.inside.id; bound = c.node.inside.bound; end = Split c.args.col z c.self.inside.ids (c.self.inside.ids + 1) } in x)) at_is
+    ∙ ap (λ (n : TakenNode). (let x : Entry = record { node = n.number; bound = n.bound; end = Split c.args.col c.args.at c.self.inside.ids (c.self.inside.ids + 1) } in x)) c.node.view_is in
+    let logged : Logged = record { id = c.node.inside.id; bound = c.node.inside.bound; end = LoggedSplit c.args.col (to_z w128 (of_z w128 c.args.at)) c.self.inside.ids (c.self.inside.ids + 1) } in
+    let log = ap (λ l. map entry_of l) (c.push_reserved.ensures.items ∙ ap (λ l. l ++ logged ∷ []) c.make_room.ensures.log) ∙ map-append entry_of c.self.inside.log.items (logged ∷ []) ∙ ap (λ e. map entry_of c.self.inside.log.items ++ e ∷ []) entry in
     let low_half = region_in (low_node (shown c.args.self.now c.args.node.now) c.args.col c.args.at) in
     let high_half = region_in (high_node (shown c.args.self.now c.args.node.now) c.args.col c.args.at) in
     let now = nodes_at c.self.inside.root c.part-low_place.new.kept.slots c.push-2.new.self.nodes in
@@ -173,17 +177,14 @@ overflow_add-high c = omega (arith, ap (λ (t : Nodes). t.ids) c.self.view_is, c
 pub overflow_add-self : goal.overflow_add-self
 overflow_add-self c = omega (arith, ap (λ (t : Nodes). t.ids) c.self.view_is, c.requires.few)
 
-pub split_entry-requires : goal.split_entry-requires
-split_entry-requires c = omega (arith, ap (λ (t : Nodes). t.ids) c.self.view_is, c.requires.few)
-
 pub push_reserved-requires : goal.push_reserved-requires
 push_reserved-requires c = omega (arith, c.in_ok-make_room.ensures.room.3)
 
-pub high-high_origin-requires : goal.high-high_origin-requires
-high-high_origin-requires c = grind (arith, common_steps)
+pub half-high_origin-requires : goal.half-high_origin-requires
+half-high_origin-requires c = grind (arith, common_steps)
 
-pub low-low_origin-requires : goal.low-low_origin-requires
-low-low_origin-requires c = grind (arith, common_steps)
+pub half-low_origin-requires : goal.half-low_origin-requires
+half-low_origin-requires c = grind (arith, common_steps)
 
 pub same-self-in_err-notes : goal.same-self-in_err-notes
 same-self-in_err-notes c = grind (arith, common_steps)

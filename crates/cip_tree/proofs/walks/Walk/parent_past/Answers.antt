@@ -1,30 +1,32 @@
 use Rattle.std.proofs.lemmas.Grind.{common_steps}
-use Rattle.std.proofs.Common.{◌∙◌, [], ◌∷◌, Some, ap, sym, arith}
+use Rattle.std.proofs.Common.{◌≡◌, ◌∙◌, [], ◌∷◌, Some, ap, sym, arith}
 use Rattle.cip_tree.specs.declared.walks.Stop.{Stop}
 use Rattle.cip_tree.specs.Origins.{Origin}
 use Rattle.cip_tree.specs.Slots.{Slot}
-use Rattle.cip_tree.specs.Walks.{last_stop}
+use Rattle.cip_tree.specs.Walks.{Way, last_stop}
 use Rattle.cip_tree.proofs.Walking.{walked_root}
 use Rattle.cip_tree.proofs.walks.Walk.parent_past.Goals as goal
 
 pub returns-then-turn_back-clause-walked : goal.returns-then-turn_back-clause-walked
 returns-then-turn_back-clause-walked c = c.turn_back.ensures.walked c.args.kept.now.slots
 
-pub returns-in_ok-start_over-in-None-clause-walked : goal.returns-in_ok-start_over-in-None-clause-walked
-returns-in_ok-start_over-in-None-clause-walked c = λ root ids w.
-    walked_root root c.args.kept.now.slots ids c.args.place c.in-Some.slot.now c.turn_back.new.self c.start_over.new.self c.requires.kept (sym c.in-Some.ensures) (sym (ap (λ (t : Slot). t.origin) c.slot.view_is) ∙ c.in-None.is) c.start_over.ensures.domain
-    (c.in_ok-start_over-in-None.ensures.ok ∙ ap (λ (t : Slot). (let stop : Stop = record { number = t.number; mark = 0 } in stop) ∷ []) c.slot.view_is) (c.turn_back.ensures.walked c.args.kept.now.slots root ids w)
+pub returns-in_ok-push-in-None-clause-walked : goal.returns-in_ok-push-in-None-clause-walked
+returns-in_ok-push-in-None-clause-walked c = λ root ids w.
+    let stop : Stop = record { number = c.slot.inside.number; mark = 0 } in
+    let items : c.push.new.self.items ≡ stop ∷ [] = grind (arith, common_steps) in
+    let new : Way = record { domain = c.self.inside.domain; stops = c.push.new.self.items } in
+    walked_root root c.args.kept.now.slots ids c.args.place c.in-Some.slot.now c.turn_back.new.self new c.requires.kept (sym c.in-Some.ensures) (sym (ap (λ (t : Slot). t.origin) c.slot.view_is) ∙ c.in-None.is) (ap (λ (t : Way). t.domain) c.self.view_is)
+    (items ∙ ap (λ (t : Slot). (let stop : Stop = record { number = t.number; mark = 0 } in stop) ∷ []) c.slot.view_is) (c.turn_back.ensures.walked c.args.kept.now.slots root ids w)
 
-pub returns-in_ok-start_over-in-None-clause-next : goal.returns-in_ok-start_over-in-None-clause-next
-returns-in_ok-start_over-in-None-clause-next c = record {
-  slot = c.in-Some.slot.now;
-  found = sym c.in-Some.ensures;
-  ends = record {
-    stop = record { number = c.slot.inside.number; mark = 0 };
-    last = ap last_stop c.in_ok-start_over-in-None.ensures.ok;
-    number_is = ap (λ (t : Slot). t.number) c.slot.view_is;
-  };
-}
+pub returns-in_ok-push-in-None-clause-next : goal.returns-in_ok-push-in-None-clause-next
+returns-in_ok-push-in-None-clause-next c =
+    let stop : Stop = record { number = c.slot.inside.number; mark = 0 } in
+    let items : c.push.new.self.items ≡ stop ∷ [] = grind (arith, common_steps) in
+    record {
+      slot = c.in-Some.slot.now;
+      found = sym c.in-Some.ensures;
+      ends = record { stop = stop; last = ap last_stop items; number_is = ap (λ (t : Slot). t.number) c.slot.view_is };
+    }
 
 pub returns-in-Some-origin-clause-walked : goal.returns-in-Some-origin-clause-walked
 returns-in-Some-origin-clause-walked c = c.turn_back.ensures.walked c.args.kept.now.slots
@@ -40,8 +42,8 @@ returns-in-Some-origin-clause-next c = record {
       ∙ ap (λ n. Some (let o : Origin = record { parent = n; change = c.in-Some-origin.origin.change } in o)) (sym c.parent.ensures);
 }
 
-pub returns-in_ok-start_over-in-None-clause-domain : goal.returns-in_ok-start_over-in-None-clause-domain
-returns-in_ok-start_over-in-None-clause-domain c = grind (arith, common_steps)
+pub returns-in_ok-push-in-None-clause-domain : goal.returns-in_ok-push-in-None-clause-domain
+returns-in_ok-push-in-None-clause-domain c = grind (arith, common_steps)
 
 pub returns-then-turn_back-clause-next : goal.returns-then-turn_back-clause-next
 returns-then-turn_back-clause-next c = grind (arith, common_steps)

@@ -1,13 +1,25 @@
 use Rattle.std.proofs.lemmas.Grind.{common_steps}
-use Rattle.std.proofs.Common.{◌-◌, ◌∙◌, length, arith}
-use Rattle.cip_tree.proofs.Walking.{walked_take}
+use Rattle.std.proofs.Common.{◌≤◌, ◌∙◌, length, ap, sym, subst, refl, arith}
+use Rattle.std.proofs.lemmas.List.Elements.{All-take}
+use Rattle.cip_tree.specs.declared.walks.Stop.{Stop}
+use Rattle.cip_tree.specs.Walks.{Way, AreRising, AreHeld}
+use Rattle.cip_tree.proofs.Walking.{rising_take, walked_take}
 use Rattle.cip_tree.proofs.walks.Walk.turn_back.Goals as goal
 
-pub loop-self-preserved : goal.loop-self-preserved
-loop-self-preserved c = record {
-  domain = c.forget_last.ensures.domain ∙ c.loop-self.invariant.domain;
-  walked = λ slots root ids w. walked_take root slots ids (length c.loop-self.self.stops - 1) c.loop-self.self c.forget_last.new.self c.forget_last.ensures.domain c.forget_last.ensures.stops (c.loop-self.invariant.walked slots root ids w);
-}
+pub invariant_of-self : goal.invariant_of-self
+invariant_of-self c = (
+  subst AreRising (sym c.truncate.ensures.items) (rising_take c.self.inside.stops.items _ c.self.invariant.0),
+  subst (AreHeld c.self.inside.domain) (sym c.truncate.ensures.items) (All-take (λ (s : Stop). s.mark ≤ length c.self.inside.domain.before) _ c.self.inside.stops.items c.self.invariant.1),
+)
 
-pub loop-self-smaller : goal.loop-self-smaller
-loop-self-smaller c = grind (arith, common_steps)
+pub loop-stop-preserved : goal.loop-stop-preserved
+loop-stop-preserved c =
+    let old : Way = record { domain = c.self.inside.domain; stops = c.self.inside.stops.items } in
+    let new : Way = record { domain = c.self.inside.domain; stops = c.truncate.new.self.items } in
+    record {
+      domain = ap (λ (w : Way). w.domain) c.self.view_is ∙ c.loop-stop.invariant.domain;
+      walked = λ slots root ids w. walked_take root slots ids _ old new refl c.truncate.ensures.items (rw (c.self.view_is) (c.loop-stop.invariant.walked slots root ids w));
+    }
+
+pub loop-stop-smaller : goal.loop-stop-smaller
+loop-stop-smaller c = grind (arith, common_steps)

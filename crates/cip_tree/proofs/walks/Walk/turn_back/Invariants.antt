@@ -9,8 +9,8 @@ pub record TurnedSoFar (first now : Way) : Type 0 where
   pub domain : now.domain ≡ first.domain
   pub walked : (slots : Slots) → StaysWalked slots first now
 
-abbrev pub invariant-loop-self : goal.invariant-loop-self
-invariant-loop-self l = TurnedSoFar l.fn.self l.self
+abbrev pub invariant-loop-stop : goal.invariant-loop-stop
+invariant-loop-stop l = TurnedSoFar l.fn.self l.self
 
-abbrev pub decreases-loop-self : goal.decreases-loop-self
-decreases-loop-self l = length l.self.stops
+abbrev pub decreases-loop-stop : goal.decreases-loop-stop
+decreases-loop-stop l = length l.self.stops

@@ -1,6 +1,0 @@
-use Rattle.std.proofs.lemmas.Grind.{common_steps}
-use Rattle.std.proofs.Common.{arith}
-use Rattle.cip_model.proofs.name_hints.Hints.put.Goals as goal
-
-pub overflow_mul-wider : goal.overflow_mul-wider
-overflow_mul-wider c = grind (arith, common_steps)
