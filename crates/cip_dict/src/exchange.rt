@@ -91,43 +91,8 @@ fn write_others(pivot: &Pivot, lists: &Lists, room: &mut Room) -> Result<(), Mov
     write_costs(pivot, new, &lists.costs, &mut room.costs, &mut room.scratch)
 }
 
-/// Writes the row of the variable that enters, by that of the one that leaves, which is one of these rows, and counts
-/// what it has room for then. It isn't spelled yet.
-fn write_entering(
-    pivot: &Pivot,
-    rows: &[Form],
-    new: &mut Form,
-    scratch: &mut Scratch,
-) -> Result<(), MoveFault>
-    requires few { length pivot.now.standing.now < 2 ^ 32 }
-    requires leaving { pivot.now.leaving < length pivot.now.standing.now }
-    requires entering { pivot.now.entering < length pivot.now.standing.now }
-    requires nonzero { is_zero pivot.now.inverse ≡ false }
-    requires pivot { pivot.now.inverse ≡ inverse (entry_in rows.now pivot.now.leaving pivot.now.entering) }
-    requires within { pivot.now.leaving < length rows.now }
-    requires row_long { length (row_in rows.now pivot.now.leaving) ≡ length pivot.now.standing.now }
-    ensures written { let n = length pivot.now.standing.now in
-        let row = entry_in rows.now pivot.now.leaving in
-        let operations = each n (solved_operations_by pivot.now row) in
-        MatchResult result
-        (λ _. (first_overflow operations ≡ None) × (new.new ≡ table n (solved_by pivot.now row)))
-        (IsMoveFault operations) }
-    ensures long { length new.new ≡ length pivot.now.standing.now }
-    ensures spelled { HasSpelled new.new scratch.new.entering }
-{
-    let before = new.room();
-    scratch.entering.is_done = false;
-    match write_solved(pivot, &rows[pivot.leaving as usize], new) {
-        Ok(()) => (),
-        Err(fault) => return Err(fault),
-    }
-    match count_room(new, before, &mut scratch.held) {
-        Ok(()) => Ok(()),
-        Err(_) => Err(MoveFault::NoMemory),
-    }
-}
-
-/// Writes the row of the variable that enters, the rows that change, and the row of the cost.
+/// Writes the row of the variable that enters, by that of the one that leaves, and counts what it has room for then; it
+/// isn't spelled yet. And writes the rows that change, and the row of the cost.
 fn write_lines(pivot: &Pivot, lists: &Lists, room: &mut Room) -> Result<(), MoveFault>
     requires few { length pivot.now.standing.now < 2 ^ 32 }
     requires leaving { pivot.now.leaving < length pivot.now.standing.now }
@@ -147,9 +112,15 @@ fn write_lines(pivot: &Pivot, lists: &Lists, room: &mut Room) -> Result<(), Move
     ensures long { HasRoom pivot.now.standing.now room.new }
 {
     let rows = lists.rows.as_slice();
-    match write_entering(pivot, rows, &mut room.entering, &mut room.scratch) {
+    let before = room.entering.room();
+    room.scratch.entering.is_done = false;
+    match write_solved(pivot, &rows[pivot.leaving as usize], &mut room.entering) {
         Ok(()) => (),
         Err(fault) => return Err(fault),
+    }
+    match count_room(&room.entering, before, &mut room.scratch.held) {
+        Ok(()) => (),
+        Err(_) => return Err(MoveFault::NoMemory),
     }
     write_others(pivot, lists, room)
 }

@@ -148,25 +148,6 @@ fn put_entries(
     Ok(())
 }
 
-/// The values of the columns at first; `Err` where the memory was refused.
-fn column_values(
-    alloc: Global,
-    spare: &mut Spare,
-    columns: &[Sides],
-) -> Result<Vec<Frac>, AllocError>
-    ensures { IfOk result (λ values. values.items ≡ table (length columns.now) (column_value columns.now)) }
-{
-    let mut values = emptied(alloc, &mut spare.numbers);
-    for k in 0..columns.len() {
-        let sides = columns[k];
-        let Ok(()) = values.push(value_at_stand(sides, first_stand(sides))) else {
-            drop(values);
-            return Err(AllocError);
-        };
-    }
-    Ok(values)
-}
-
 /// The rows of all variables at first; `Err` where the memory was refused.
 fn first_rows(
     alloc: Global,
@@ -245,7 +226,14 @@ fn all_values(
         × (all.1 ≡ form (length columns.now) (value_at costs.now) (value_at (column_values_of columns.now))))
         (IsRowFault (value_operations columns.now m rows.now costs.now)) }
 {
-    let at = column_values(alloc, spare, columns)?;
+    let mut at = emptied(alloc, &mut spare.numbers);
+    for k in 0..columns.len() {
+        let sides = columns[k];
+        let Ok(()) = at.push(value_at_stand(sides, first_stand(sides))) else {
+            drop(at);
+            return Err(FirstFault::NoMemory);
+        };
+    }
     let begun = at.as_slice();
     let mut values = emptied(alloc, &mut spare.numbers);
     values.extend_from_slice(begun)?;

@@ -181,32 +181,8 @@ fn signed_below(n: i64, below: u64) -> (bool, i64)
     }
 }
 
-/// Turns the row of the variable that leaves round, whose numbers are `row` over `below`; answers the denominator then.
-fn turn_whole(
-    pivot: &Pivot,
-    row: &[(u32, i64)],
-    below: u64,
-    out: &mut Vec<(u32, i64)>,
-) -> Result<u64, AllocError>
-    requires few { length pivot.now.standing.now < 2 ^ 32 }
-    requires leaving { pivot.now.leaving < length pivot.now.standing.now }
-    requires row_kept { AreKept 0 (length pivot.now.standing.now) (over 1 row.now) }
-    requires row_whole { IsWhole below row.now }
-    requires pivot { pivot.now.inverse ≡ inverse (ratio (number_on row.now pivot.now.entering) below) }
-    requires nonzero { is_zero pivot.now.inverse ≡ false }
-    ensures { let n = length pivot.now.standing.now in
-        IfOk result (λ under. IsWhole under out.new.items
-        × (first_overflow (each n (solved_operations_by pivot.now (entry_on (over below row.now)))) ≡ None)
-        × (over under out.new.items ≡ kept_of n (solved_by pivot.now (entry_on (over below row.now))))) }
-{
-    let own = number_of(row, pivot.entering);
-    let (positive, d) = signed_below(own, below);
-    let leaving = [(pivot.leaving, d)];
-    turn_entries(pivot, positive, d, row, &leaving, out)?;
-    Ok(own.unsigned_abs())
-}
-
-/// Writes the row of the variable that enters: `row`, that of the one that leaves, solved for it.
+/// Writes the row of the variable that enters: `row`, that of the one that leaves, solved for it. Whole numbers are
+/// turned round.
 pub(crate) fn write_solved(pivot: &Pivot, row: &Form, out: &mut Form) -> Result<(), MoveFault>
     requires few { length pivot.now.standing.now < 2 ^ 32 }
     requires leaving { pivot.now.leaving < length pivot.now.standing.now }
@@ -225,9 +201,13 @@ pub(crate) fn write_solved(pivot: &Pivot, row: &Form, out: &mut Form) -> Result<
     out.is_whole = false;
     out.entries.clear();
     if row.is_whole {
-        match turn_whole(pivot, row.wholes.as_slice(), row.below, &mut out.wholes) {
-            Ok(below) => {
-                out.below = below;
+        let wholes = row.wholes.as_slice();
+        let own = number_of(wholes, pivot.entering);
+        let (positive, d) = signed_below(own, row.below);
+        let leaving = [(pivot.leaving, d)];
+        match turn_entries(pivot, positive, d, wholes, &leaving, &mut out.wholes) {
+            Ok(()) => {
+                out.below = own.unsigned_abs();
                 out.is_whole = true;
                 return Ok(());
             }

@@ -31,17 +31,6 @@ fn short_terms(q: Frac) -> Option<(i64, u64)>
 
 /// a * c
 #[inline(always)]
-fn short_product(a: i64, c: i64) -> i64
-    requires first { magnitude a < 2 ^ 20 }
-    requires second { magnitude c < 2 ^ 20 }
-    ensures value { result ≡ a *ℤ c }
-    ensures short { magnitude result < 2 ^ 40 }
-{
-    a * c
-}
-
-/// a * c
-#[inline(always)]
 fn long_product(a: i64, c: i64) -> i64
     requires first { magnitude a < 2 ^ 40 }
     requires second { magnitude c < 2 ^ 20 }
@@ -66,20 +55,8 @@ fn terms_of_sum(a: i64, b: u64, c: i64, d: u64, n: i64, below: u64) -> (i64, u64
 {
     let under = below * d;
     let first = long_product(under as i64, a);
-    let second = long_product(short_product(n, c), b as i64);
+    let second = long_product(n * c, b as i64);
     (first + second, b * under)
-}
-
-/// n over d in lowest terms.
-#[inline(always)]
-fn quotient(n: i64, d: u64) -> Option<Frac>
-    requires { 0 < d }
-    ensures { IfSome result (λ value. value ≡ ratio n d) }
-{
-    match Frac::new(n as i128, d as i128) {
-        Ok(value) => Some(value),
-        Err(_) => None,
-    }
 }
 
 /// The sum of a value and (n / below) * t, reduced once, where all terms are below 2^20.
@@ -98,9 +75,9 @@ fn short_sum(value: Frac, n: i64, below: u64, t: Frac) -> Option<Frac>
         return None;
     };
     let (over, under) = terms_of_sum(a, b, c, d, n, below);
-    match quotient(over, under) {
-        Some(sum) => Some(sum),
-        None => None,
+    match Frac::new(over as i128, under as i128) {
+        Ok(sum) => Some(sum),
+        Err(_) => None,
     }
 }
 

@@ -110,17 +110,6 @@ pub(crate) fn write_rows(
     Ok(())
 }
 
-/// Takes a row from another list, where it changes, and gives the old one for it.
-#[inline(always)]
-fn take_row(changes: bool, row: &mut Form, other: &mut Form)
-    ensures taken { row.new ≡ (if changes then other.old else row.old) }
-    ensures given { other.new ≡ (if changes then row.old else other.old) }
-{
-    if changes {
-        std::mem::swap(row, other);
-    }
-}
-
 /// Takes the rows that change, which are marked, from another list, and gives the old ones for them; i leaves, and j
 /// enters.
 pub(crate) fn take_rows(
@@ -139,6 +128,8 @@ pub(crate) fn take_rows(
     ensures other_long { HasRows standing.now other.new }
 {
     for v in 0..standing.len() {
-        take_row(changed[v], &mut rows[v], &mut other[v]);
+        if changed[v] {
+            std::mem::swap(&mut rows[v], &mut other[v]);
+        }
     }
 }

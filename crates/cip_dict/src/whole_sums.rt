@@ -27,17 +27,6 @@ pub(crate) fn product_of(a: i64, c: i64) -> i128
     a as i128 * c as i128
 }
 
-/// a + c
-#[inline(always)]
-fn sum_of(a: i128, c: i128) -> i128
-    requires first { magnitude a < 2 ^ 84 }
-    requires second { magnitude c < 2 ^ 84 }
-    ensures value { result ≡ a +ℤ c }
-    ensures small { magnitude result < 2 ^ 86 }
-{
-    a + c
-}
-
 /// By what the numbers of a row are multiplied as that of the variable that enters is put in its place, and by what the
 /// numbers of that.
 #[derive(Clone, Copy)]
@@ -64,10 +53,7 @@ pub(crate) fn substituted_number(pivot: &Pivot, factors: Factors, n: i64, y: i64
     } else if is_absent_on(pivot, k) {
         0
     } else {
-        sum_of(
-            product_of(n, factors.own as i64),
-            product_of(factors.new, y),
-        )
+        product_of(n, factors.own as i64) + product_of(factors.new, y)
     }
 }
 

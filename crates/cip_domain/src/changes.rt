@@ -1,9 +1,8 @@
 //! Changes of one column.
-ghost use Rattle.std.specs.Prelude.{◌≡◌, None, Some};
-ghost use Rattle.cip_problem.specs.Box.{low_inside, high_inside};
+ghost use Rattle.std.specs.Prelude.{◌≡◌};
 ghost use Rattle.cip_problem.specs.Choices.{met};
 ghost use Rattle.cip_domain.specs.Domain.{is_settled as is_settled_lem};
-ghost use Rattle.cip_domain.specs.Changes.{with_side, side_change, is_as_strong, would_cross, choice_after};
+ghost use Rattle.cip_domain.specs.Changes.{with_side, side_change, is_as_strong, choice_after};
 
 use cip_lin::{Choice, Frac, Side, Sides};
 use std::marker::Model;
@@ -94,39 +93,18 @@ pub(crate) fn with_value(sides: Sides, side: Side, value: Option<Frac>) -> Sides
     }
 }
 
-/// Whether a low side is at least as strong as a value.
-fn is_low_strong(low: Option<Frac>, value: Frac) -> bool
-    ensures { result ≡ low_inside low (Some value) }
-{
-    match low {
-        None => false,
-        Some(own) => value <= own,
-    }
-}
-
-/// Whether a high side is at least as strong as a value.
-fn is_high_strong(high: Option<Frac>, value: Frac) -> bool
-    ensures { result ≡ high_inside high (Some value) }
-{
-    match high {
-        None => false,
-        Some(own) => own <= value,
-    }
-}
-
 /// Whether a side is at least as strong as a value already.
 pub(crate) fn is_strong(sides: Sides, side: Side, value: Frac) -> bool
     ensures { result ≡ is_as_strong sides side value }
 {
     match side {
-        Side::Low => is_low_strong(sides.low, value),
-        Side::High => is_high_strong(sides.high, value),
+        Side::Low => match sides.low {
+            None => false,
+            Some(own) => value <= own,
+        },
+        Side::High => match sides.high {
+            None => false,
+            Some(own) => own <= value,
+        },
     }
-}
-
-/// Whether the low side would pass the high one with this value for one of them.
-pub(crate) fn crosses(sides: Sides, side: Side, value: Frac) -> bool
-    ensures { result ≡ would_cross sides side value }
-{
-    !with_value(sides, side, None).contains(value)
 }

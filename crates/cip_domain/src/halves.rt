@@ -12,13 +12,6 @@ ghost use Rattle.cip_domain.specs.Halves.{CanHalve, low_sides, high_sides};
 use crate::changes::Change;
 use cip_lin::{Frac, Side, Sides};
 
-/// Whether a number isn't too far from 0.
-fn is_near(at: i128) -> bool
-    ensures { IsTrue result ↔ (unsigned_abs at ≤ 2 ^ 101) }
-{
-    at.unsigned_abs() <= 1 << 101
-}
-
 /// Whether a whole number lies between a low side and a whole number, itself among them.
 fn has_low(low: Option<Frac>, at: i128) -> bool
     ensures { IsTrue result ↔ HasWhole (low_sides (record { low = low; high = None }) at) }
@@ -44,7 +37,7 @@ fn has_high(high: Option<Frac>, at: i128) -> bool
 pub fn can_halve(sides: Sides, at: i128) -> bool
     ensures { IsTrue result ↔ CanHalve sides at }
 {
-    is_near(at) && has_low(sides.low, at) && has_high(sides.high, at)
+    at.unsigned_abs() <= 1 << 101 && has_low(sides.low, at) && has_high(sides.high, at)
 }
 
 /// A whole number as a fraction.

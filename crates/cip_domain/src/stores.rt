@@ -5,11 +5,11 @@ ghost use Rattle.cip_problem.specs.Choices.{choice_at};
 ghost use Rattle.cip_domain.specs.Changes.{tightened, with_column, with_side, side_change, one_side, one_choice};
 ghost use Rattle.cip_domain.specs.Domain.{region_of, region_at, KeepsMarks, stepped, tightening, after_tightening, CanChoose, choosing, after_choosing};
 ghost use Rattle.cip_domain.specs.Domain.{making, is_unsettled};
-ghost use Rattle.cip_domain.specs.Trail.{undone, kind_of, value_of, sides_back, choice_back, own_high};
+ghost use Rattle.cip_domain.specs.Trail.{undone, sides_back, choice_back};
 ghost use Rattle.cip_domain.specs.Narrowing.{ArePlainPast, IsNarrowed};
 ghost use Rattle.cip_domain.specs.declared.stores.Tightened.TheVariants.{Yes, Empty};
 
-use crate::changes::{Change, choice_past, crosses, is_settled, is_strong, with_value};
+use crate::changes::{Change, choice_past, is_settled, is_strong, with_value};
 use crate::halves::choice_change;
 use crate::regions::Region;
 use cip_lin::{Bounds, Choice, Choices, Frac, Side, Sides};
@@ -71,26 +71,6 @@ struct Saved {
     value: Option<Frac>,
 }
 
-/// Which side of a column was otherwise.
-fn side_kind(side: Side) -> Was
-    ensures { result ≡ kind_of side }
-{
-    match side {
-        Side::Low => Was::Low,
-        Side::High => Was::High,
-    }
-}
-
-/// The value of a side.
-fn side_value(sides: Sides, side: Side) -> Option<Frac>
-    ensures { result ≡ value_of side sides }
-{
-    match side {
-        Side::Low => sides.low,
-        Side::High => sides.high,
-    }
-}
-
 /// The sides of a column as they were before a step.
 fn sides_before(was: Was, value: Option<Frac>, sides: Sides) -> Sides
     ensures { result ≡ sides_back was value sides }
@@ -110,7 +90,10 @@ fn choice_before(was: Was, value: Option<Frac>, choice: Choice) -> Choice
         Was::On => Choice::made(true),
         Was::OwnLow => Choice::open(Sides {
             low: value,
-            high: own_high_of(&choice),
+            high: match choice.own() {
+                Some(own) => own.high,
+                None => None,
+            },
         }),
         Was::OwnHigh => Choice::open(Sides {
             low: None,
@@ -118,13 +101,6 @@ fn choice_before(was: Was, value: Option<Frac>, choice: Choice) -> Choice
         }),
         _ => choice,
     }
-}
-
-/// The high one of a choice's own sides, if the choice is open and has one.
-fn own_high_of(choice: &Choice) -> Option<Frac>
-    ensures { result ≡ own_high choice.now }
-{
-    choice.own()?.high
 }
 
 /// A region with its earlier states. Contracts see its box and its choices, the regions before each change that can be
@@ -196,7 +172,10 @@ impl DomainStore {
     {
         let sides = self.region.sides(col);
         let choice = self.region.choice(col);
-        let (was, own) = (side_kind(side), side_value(sides, side));
+        let (was, own) = match side {
+            Side::Low => (Was::Low, sides.low),
+            Side::High => (Was::High, sides.high),
+        };
         self.step(col, was, own, with_value(sides, side, value), choice);
     }
 
@@ -268,7 +247,7 @@ impl DomainStore {
         if is_strong(sides, side, value) {
             return Tightened::Same;
         }
-        if crosses(sides, side, value) {
+        if !with_value(sides, side, None).contains(value) {
             return Tightened::Empty;
         }
         self.set_side(col, side, Some(value));

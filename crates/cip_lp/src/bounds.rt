@@ -101,19 +101,6 @@ impl Statements {
         }
     }
 
-    /// Takes a sign in Bounds.
-    fn bound_sign(&mut self, minus: bool) -> Option<u32>
-        ensures { AreTaken self.old self.new (bound_read (where_of self.old)
-            (place_at self.old.place.stage self.old.place) (tokens.Sign minus)) result }
-    {
-        let given = self.place.given;
-        match self.place.stage {
-            Stage::Start | Stage::BoundedName => self.sign(minus, given, Stage::LimitSign),
-            Stage::BoundDue => self.sign(minus, given, Stage::BoundSign),
-            _ => Some(3),
-        }
-    }
-
     /// Takes a value in Bounds, infinite or not.
     fn bound_limit(&mut self, text: &[u8]) -> Option<u32>
         ensures number { AreTaken self.old self.new (bound_read (where_of self.old)
@@ -169,7 +156,16 @@ impl Statements {
     {
         match token {
             Token::Name(name) => self.bound_name(name),
-            Token::Sign { minus } => Ok(self.bound_sign(minus)),
+            Token::Sign { minus } => {
+                let given = self.place.given;
+                match self.place.stage {
+                    Stage::Start | Stage::BoundedName => {
+                        Ok(self.sign(minus, given, Stage::LimitSign))
+                    }
+                    Stage::BoundDue => Ok(self.sign(minus, given, Stage::BoundSign)),
+                    _ => Ok(Some(3)),
+                }
+            }
             Token::Number(text) => Ok(self.bound_limit(text)),
             Token::Infinite(text) => Ok(self.bound_limit(text)),
             Token::Relates(relation) => Ok(self.bound_relation(relation)),

@@ -22,16 +22,6 @@ pub(crate) fn is_long(name: &[u8]) -> bool
     name.len() > LONGEST_NAME
 }
 
-/// At least 0.
-fn default_sides() -> Sides
-    ensures { result ≡ facts.default_sides }
-{
-    Sides {
-        low: Some(Frac::zero()),
-        high: None,
-    }
-}
-
 /// Puts a column of this name behind the others. `Err` comes where a growth was refused, and changes nothing.
 fn put_column(
     alloc: Global,
@@ -65,7 +55,10 @@ fn put_column(
         return Err(AllocError);
     };
     costs.push_reserved(Frac::zero());
-    sides.push_reserved(default_sides());
+    sides.push_reserved(Sides {
+        low: Some(Frac::zero()),
+        high: None,
+    });
     whole.push_reserved(false);
     Ok(())
 }

@@ -32,31 +32,6 @@ impl Statements {
         }
     }
 
-    /// Takes a sign in the objective.
-    fn cost_sign(&mut self, minus: bool) -> Option<u32>
-        ensures { AreTaken self.old self.new (cost_read (where_of self.old)
-            (place_at self.old.place.stage self.old.place) (tokens.Sign minus)) result }
-    {
-        match self.place.stage {
-            Stage::Start | Stage::Labelled | Stage::AfterTerm => {
-                self.sign(minus, false, Stage::TermSign)
-            }
-            _ => Some(3),
-        }
-    }
-
-    /// Takes a number in the objective.
-    fn cost_number(&mut self, text: &[u8]) -> Option<u32>
-        ensures { AreTaken self.old self.new (cost_read (where_of self.old)
-            (place_at self.old.place.stage self.old.place) (tokens.Number text.now)) result }
-    {
-        match self.place.stage {
-            Stage::Start | Stage::Labelled => self.number(false, text, false, Stage::TermNumber),
-            Stage::TermSign => self.number(self.place.minus, text, false, Stage::TermNumber),
-            _ => Some(3),
-        }
-    }
-
     /// Takes a token of the objective.
     pub(crate) fn read_cost(&mut self, token: Token<'_>) -> Result<Option<u32>, AllocError>
         ensures { IfOk result (AreTaken self.old self.new
@@ -64,8 +39,21 @@ impl Statements {
     {
         match token {
             Token::Name(name) => self.cost_name(name),
-            Token::Sign { minus } => Ok(self.cost_sign(minus)),
-            Token::Number(text) => Ok(self.cost_number(text)),
+            Token::Sign { minus } => match self.place.stage {
+                Stage::Start | Stage::Labelled | Stage::AfterTerm => {
+                    Ok(self.sign(minus, false, Stage::TermSign))
+                }
+                _ => Ok(Some(3)),
+            },
+            Token::Number(text) => match self.place.stage {
+                Stage::Start | Stage::Labelled => {
+                    Ok(self.number(false, text, false, Stage::TermNumber))
+                }
+                Stage::TermSign => {
+                    Ok(self.number(self.place.minus, text, false, Stage::TermNumber))
+                }
+                _ => Ok(Some(3)),
+            },
             Token::Colon => match self.place.stage {
                 Stage::FirstName => {
                     let kind = self.draft.name_objective(self.place.name.as_slice())?;

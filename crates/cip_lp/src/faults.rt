@@ -2,21 +2,13 @@
 ghost use Rattle.std.specs.Prelude.{◌≡◌, Some, true, option_map};
 ghost use Rattle.cip_text.specs.PieceFaults.{has_kind_to};
 ghost use Rattle.cip_text.specs.TextFaults.{IsSaid};
-ghost use Rattle.cip_text_rules.specs.LpOutcome.{told_kind};
 ghost use Rattle.cip_lp.specs.LpKindTexts.{kind_number};
 ghost use Rattle.cip_lp.specs.LpReaders.{as_told};
 
 use crate::kinds::LpKind;
 use cip_text::{KnownFault, TextFault, told};
 
-/// The kind that is told of a fault by its number: that of a text that is too long is 9, too.
-fn told_kind(number: u32) -> u32
-    ensures { result ≡ told_kind number }
-{
-    if number == 12 { 9 } else { number }
-}
-
-/// A fault with the kind that is told.
+/// A fault with the kind that is told: that of a text that is too long is 9, too.
 fn as_told(known: KnownFault) -> KnownFault
     requires { has_kind_to 12 (Some known) ≡ true }
     ensures told { result ≡ as_told known }
@@ -24,7 +16,7 @@ fn as_told(known: KnownFault) -> KnownFault
 {
     KnownFault {
         line: known.line,
-        kind: told_kind(known.kind),
+        kind: if known.kind == 12 { 9 } else { known.kind },
     }
 }
 

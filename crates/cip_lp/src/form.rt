@@ -148,19 +148,11 @@ impl Form {
         ensures row { IfOk result (λ row. row ≡ record { terms = facts.terms_of self.old; low = low; high = high }) }
         ensures left { self.new ≡ [] }
     {
-        sort_terms(&mut self.terms);
+        self.terms.sort_unstable_by_key(|term| term.column);
         let row = row_of(alloc, self.terms.as_slice(), low, high);
         self.terms.clear();
         row
     }
-}
-
-/// Puts numbers in the order of their columns, each of which has one.
-fn sort_terms(terms: &mut Vec<FormTerm>)
-    requires { form_rises (form_of terms.old.items) ≡ true }
-    ensures { terms.new.items ≡ form_of terms.old.items }
-{
-    terms.sort_unstable_by_key(|term| term.column);
 }
 
 /// Puts the number of a form behind the terms of a row; 0 is no term. `Err` comes where a growth was refused.

@@ -2,7 +2,6 @@
 ghost use Rattle.std.specs.Prelude.{◌≡◌, ◌≤◌, ◌+◌, length};
 ghost use Rattle.std.specs.Char.{is_ascii_digit};
 ghost use Rattle.std.specs.List.{prefix_len};
-ghost use Rattle.cip_rational.specs.Numeral as number;
 ghost use Rattle.cip_text_rules.specs.LpWords as text;
 
 /// Whether a name begins with this byte.
@@ -56,14 +55,6 @@ fn sign_length(bytes: &[u8]) -> usize
     }
 }
 
-/// The length of the digits behind a sign.
-fn signed_length(bytes: &[u8]) -> usize
-    ensures value { result ≡ text.signed_length bytes.now }
-    ensures within { text.sign_length bytes.now + result ≤ length bytes.now }
-{
-    digits_length(&bytes[sign_length(bytes)..])
-}
-
 /// The length of an exponent that stands first: `e` or `E`, a sign or none, and digits.
 fn exponent_length(bytes: &[u8]) -> usize
     ensures value { result ≡ text.exponent_length bytes.now }
@@ -71,12 +62,9 @@ fn exponent_length(bytes: &[u8]) -> usize
 {
     match bytes {
         [b'e' | b'E', rest @ ..] => {
-            let digits = signed_length(rest);
-            if digits > 0 {
-                1 + (sign_length(rest) + digits)
-            } else {
-                0
-            }
+            let sign = sign_length(rest);
+            let digits = digits_length(&rest[sign..]);
+            if digits > 0 { 1 + (sign + digits) } else { 0 }
         }
         _ => 0,
     }
@@ -93,22 +81,14 @@ fn decimals_length(bytes: &[u8]) -> usize
     }
 }
 
-/// The length of digits with at most one point.
-fn mantissa_length(bytes: &[u8]) -> usize
-    ensures value { result ≡ text.mantissa_length bytes.now }
-    ensures within { result ≤ length bytes.now }
-{
-    let digits = digits_length(bytes);
-    digits + decimals_length(&bytes[digits..])
-}
-
 /// The length of the longest number that stands first; 0 where none does.
 pub(crate) fn number_length(bytes: &[u8]) -> usize
     ensures value { result ≡ text.number_length bytes.now }
     ensures within { result ≤ length bytes.now }
 {
-    let mantissa = mantissa_length(bytes);
-    if digits_length(bytes) > 0 || mantissa > 1 {
+    let digits = digits_length(bytes);
+    let mantissa = digits + decimals_length(&bytes[digits..]);
+    if digits > 0 || mantissa > 1 {
         mantissa + exponent_length(&bytes[mantissa..])
     } else {
         0

@@ -9,7 +9,9 @@ ghost use Rattle.cip_lp.specs.LpLines.{token_shown, tokens_left};
 ghost use Rattle.cip_lp.specs.LpEvents.{IsLpKind};
 ghost use Rattle.cip_lp.specs.LinesRead.{stage_of, AreOver};
 
-use crate::{LineTokens, LpPart, Program, Statements, Token};
+use crate::places::{Place, Stage};
+use crate::{Amount, Limit, LineTokens, LpDraft, LpPart, Program, Relation, Statements, Token};
+use cip_frac::Frac;
 use std::alloc::{AllocError, Global};
 
 /// What was read of the tokens of a text. Behind End none is looked at.
@@ -34,8 +36,33 @@ impl LineReader {
     pub(crate) fn new(alloc: Global) -> LineReader
         ensures { stage_of result ≡ lp_reading.start }
     {
+        let zero = Amount {
+            value: Frac::zero(),
+        };
+        let place = Place {
+            stage: Stage::Start,
+            name: Vec::new(alloc),
+            minus: false,
+            amount: zero,
+            given: false,
+            first: zero,
+            first_relation: Relation::EqualTo,
+            relation: Relation::EqualTo,
+            limit: Limit {
+                value: None,
+                minus: false,
+            },
+        };
         LineReader {
-            statements: Statements::new(alloc),
+            statements: Statements {
+                draft: LpDraft::new(alloc),
+                part: LpPart::NoPart,
+                bounds: false,
+                generals: false,
+                binaries: false,
+                constant: false,
+                place,
+            },
             ended: false,
         }
     }

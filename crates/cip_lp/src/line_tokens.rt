@@ -129,21 +129,6 @@ impl<'a> LineTokens<'a> {
         }
     }
 
-    /// The first token of a line.
-    fn front_token(&mut self) -> Option<Token<'a>>
-        requires { self.old.front ≡ false }
-        ensures { MatchOption result
-            ((tokens.tokens_of (line_pieces self.old.pieces.rest.now) ≡ []) × (tokens_left self.new ≡ []))
-            (λ token. tokens.tokens_of (line_pieces self.old.pieces.rest.now)
-            ≡ token_shown token ∷ tokens_left self.new) }
-    {
-        match self.pieces.next_piece() {
-            None => None,
-            Some(Piece::Word(word)) => Some(self.front_word(word)),
-            Some(piece) => Some(piece_token(piece)),
-        }
-    }
-
     /// The next token; none where the line has no more, and then none comes later.
     pub fn next_token(&mut self) -> Option<Token<'a>>
         ensures { MatchOption result ((tokens_left self.old ≡ []) × (tokens_left self.new ≡ []))
@@ -151,7 +136,11 @@ impl<'a> LineTokens<'a> {
     {
         if self.front {
             self.front = false;
-            return self.front_token();
+            return match self.pieces.next_piece() {
+                None => None,
+                Some(Piece::Word(word)) => Some(self.front_word(word)),
+                Some(piece) => Some(piece_token(piece)),
+            };
         }
         match self.pieces.next_piece() {
             None => None,

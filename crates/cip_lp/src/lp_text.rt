@@ -1,5 +1,5 @@
 //! An LP text, byte by byte.
-ghost use Rattle.std.specs.Prelude.{◌≡◌, ◌+◌, ◌<◌, ◌≤◌, [], ◌∷◌, ℕ, List, None, true, false, OnOk, IfOk, fold};
+ghost use Rattle.std.specs.Prelude.{◌≡◌, ◌+◌, ◌<◌, ◌≤◌, [], ℕ, List, None, true, false, OnOk, IfOk};
 ghost use Rattle.cip_problem.specs.Limits.{longest_text};
 ghost use Rattle.cip_text_rules.specs.Lines as text;
 ghost use Rattle.cip_text_rules.specs.LineTexts.{outcome_of};
@@ -96,20 +96,6 @@ impl LpText {
         Ok(())
     }
 
-    /// Takes the line feed that ends the line.
-    fn end_line(&mut self, byte: u8) -> Result<(), AllocError>
-        requires going { self.old.fault ≡ None }
-        requires few { self.old.size < longest_text }
-        requires feed { text.is_line_feed byte ≡ true }
-        ensures { OnOk result (shown_of self.new ≡ byte_taken (shown_of self.old) byte) }
-    {
-        self.read_rest()?;
-        self.ended += 1;
-        self.front = true;
-        self.size += 1;
-        Ok(())
-    }
-
     /// Whether the bytes that are kept begin a comment.
     fn in_comment(&self) -> bool
         ensures { result ≡ taken.in_comment self.now.rest.items }
@@ -137,20 +123,6 @@ impl LpText {
         byte == b'\\' || (self.ends_with(byte) && !(self.front && hangs(self.rest.as_slice())))
     }
 
-    /// Takes a byte of the line behind tokens that have ended.
-    fn begin_part(&mut self, byte: u8) -> Result<(), AllocError>
-        requires going { self.old.fault ≡ None }
-        requires few { self.old.size < longest_text }
-        ensures { OnOk result (shown_of self.new
-            ≡ taken.behind (part_read (bytes_of self.old)) self.old.ended false (byte ∷ []) (self.old.size + 1)) }
-    {
-        self.read_rest()?;
-        self.front = false;
-        self.size += 1;
-        self.rest.push(byte)?;
-        Ok(())
-    }
-
     /// Takes a byte of the line.
     fn put(&mut self, byte: u8) -> Result<(), AllocError>
         requires going { self.old.fault ≡ None }
@@ -163,7 +135,11 @@ impl LpText {
             return Ok(());
         }
         if self.is_cut(byte) {
-            return self.begin_part(byte);
+            self.read_rest()?;
+            self.front = false;
+            self.size += 1;
+            self.rest.push(byte)?;
+            return Ok(());
         }
         self.size += 1;
         self.rest.push(byte)?;
@@ -212,7 +188,11 @@ impl LpText {
                     return self.put_last(byte);
                 }
                 if is_line_feed(byte) {
-                    return self.end_line(byte);
+                    self.read_rest()?;
+                    self.ended += 1;
+                    self.front = true;
+                    self.size += 1;
+                    return Ok(());
                 }
                 self.put(byte)
             }
@@ -255,16 +235,6 @@ impl LpText {
         let last = self.last_line();
         self.read_rest()?;
         Ok(self.fault_at_end(last))
-    }
-
-    /// Takes one more piece of the text.
-    fn take_piece(&mut self, piece: &[u8]) -> Result<(), AllocError>
-        ensures { OnOk result (shown_of self.new ≡ fold byte_taken (shown_of self.old) piece.now) }
-    {
-        for byte in piece {
-            self.take_byte(*byte)?;
-        }
-        Ok(())
     }
 
     /// Takes the end of the text, whose program the tokens have said then; or answers its fault.
@@ -316,7 +286,10 @@ impl PieceText for LpText {
     }
 
     fn take(&mut self, piece: &[u8]) -> Result<(), AllocError> {
-        self.take_piece(piece)
+        for byte in piece {
+            self.take_byte(*byte)?;
+        }
+        Ok(())
     }
 
     /// A fault is known where a token that has ended is faulty, or the text has over 67,108,864 bytes.

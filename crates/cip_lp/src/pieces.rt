@@ -1,12 +1,9 @@
 //! A line is cut into pieces.
-ghost use Rattle.std.specs.Prelude.{◌≡◌, ◌+◌, ◌-◌, ◌∷◌, [], length, take, drop, false, MatchOption, if◌then◌else◌};
-ghost use Rattle.std.specs.List.{prefix_len};
+ghost use Rattle.std.specs.Prelude.{◌≡◌, ◌+◌, ◌-◌, ◌∷◌, [], length, drop, false, MatchOption, if◌then◌else◌};
 ghost use Rattle.cip_text_rules.specs.Lines as lines;
 ghost use Rattle.cip_text_rules.specs.LpWords as text;
-ghost use Rattle.cip_text_rules.specs.LpTokens as tokens;
 ghost use Rattle.cip_text_rules.specs.LpTokens.{line_pieces, has_colon};
 ghost use Rattle.cip_text_rules.specs.LpParts.{is_over};
-ghost use Rattle.cip_lp.specs.LpKinds.{relation_shown};
 ghost use Rattle.cip_lp.specs.LpPieces.{piece_shown, begins_blank, begins_nothing};
 
 use crate::lengths::{begins_name, begins_number, name_length, number_length};
@@ -36,13 +33,6 @@ pub(crate) fn is_blank(byte: u8) -> bool
     byte == b' ' || byte == b'\t' || byte == b'\r'
 }
 
-/// Whether a comment begins with this byte.
-fn is_comment(byte: u8) -> bool
-    ensures { result ≡ tokens.is_comment byte }
-{
-    byte == b'\\'
-}
-
 /// Whether a byte stands first.
 fn begins_with(wanted: u8, bytes: &[u8]) -> bool
     ensures { result ≡ text.begins_with wanted bytes.now }
@@ -50,19 +40,6 @@ fn begins_with(wanted: u8, bytes: &[u8]) -> bool
     match bytes {
         [] => false,
         [first, ..] => *first == wanted,
-    }
-}
-
-/// The relation that `=` begins.
-fn equal_relation(behind: &[u8]) -> Relation
-    ensures { relation_shown result ≡ text.equal_relation behind.now }
-{
-    if begins_with(b'<', behind) {
-        Relation::AtMost
-    } else if begins_with(b'>', behind) {
-        Relation::AtLeast
-    } else {
-        Relation::EqualTo
     }
 }
 
@@ -76,7 +53,9 @@ fn mark_piece(byte: u8, behind: &[u8]) -> Piece<'static>
         b':' => Piece::Colon,
         b'<' => Piece::Relates(Relation::AtMost),
         b'>' => Piece::Relates(Relation::AtLeast),
-        b'=' => Piece::Relates(equal_relation(behind)),
+        b'=' if begins_with(b'<', behind) => Piece::Relates(Relation::AtMost),
+        b'=' if begins_with(b'>', behind) => Piece::Relates(Relation::AtLeast),
+        b'=' => Piece::Relates(Relation::EqualTo),
         _ => Piece::Nothing,
     }
 }
@@ -107,7 +86,7 @@ fn without_comment(bytes: &[u8]) -> &[u8]
     ensures starts { begins_nothing result.now ≡ false }
 {
     match bytes {
-        [first, ..] if is_comment(*first) => &[],
+        [first, ..] if *first == b'\\' => &[],
         _ => bytes,
     }
 }
@@ -125,16 +104,6 @@ fn without_blanks(bytes: &[u8]) -> &[u8]
         rest = others;
     }
     rest
-}
-
-/// The name that stands first, and what stands behind it.
-fn cut_word<'a>(all: &'a [u8], behind: &'a [u8]) -> (Piece<'a>, &'a [u8])
-    requires { length all.now ≡ length behind.now + 1 }
-    ensures piece { piece_shown result.0 ≡ text.WordPiece (take (prefix_len text.is_name_byte behind.now + 1) all.now) }
-    ensures rest { result.1.now ≡ drop (prefix_len text.is_name_byte behind.now) behind.now }
-{
-    let length = name_length(behind);
-    (Piece::Word(&all[..length + 1]), &behind[length..])
 }
 
 /// The number that stands first, if there is one, and what stands behind it.
@@ -158,7 +127,8 @@ fn cut_first<'a>(byte: u8, behind: &'a [u8], all: &'a [u8]) -> (Piece<'a>, &'a [
     ensures rest { result.1.now ≡ drop (text.first_rest byte behind.now) behind.now }
 {
     if begins_name(byte) {
-        cut_word(all, behind)
+        let length = name_length(behind);
+        (Piece::Word(&all[..length + 1]), &behind[length..])
     } else if begins_number(byte) {
         cut_number(all, behind)
     } else {

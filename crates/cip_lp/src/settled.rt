@@ -23,22 +23,6 @@ fn is_colon(token: Token<'_>) -> bool
 }
 
 impl Statements {
-    /// Takes the name in front of the objective as that of a term, unless it is the objective's.
-    fn settle_cost_name(&mut self, token: Token<'_>) -> Result<Option<u32>, AllocError>
-        ensures { IfOk result (AreTaken self.old self.new
-            (settled_cost (where_of self.old) (places.FirstName self.old.place.name.items) (token_shown token.entry))) }
-    {
-        if is_colon(token) {
-            return Ok(None);
-        }
-        let kind = self
-            .draft
-            .add_cost(&unit(false), self.place.name.as_slice())?;
-        self.place.given = false;
-        self.place.stage = Stage::AfterTerm;
-        Ok(kind)
-    }
-
     /// Takes a number of the objective as its constant, unless it is that of a name.
     fn settle_cost_number(&mut self, token: Token<'_>) -> Option<u32>
         ensures { AreTaken self.old self.new
@@ -124,7 +108,17 @@ impl Statements {
     {
         match self.part {
             LpPart::Minimize | LpPart::Maximize => match self.place.stage {
-                Stage::FirstName => self.settle_cost_name(token),
+                // The name in front is that of a term, unless it is the objective's.
+                Stage::FirstName => {
+                    if is_colon(token) {
+                        return Ok(None);
+                    }
+                    let name = self.place.name.as_slice();
+                    let kind = self.draft.add_cost(&unit(false), name)?;
+                    self.place.given = false;
+                    self.place.stage = Stage::AfterTerm;
+                    Ok(kind)
+                }
                 Stage::TermNumber => Ok(self.settle_cost_number(token)),
                 _ => Ok(None),
             },

@@ -1,15 +1,12 @@
 //! The statements of a text, as far as its tokens have come.
 ghost use Rattle.std.specs.Prelude.{◌≡◌, IfOk};
-ghost use Rattle.cip_text_rules.specs.LpOutcome as text;
 ghost use Rattle.cip_text_rules.specs.LpFacts as facts;
 ghost use Rattle.cip_lp.specs.LpLines.{token_shown};
-ghost use Rattle.cip_lp.specs.LpStages.{context_of};
 ghost use Rattle.cip_lp.specs.LpTaken.{IsTokenTaken};
 
-use crate::places::{Place, Stage};
-use crate::{Amount, Limit, LpDraft, LpPart, Program, Relation, Token};
-use cip_frac::Frac;
-use std::alloc::{AllocError, Global};
+use crate::places::Place;
+use crate::{LpDraft, LpPart, Program, Token};
+use std::alloc::AllocError;
 
 /// What the tokens of a text have said, and where the next one stands.
 #[derive(Drop)]
@@ -31,38 +28,6 @@ pub struct Statements {
 }
 
 impl Statements {
-    /// Before the first token.
-    pub fn new(alloc: Global) -> Statements
-        ensures { context_of result ≡ text.no_context }
-    {
-        let zero = Amount {
-            value: Frac::zero(),
-        };
-        let place = Place {
-            stage: Stage::Start,
-            name: Vec::new(alloc),
-            minus: false,
-            amount: zero,
-            given: false,
-            first: zero,
-            first_relation: Relation::EqualTo,
-            relation: Relation::EqualTo,
-            limit: Limit {
-                value: None,
-                minus: false,
-            },
-        };
-        Statements {
-            draft: LpDraft::new(alloc),
-            part: LpPart::NoPart,
-            bounds: false,
-            generals: false,
-            binaries: false,
-            constant: false,
-            place,
-        }
-    }
-
     /// Takes one token more, and answers the kind of its fault, if it has one. `Err` comes where a growth was refused.
     pub fn take(&mut self, token: Token<'_>) -> Result<Option<u32>, AllocError>
         ensures { IfOk result (IsTokenTaken self.old self.new (token_shown token.entry)) }

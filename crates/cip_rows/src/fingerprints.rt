@@ -1,8 +1,8 @@
 //! Fingerprints of rows: equal rows have the same.
 ghost use Rattle.std.specs.Prelude.{◌≡◌, ◌<◌, ◌^◌, ◌%◌};
-ghost use Rattle.cip_rows.specs.Mixed.{modulus, mixed, with_number, with_terms, fingerprint};
+ghost use Rattle.cip_rows.specs.Mixed.{modulus, mixed, with_number, fingerprint};
 
-use cip_cert::{Frac, Row, Term};
+use cip_cert::{Frac, Row};
 
 // A prime below 2^32, so that no product overflows.
 const MODULUS: u64 = 4_294_967_291;
@@ -36,23 +36,14 @@ fn mix_number(from: u64, number: Frac) -> u64
     mix(mix(from, over), under)
 }
 
-/// Terms mixed together, in their order.
-fn mix_terms(terms: &[Term]) -> u64
-    ensures value { result ≡ with_terms 0 terms.now }
-    ensures below { result < modulus }
-{
-    let mut from = 0;
-    for term in terms {
-        from = mix_number(mix(from, u64::from(term.col)), term.coef);
-    }
-    from
-}
-
 /// The fingerprint of a row: a number made of its terms and its low side.
 pub(crate) fn fingerprint(row: &Row) -> u64
     ensures { result ≡ fingerprint row.now }
 {
-    let from = mix_terms(row.terms());
+    let mut from = 0;
+    for term in row.terms() {
+        from = mix_number(mix(from, u64::from(term.col)), term.coef);
+    }
     match row.low() {
         None => from,
         Some(low) => mix_number(from, low),

@@ -11,7 +11,7 @@ ghost use Rattle.cip_rows.specs.Adding.{IsAdded};
 
 use crate::built::row_from;
 use crate::fingerprints::fingerprint;
-use crate::index::{Entry, enter, forget, forget_below, forget_resting, known};
+use crate::index::{Entry, first_from, known};
 use crate::limits::{KEPT_POOL_ROWS, MOST_IDS, MOST_POOL_ROWS};
 use crate::usable::Usable;
 use cip_cert::{Bounds, Frac, PoolRow, Row, Scratch};
@@ -73,7 +73,8 @@ fn entered(
 {
     rows.reserve(1)?;
     let copy = scope.copied(alloc)?;
-    match enter(entries, entry) {
+    let place = first_from(entries.as_slice(), entry.print);
+    match entries.insert(place, entry) {
         Ok(()) => Ok(copy),
         Err(_) => Err(AllocError),
     }
@@ -207,7 +208,10 @@ impl RowPool {
         requires { length bounds.now ≡ self.now.columns }
         ensures { result ≡ usable_in bounds.now self.now.rows }
     {
-        Usable::new(self.rows.as_slice(), bounds)
+        Usable {
+            rows: self.rows.as_slice(),
+            bounds,
+        }
     }
 
     /// Takes out the row with this id, if it is held.
@@ -215,7 +219,7 @@ impl RowPool {
         ensures { self.new ≡ record self.old { rows = filter (λ kept. not (kept.id == id)) self.old.rows } }
     {
         self.rows.retain(|kept| kept.id != id);
-        forget(&mut self.entries, id);
+        self.entries.retain(|entry| entry.id != id);
     }
 
     /// Takes out the rows that rest on the cutoff row, for where the cost held is let go. The others stay as they are,
@@ -224,7 +228,7 @@ impl RowPool {
         ensures { self.new ≡ record self.old { rows = released self.old.rows } }
     {
         self.rows.retain(|kept| !kept.rests);
-        forget_resting(&mut self.entries);
+        self.entries.retain(|entry| !entry.rests);
     }
 
     /// Takes out the rows of least id, until at most `KEPT_POOL_ROWS` are held.
@@ -237,6 +241,7 @@ impl RowPool {
         }
         self.rows.rotate_left(count - KEPT_POOL_ROWS);
         self.rows.truncate(KEPT_POOL_ROWS);
-        forget_below(&mut self.entries, self.rows[0].id);
+        let least = self.rows[0].id;
+        self.entries.retain(|entry| least <= entry.id);
     }
 }

@@ -1,7 +1,5 @@
 //! The rows of a pool that may be used in a box.
-ghost use Rattle.std.specs.Prelude.{◌≡◌};
 ghost use Rattle.std.specs.Iterator.{YieldsFirstRef, item_count};
-ghost use Rattle.cip_rows.specs.RowPools.{usable_in, HaveScopesLike};
 
 use cip_cert::{Bounds, PoolRow};
 use std::marker::Model;
@@ -9,8 +7,8 @@ use std::marker::Model;
 /// Goes through the rows whose scope holds a box, by rising id. Contracts see the rows that are left.
 #[derive(Drop)]
 pub struct Usable<'a> {
-    rows: &'a [PoolRow],
-    bounds: &'a Bounds,
+    pub(crate) rows: &'a [PoolRow],
+    pub(crate) bounds: &'a Bounds,
 }
 
 impl<'a> Model for Usable<'a> {
@@ -26,16 +24,6 @@ impl<'a> Model for Usable<'a> {
     ghost view = { λ u. usable_in u.bounds.now u.rows.now };
 
     ghost invariant = { λ u. HaveScopesLike u.bounds.now u.rows.now };
-}
-
-impl<'a> Usable<'a> {
-    /// Those of these rows whose scope holds the box. Each scope has as many columns as the box.
-    pub(crate) fn new(rows: &'a [PoolRow], bounds: &'a Bounds) -> Usable<'a>
-        requires { HaveScopesLike bounds.now rows.now }
-        ensures { result ≡ usable_in bounds.now rows.now }
-    {
-        Usable { rows, bounds }
-    }
 }
 
 impl<'a> Iterator for Usable<'a> {

@@ -1,5 +1,5 @@
 //! The number of digits and an exponent.
-ghost use Rattle.std.specs.Prelude.{◌≡◌, ◌*◌, ◌^◌, ◌+◌, ◌-◌, ◌<◌, ◌≤◌, ◌++◌, ℕ, length, true, if◌then◌else◌};
+ghost use Rattle.std.specs.Prelude.{◌≡◌, ◌+◌, ◌-◌, ◌<◌, ◌≤◌, ◌++◌, length, true, if◌then◌else◌};
 ghost use Rattle.std.specs.Char.{is_ascii_digit};
 ghost use Rattle.std.specs.List.{list_all};
 ghost use Rattle.cip_rational.specs.Range.{largest};
@@ -15,47 +15,29 @@ pub(crate) const ZERO: Reading = Reading::Fits {
     below: 1,
 };
 
-/// A size of at most 2^127-1 times a power of ten.
-fn raised(negative: bool, size: u128, zeros: u128) -> Reading
-    requires some { 0 < size }
-    requires small { size ≤ largest }
-    ensures { said result ≡ text.whole_numeral negative (size * 10 ^ zeros) }
-{
-    match with_zeros(size, zeros) {
-        None => Reading::Large { negative },
-        Some(size) => Reading::Fits {
-            negative,
-            size,
-            below: 1,
-        },
-    }
-}
-
-/// A size of at most 2^127-1 with decimals.
-fn divided(negative: bool, size: u128, places: u128) -> Reading
-    requires { size ≤ largest }
-    ensures { said result ≡ text.decimal_numeral negative size places }
-{
-    match with_zeros(1, places) {
-        None => Reading::Fine,
-        Some(below) => Reading::Fits {
-            negative,
-            size,
-            below,
-        },
-    }
-}
-
 /// A size of at most 2^127-1 times 10 ^ (up - down).
 fn short(negative: bool, size: u128, up: u128, down: u128) -> Reading
     requires some { 0 < size }
     requires small { size ≤ largest }
     ensures { said result ≡ text.scaled negative size up down }
 {
-    if down <= up {
-        raised(negative, size, up - down)
-    } else {
-        divided(negative, size, down - up)
+    if down > up {
+        return match with_zeros(1, down - up) {
+            None => Reading::Fine,
+            Some(below) => Reading::Fits {
+                negative,
+                size,
+                below,
+            },
+        };
+    }
+    match with_zeros(size, up - down) {
+        None => Reading::Large { negative },
+        Some(size) => Reading::Fits {
+            negative,
+            size,
+            below: 1,
+        },
     }
 }
 
@@ -100,24 +82,6 @@ fn decide(negative: bool, whole: &[u8], decimals: &[u8], up: u128, down: u128) -
     }
 }
 
-/// The digits on both sides of a point, with an exponent above 2^127-1 or below -(2^127-1).
-fn far(negative: bool, whole: &[u8], decimals: &[u8], is_down: bool) -> Reading
-    requires are_digits { list_all is_ascii_digit (whole.now ++ decimals.now) ≡ true }
-    ensures { (amount : ℕ) → largest < amount → said result
-        ≡ text.scaled negative (text.size_of (whole.now ++ decimals.now))
-        ((if is_down then 0 else amount) + text.zeros_at_end (whole.now ++ decimals.now))
-        ((if is_down then amount else 0) + length decimals.now) }
-{
-    let zeros = zeros_at_both_ends(whole, decimals);
-    if zeros == whole.len() + decimals.len() {
-        ZERO
-    } else if is_down {
-        Reading::Fine
-    } else {
-        Reading::Large { negative }
-    }
-}
-
 /// The digits on both sides of a point, with the digits of an exponent.
 pub(crate) fn with_exponent(
     negative: bool,
@@ -133,7 +97,16 @@ pub(crate) fn with_exponent(
         ((if is_down then text.digits_value exponent.now else 0) + length decimals.now) }
 {
     match grow(0, exponent) {
-        None => far(negative, whole, decimals, is_down),
+        None => {
+            let zeros = zeros_at_both_ends(whole, decimals);
+            if zeros == whole.len() + decimals.len() {
+                ZERO
+            } else if is_down {
+                Reading::Fine
+            } else {
+                Reading::Large { negative }
+            }
+        }
         Some(amount) if is_down => decide(negative, whole, decimals, 0, amount),
         Some(amount) => decide(negative, whole, decimals, amount, 0),
     }

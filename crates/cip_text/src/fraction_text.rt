@@ -12,24 +12,8 @@ use crate::parts::{are_digits, cut, is_minus, without_sign};
 use crate::reading::Reading;
 use cip_frac::Frac;
 
-/// The quotient of two numbers of at most 2^127-1; no number is divided by 0.
-fn quotient(negative: bool, size: u128, below: u128) -> Reading
-    ensures { said result ≡ fraction_text.quotient_numeral negative size below }
-{
-    if below == 0 {
-        Reading::NoNumber
-    } else if size == 0 {
-        ZERO
-    } else {
-        Reading::Fits {
-            negative,
-            size,
-            below,
-        }
-    }
-}
-
-/// The quotient of two numbers that are written out, `Large` where one of them is above 2^127-1.
+/// The quotient of two numbers that are written out, `Large` where one of them is above 2^127-1; no number is divided
+/// by 0.
 fn written(negative: bool, over: &[u8], under: &[u8]) -> Reading
     requires over { text.are_digits over.now ≡ true }
     requires under { text.are_digits under.now ≡ true }
@@ -42,7 +26,17 @@ fn written(negative: bool, over: &[u8], under: &[u8]) -> Reading
     let Some(below) = grow(0, under) else {
         return Reading::Large { negative };
     };
-    quotient(negative, size, below)
+    if below == 0 {
+        Reading::NoNumber
+    } else if size == 0 {
+        ZERO
+    } else {
+        Reading::Fits {
+            negative,
+            size,
+            below,
+        }
+    }
 }
 
 /// The number of a text without its sign that has a `/`.

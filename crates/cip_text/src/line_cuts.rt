@@ -1,6 +1,6 @@
 //! A text is cut into lines, and a line into fields.
 ghost use Rattle.std.specs.Prelude.{◌≡◌, ◌==◌, ◌+◌, ◌<◌, ◌^◌, ◌∷◌, [], length, false, MatchOption, IfSome, option_map};
-ghost use Rattle.std.specs.List.{before_first, after_first, position_or_len};
+ghost use Rattle.std.specs.List.{position_or_len};
 ghost use Rattle.cip_text_rules.specs.Lines as text;
 ghost use Rattle.cip_text.specs.LineStarts.{begins_blank};
 ghost use Rattle.cip_text.specs.TextLines.{records_with, content_of, numbered, fields_left, left};
@@ -42,14 +42,6 @@ fn without_blanks(bytes: &[u8]) -> &[u8]
     rest
 }
 
-/// What stands before the first blank, and after it.
-fn cut_at_blank(bytes: &[u8]) -> (&[u8], &[u8])
-    ensures before { result.0.now ≡ before_first text.is_blank bytes.now }
-    ensures after { result.1.now ≡ after_first text.is_blank bytes.now }
-{
-    cut_at(bytes, first_blank(bytes))
-}
-
 impl<'a> Fields<'a> {
     /// The next field, which is a part of the text; none where the line has no more, and then the fields stay as they
     /// are.
@@ -62,26 +54,10 @@ impl<'a> Fields<'a> {
             self.rest = rest;
             return None;
         }
-        let (word, after) = cut_at_blank(rest);
+        let (word, after) = cut_at(rest, first_blank(rest));
         self.rest = after;
         Some(word)
     }
-}
-
-/// A line that begins with a blank, where it has a field.
-fn entry_line(line: &[u8], number: usize) -> Option<TextLine<'_>>
-    ensures says { option_map content_of result ≡ text.entry_of (text.fields line.now) }
-    ensures is_number { IfSome result (λ found. found.number ≡ number) }
-{
-    let rest = without_blanks(line);
-    if rest.is_empty() {
-        return None;
-    }
-    Some(TextLine {
-        number,
-        is_section: false,
-        fields: Fields { rest },
-    })
 }
 
 /// What a line says, with this number; none where it is empty, a comment or of blanks alone.
@@ -92,7 +68,17 @@ fn said_line(line: &[u8], number: usize, comment: u8) -> Option<TextLine<'_>>
     match line {
         [] => None,
         [first, ..] if *first == comment => None,
-        [first, ..] if is_blank(*first) => entry_line(line, number),
+        [first, ..] if is_blank(*first) => {
+            let rest = without_blanks(line);
+            if rest.is_empty() {
+                return None;
+            }
+            Some(TextLine {
+                number,
+                is_section: false,
+                fields: Fields { rest },
+            })
+        }
         _ => Some(TextLine {
             number,
             is_section: true,

@@ -1,6 +1,5 @@
 //! Number texts and texts of fractions.
-ghost use Rattle.std.specs.Prelude.{◌≡◌, ◌<◌, ◌≤◌, MatchResult, Some, if◌then◌else◌};
-ghost use Rattle.cip_rational.specs.Rational.{ratio};
+ghost use Rattle.std.specs.Prelude.{◌≡◌, ◌≤◌, MatchResult, Some, if◌then◌else◌};
 ghost use Rattle.cip_rational.specs.Range.{largest};
 ghost use Rattle.cip_rational.specs.Numeral as text;
 ghost use Rattle.cip_text.specs.NumberFaults.{faulty};
@@ -58,22 +57,7 @@ fn signed(negative: bool, size: u128) -> i128
     }
 }
 
-/// A fraction in lowest terms.
-fn reduced(negative: bool, size: u128, below: u128) -> Frac
-    requires small_size { size ≤ largest }
-    requires positive { 0 < below }
-    requires small_below { below ≤ largest }
-    ensures { result ≡ ratio (text.signed negative size) below }
-{
-    let over = signed(negative, size);
-    let under = signed(false, below);
-    match Frac::new(over, under) {
-        Ok(value) => value,
-        Err(_) => unreachable!(),
-    }
-}
-
-/// The value of what was read.
+/// The value of what was read, in lowest terms.
 pub(crate) fn value_of(reading: Reading) -> Result<Frac, NumberFault>
     requires { FitsRange reading }
     ensures { MatchResult result (λ value. text.value_of (said reading) ≡ Some value)
@@ -87,7 +71,10 @@ pub(crate) fn value_of(reading: Reading) -> Result<Frac, NumberFault>
             negative,
             size,
             below,
-        } => Ok(reduced(negative, size, below)),
+        } => match Frac::new(signed(negative, size), signed(false, below)) {
+            Ok(value) => Ok(value),
+            Err(_) => unreachable!(),
+        },
     }
 }
 

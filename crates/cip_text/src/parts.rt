@@ -4,13 +4,6 @@ ghost use Rattle.std.specs.Char.{is_ascii_digit};
 ghost use Rattle.std.specs.List.{list_all, list_any, before_first, after_first, position_or_len};
 ghost use Rattle.cip_rational.specs.Numeral as text;
 
-/// `+` or `-`.
-fn is_sign(byte: u8) -> bool
-    ensures { result ≡ text.is_sign byte }
-{
-    byte == b'+' || byte == b'-'
-}
-
 /// `e` or `E`.
 fn is_exponent_mark(byte: u8) -> bool
     ensures { result ≡ text.is_exponent_mark byte }
@@ -33,7 +26,7 @@ pub(crate) fn without_sign(bytes: &[u8]) -> &[u8]
     ensures { result.now ≡ text.without_sign bytes.now }
 {
     match bytes {
-        [first, rest @ ..] if is_sign(*first) => rest,
+        [first, rest @ ..] if *first == b'+' || *first == b'-' => rest,
         _ => bytes,
     }
 }

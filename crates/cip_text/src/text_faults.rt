@@ -1,7 +1,7 @@
 //! The first fault of a text, as it is told, and why a reader gives nothing.
-ghost use Rattle.std.specs.Prelude.{◌≡◌, ◌<◌, ◌≤◌, ℕ, Some, true};
+ghost use Rattle.std.specs.Prelude.{◌≡◌, ◌<◌, ◌≤◌, ℕ, true};
 ghost use Rattle.cip_text.specs.PieceFaults.{has_kind_to};
-ghost use Rattle.cip_text.specs.TextFaults.{by_number, IsSaid};
+ghost use Rattle.cip_text.specs.TextFaults.{IsSaid};
 
 use crate::faults::KnownFault;
 use std::alloc::AllocError;
@@ -69,19 +69,6 @@ impl<K> From<TextFault<K>> for ReadFault<K> {
     }
 }
 
-impl<K: FaultKind> TextFault<K> {
-    /// The fault of a text as one of its format.
-    fn of(known: KnownFault) -> TextFault<K>
-        requires { has_kind_to K.most (Some known) ≡ true }
-        ensures { by_number K.number_of result ≡ known }
-    {
-        TextFault {
-            kind: K::of(known.kind),
-            line: known.line,
-        }
-    }
-}
-
 /// What is told of a fault that is known, or of none: an `Err` comes exactly where there is one.
 pub fn told<K: FaultKind>(known: Option<KnownFault>) -> Result<(), TextFault<K>>
     requires { has_kind_to K.most known ≡ true }
@@ -89,6 +76,9 @@ pub fn told<K: FaultKind>(known: Option<KnownFault>) -> Result<(), TextFault<K>>
 {
     match known {
         None => Ok(()),
-        Some(fault) => Err(TextFault::of(fault)),
+        Some(fault) => Err(TextFault {
+            kind: K::of(fault.kind),
+            line: fault.line,
+        }),
     }
 }

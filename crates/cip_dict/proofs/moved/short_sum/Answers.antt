@@ -1,16 +1,15 @@
 use Rattle.std.proofs.lemmas.Grind.{common_steps}
-use Rattle.std.proofs.Common.{◌<◌, ◌^◌, ◌∙◌, ap, arith}
+use Rattle.std.proofs.Common.{◌≡◌, ◌<◌, ◌^◌, ◌∙◌, pos, to_z, of_z, ap₂, arith}
+use Rattle.std.specs.Int.{w64, w128}
+use Rattle.cip_frac.specs.FractionFault.{quotient_of}
+use Rattle.cip_dict.proofs.WholeParts.{quotient_ratio}
 use Rattle.std.proofs.lemmas.Int.{ints}
-use Rattle.cip_rational.specs.Rational.{ratio}
 use Rattle.cip_rational.specs.Range.{magnitude}
 use Rattle.cip_dict.proofs.Added.{short_added, common_some, read_word}
 use Rattle.cip_dict.proofs.moved.short_sum.Goals as goal
 
-pub quotient-requires : goal.quotient-requires
-quotient-requires c = common_some c.args.value c.args.t c.args.below c.terms_of_sum-over.result.1 c.requires (rw (c.in-Some.ensures.1, c.in-Some-short_terms.ensures.1) at c.terms_of_sum-over.ensures.under)
-
-pub returns-in-Some-quotient : goal.returns-in-Some-quotient
-returns-in-Some-quotient c =
+pub returns-in-Ok : goal.returns-in-Ok
+returns-in-Ok c =
     let hn : magnitude c.args.n < 2 ^ 20 = omega (arith, ints, c.unsigned_abs.ensures.value, c.if-unsigned_abs-ge-SHORT.false) in
     let hb : c.args.below < 2 ^ 20 = omega (arith, c.if-below-ge-SHORT.false) in
     let a : magnitude c.in-Some.a < 2 ^ 20 = rw c.in-Some.ensures.0 c.in-Some.ensures.2.top in
@@ -18,10 +17,12 @@ returns-in-Some-quotient c =
     let own = read_word c.in-Some.a (omega (arith, a)) in
     let factor = read_word c.in-Some-short_terms.c (omega (arith, f)) in
     let n = read_word c.args.n (omega (arith, hn)) in
-    let total = read_word c.terms_of_sum-over.result.0 (omega (arith, c.terms_of_sum-over.ensures.short)) in
+    let some = common_some c.args.value c.args.t c.args.below c.terms_of_sum-over.result.1 c.requires (rw (c.in-Some.ensures.1, c.in-Some-short_terms.ensures.1) at c.terms_of_sum-over.ensures.under) in
+    let long : to_z w128 (of_z w128 (to_z w64 (of_z w64 c.terms_of_sum-over.result.0))) ≡ c.terms_of_sum-over.result.0 = omega (arith, ints, c.terms_of_sum-over.ensures.short) in
+    let whole : to_z w128 c.terms_of_sum-over.result.1 ≡ pos c.terms_of_sum-over.result.1 = omega (arith, ints) in
     let over = rw (own, n, factor, c.in-Some.ensures.0, c.in-Some.ensures.1, c.in-Some-short_terms.ensures.0, c.in-Some-short_terms.ensures.1) at c.terms_of_sum-over.ensures.over in
     let under = rw (c.in-Some.ensures.1, c.in-Some-short_terms.ensures.1) at c.terms_of_sum-over.ensures.under in
-    short_added c.args.value c.args.t c.args.n c.args.below c.in-Some-quotient.sum c.terms_of_sum-over.result.0 c.terms_of_sum-over.result.1 c.requires hn hb c.in-Some.ensures.2 c.in-Some-short_terms.ensures.2 over under (c.in-Some-quotient.ensures ∙ ap (λ z. ratio z c.terms_of_sum-over.result.1) total)
+    short_added c.args.value c.args.t c.args.n c.args.below c.in-Ok.sum c.terms_of_sum-over.result.0 c.terms_of_sum-over.result.1 c.requires hn hb c.in-Some.ensures.2 c.in-Some-short_terms.ensures.2 over under (c.in-Ok.ensures.1 ∙ ap₂ quotient_of long whole ∙ quotient_ratio c.terms_of_sum-over.result.0 c.terms_of_sum-over.result.1 some)
 
 pub terms_of_sum-over-requires-clause-entry : goal.terms_of_sum-over-requires-clause-entry
 terms_of_sum-over-requires-clause-entry c = omega arith

@@ -1,8 +1,9 @@
-use Rattle.std.proofs.Common.{◌≡◌, ◌<◌, ◌-◌, ◌^◌, ◌*◌, pos, ◌+ℤ◌, to_z, ap₂, refl, arith}
+use Rattle.std.proofs.Common.{◌≡◌, ◌<◌, ◌-◌, ◌^◌, ◌*◌, pos, ◌+ℤ◌, ◌*ℤ◌, to_z, of_z, ap₂, refl, arith}
 use Rattle.std.specs.Int.{w64}
 use Rattle.std.proofs.lemmas.Nat.{mul-le}
 use Rattle.std.proofs.lemmas.Int.{ints, fits_signed_from_abs}
-use Rattle.cip_dict.proofs.Added.{read_word}
+use Rattle.cip_rational.specs.Range.{magnitude}
+use Rattle.cip_dict.proofs.Added.{read_word, short_size}
 use Rattle.cip_dict.proofs.moved.terms_of_sum.Goals as goal
 
 pub overflow_cast-under : goal.overflow_cast-under
@@ -20,17 +21,15 @@ long_product-first-requires-clause-first c =
 pub long_product-first-requires-clause-second : goal.long_product-first-requires-clause-second
 long_product-first-requires-clause-second c = rw (read_word c.args.a (omega (arith, c.requires.own))) c.requires.own
 
-pub short_product-requires-clause-first : goal.short_product-requires-clause-first
-short_product-requires-clause-first c = rw (read_word c.args.n (omega (arith, c.requires.entry))) c.requires.entry
-
-pub short_product-requires-clause-second : goal.short_product-requires-clause-second
-short_product-requires-clause-second c = rw (read_word c.args.c (omega (arith, c.requires.factor))) c.requires.factor
-
 pub overflow_cast-b : goal.overflow_cast-b
 overflow_cast-b c = omega (arith, ints, c.requires.own_below)
 
 pub long_product-second-requires-clause-first : goal.long_product-second-requires-clause-first
-long_product-second-requires-clause-first c = rw (read_word c.short_product.result (omega (arith, c.short_product.ensures.short))) c.short_product.ensures.short
+long_product-second-requires-clause-first c =
+    let n = read_word c.args.n (omega (arith, c.requires.entry)) in
+    let f = read_word c.args.c (omega (arith, c.requires.factor)) in
+    let product : magnitude (to_z w64 (of_z w64 c.args.n) *ℤ to_z w64 (of_z w64 c.args.c)) < 2 ^ 40 = rw (n, f) (short_size c.args.n c.args.c c.requires.entry c.requires.factor) in
+    rw (read_word (to_z w64 (of_z w64 c.args.n) *ℤ to_z w64 (of_z w64 c.args.c)) (omega (arith, product))) product
 
 pub long_product-second-requires-clause-second : goal.long_product-second-requires-clause-second
 long_product-second-requires-clause-second c = omega (arith, ints, c.requires.own_below)
@@ -56,10 +55,10 @@ returns-clause-over c =
     let own = read_word c.args.a (omega (arith, c.requires.own)) in
     let n = read_word c.args.n (omega (arith, c.requires.entry)) in
     let f = read_word c.args.c (omega (arith, c.requires.factor)) in
-    let s = read_word c.short_product.result (omega (arith, c.short_product.ensures.short)) in
+    let product : magnitude (to_z w64 (of_z w64 c.args.n) *ℤ to_z w64 (of_z w64 c.args.c)) < 2 ^ 40 = rw (n, f) (short_size c.args.n c.args.c c.requires.entry c.requires.factor) in
+    let s = read_word (to_z w64 (of_z w64 c.args.n) *ℤ to_z w64 (of_z w64 c.args.c)) (omega (arith, product)) in
     let first = rw (under, own) at c.long_product-first.ensures.value in
-    let third = rw (n, f) at c.short_product.ensures.value in
-    let second = rw (s, under_b, third) at c.long_product-second.ensures.value in
+    let second = rw (s, under_b, n, f) at c.long_product-second.ensures.value in
     rw (a, b, r) (ap₂ (λ x y. x +ℤ y) first second)
 
 pub returns-clause-short : goal.returns-clause-short
@@ -81,3 +80,10 @@ overflow_mul-result c =
     let short : c.args.below * c.args.d < 2 ^ 40 = omega (arith, l) in
     let m = mul-le c.args.b (c.args.below * c.args.d) (2 ^ 20 - 1) (2 ^ 40 - 1) (omega (arith, c.requires.own_below)) (omega (arith, short)) in
     omega (arith, m)
+
+pub overflow_mul-n : goal.overflow_mul-n
+overflow_mul-n c =
+    let n = read_word c.args.n (omega (arith, c.requires.entry)) in
+    let f = read_word c.args.c (omega (arith, c.requires.factor)) in
+    let product : magnitude (to_z w64 (of_z w64 c.args.n) *ℤ to_z w64 (of_z w64 c.args.c)) < 2 ^ 40 = rw (n, f) (short_size c.args.n c.args.c c.requires.entry c.requires.factor) in
+    fits_signed_from_abs w64 (to_z w64 (of_z w64 c.args.n) *ℤ to_z w64 (of_z w64 c.args.c)) (omega (arith, product))

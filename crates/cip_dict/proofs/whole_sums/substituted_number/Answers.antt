@@ -1,5 +1,7 @@
-use Rattle.std.proofs.Common.{◌*ℤ◌, pos, refl, arith, lit<}
-use Rattle.std.proofs.lemmas.Int.{ints}
+use Rattle.std.proofs.Common.{◌<◌, ◌^◌, ◌+ℤ◌, ◌*ℤ◌, pos, to_z, of_z, refl, arith, lit<}
+use Rattle.std.specs.Int.{w128}
+use Rattle.std.proofs.lemmas.Int.{ints, fits_signed_from_abs}
+use Rattle.cip_rational.specs.Range.{magnitude}
 use Rattle.cip_dict.specs.Pivots.{absent_by}
 use Rattle.cip_dict.proofs.ReadNumbers.{natural_below, word_below, product_below, product_small, sum_small, product_read, multiple_read, sum_read, chosen_first, chosen_second, chosen_third}
 use Rattle.cip_dict.proofs.whole_sums.substituted_number.Goals as goal
@@ -25,12 +27,6 @@ product_of-requires-else-is_absent_on-2-clause-first c = word_below c.args.facto
 pub product_of-requires-else-is_absent_on-2-clause-second : goal.product_of-requires-else-is_absent_on-2-clause-second
 product_of-requires-else-is_absent_on-2-clause-second c = word_below c.args.y c.requires.new_small
 
-pub sum_of-requires-clause-first : goal.sum_of-requires-clause-first
-sum_of-requires-clause-first c = product_below c.product_of-else-is_absent_on.result c.product_of-else-is_absent_on.ensures.small
-
-pub sum_of-requires-clause-second : goal.sum_of-requires-clause-second
-sum_of-requires-clause-second c = product_below c.product_of-else-is_absent_on-2.result c.product_of-else-is_absent_on-2.ensures.small
-
 pub returns-then-k-pivot-clause-value : goal.returns-then-k-pivot-clause-value
 returns-then-k-pivot-clause-value c =
     chosen_first c.args.k c.args.pivot.now.leaving (absent_by c.args.pivot.now c.args.k) _ _ _ _ c.if-k-pivot.true
@@ -48,10 +44,24 @@ returns-then-is_absent_on-clause-small c = lit< tt
 
 pub returns-else-is_absent_on-clause-value : goal.returns-else-is_absent_on-clause-value
 returns-else-is_absent_on-clause-value c =
+    let first = product_below c.product_of-else-is_absent_on.result c.product_of-else-is_absent_on.ensures.small in
+    let second = product_below c.product_of-else-is_absent_on-2.result c.product_of-else-is_absent_on-2.ensures.small in
+    let small : magnitude (to_z w128 (of_z w128 c.product_of-else-is_absent_on.result) +ℤ to_z w128 (of_z w128 c.product_of-else-is_absent_on-2.result)) < 2 ^ 86 = omega (arith, ints, first, second) in
     chosen_third c.args.k c.args.pivot.now.leaving (absent_by c.args.pivot.now c.args.k) _ _ _ _ c.is_absent_on.result c.if-k-pivot.false c.is_absent_on.ensures c.if-is_absent_on.false
-    (sum_read c.product_of-else-is_absent_on.result c.product_of-else-is_absent_on-2.result (c.args.n *ℤ pos c.args.factors.own) (c.args.factors.new *ℤ c.args.y) c.sum_of.result c.sum_of.ensures.value c.sum_of.ensures.small
+    (sum_read c.product_of-else-is_absent_on.result c.product_of-else-is_absent_on-2.result (c.args.n *ℤ pos c.args.factors.own) (c.args.factors.new *ℤ c.args.y) (to_z w128 (of_z w128 c.product_of-else-is_absent_on.result) +ℤ to_z w128 (of_z w128 c.product_of-else-is_absent_on-2.result)) refl small
     (multiple_read c.args.n c.args.factors.own c.product_of-else-is_absent_on.result c.requires.row_small c.requires.factor_small c.product_of-else-is_absent_on.ensures.value c.product_of-else-is_absent_on.ensures.small)
     (product_read c.args.factors.new c.args.y c.product_of-else-is_absent_on-2.result c.requires.own_small c.requires.new_small c.product_of-else-is_absent_on-2.ensures.value c.product_of-else-is_absent_on-2.ensures.small))
 
 pub returns-else-is_absent_on-clause-small : goal.returns-else-is_absent_on-clause-small
-returns-else-is_absent_on-clause-small c = sum_small c.sum_of.result c.sum_of.ensures.small
+returns-else-is_absent_on-clause-small c =
+    let first = product_below c.product_of-else-is_absent_on.result c.product_of-else-is_absent_on.ensures.small in
+    let second = product_below c.product_of-else-is_absent_on-2.result c.product_of-else-is_absent_on-2.ensures.small in
+    let small : magnitude (to_z w128 (of_z w128 c.product_of-else-is_absent_on.result) +ℤ to_z w128 (of_z w128 c.product_of-else-is_absent_on-2.result)) < 2 ^ 86 = omega (arith, ints, first, second) in
+    sum_small (to_z w128 (of_z w128 c.product_of-else-is_absent_on.result) +ℤ to_z w128 (of_z w128 c.product_of-else-is_absent_on-2.result)) small
+
+pub overflow_add-result : goal.overflow_add-result
+overflow_add-result c =
+    let first = product_below c.product_of-else-is_absent_on.result c.product_of-else-is_absent_on.ensures.small in
+    let second = product_below c.product_of-else-is_absent_on-2.result c.product_of-else-is_absent_on-2.ensures.small in
+    let small : magnitude (to_z w128 (of_z w128 c.product_of-else-is_absent_on.result) +ℤ to_z w128 (of_z w128 c.product_of-else-is_absent_on-2.result)) < 2 ^ 86 = omega (arith, ints, first, second) in
+    fits_signed_from_abs w128 (to_z w128 (of_z w128 c.product_of-else-is_absent_on.result) +ℤ to_z w128 (of_z w128 c.product_of-else-is_absent_on-2.result)) (omega (arith, small))

@@ -8,8 +8,8 @@ returns-in-On c = grind (arith, common_steps)
 pub returns-in-OwnHigh : goal.returns-in-OwnHigh
 returns-in-OwnHigh c = grind (arith, common_steps)
 
-pub returns-in-OwnLow : goal.returns-in-OwnLow
-returns-in-OwnLow c = grind (arith, common_steps)
+pub returns-after-own : goal.returns-after-own
+returns-after-own c = grind (arith, common_steps)
 
 pub returns-in_default : goal.returns-in_default
 returns-in_default c = grind (arith, common_steps)

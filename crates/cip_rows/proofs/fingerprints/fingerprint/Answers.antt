@@ -10,3 +10,6 @@ mix_number-requires c = grind (arith, common_steps)
 
 pub returns-in-None : goal.returns-in-None
 returns-in-None c = grind (arith, common_steps)
+
+pub loop-term-preserved : goal.loop-term-preserved
+loop-term-preserved c = grind (arith, common_steps)

@@ -11,11 +11,11 @@ bounds-line-0 c = grind (arith, common_steps)
 pub returns-in_default-clause-says : goal.returns-in_default-clause-says
 returns-in_default-clause-says c = grind (arith, common_steps)
 
-pub returns-in-len1-up-2-clause-says : goal.returns-in-len1-up-2-clause-says
-returns-in-len1-up-2-clause-says c = grind (arith, common_steps)
+pub returns-then-is_empty-clause-says : goal.returns-then-is_empty-clause-says
+returns-then-is_empty-clause-says c = grind (arith, common_steps)
 
 pub returns-in-len1-up-clause-says : goal.returns-in-len1-up-clause-says
 returns-in-len1-up-clause-says c = grind (arith, common_steps)
 
-pub returns-in-len1-up-2-clause-is_number : goal.returns-in-len1-up-2-clause-is_number
-returns-in-len1-up-2-clause-is_number c = grind (arith, common_steps)
+pub returns-else-is_empty-clause-says : goal.returns-else-is_empty-clause-says
+returns-else-is_empty-clause-says c = grind (arith, common_steps)

@@ -1,9 +1,21 @@
 use Rattle.std.proofs.lemmas.Grind.{common_steps}
-use Rattle.std.proofs.Common.{arith}
+use Rattle.std.proofs.Common.{◌≡◌, ◌∙◌, subst, arith}
+use Rattle.cip_rational.specs.Rational.{ratio}
+use Rattle.cip_rational.specs.Numeral as text
+use Rattle.cip_text.specs.Readings.{FitsRange}
+use Rattle.cip_text.specs.declared.reading.Reading.TheVariants.{Fits}
+use Rattle.cip_text.proofs.Reduced.{no_fault, quotient_read}
 use Rattle.cip_text.proofs.number_text.value_of.Goals as goal
 
-pub returns-in-Fits : goal.returns-in-Fits
-returns-in-Fits c = grind (arith, common_steps)
+pub unreachable-requires : goal.unreachable-requires
+unreachable-requires c =
+    let fits : FitsRange (Fits c.in-Fits.negative c.in-Fits.size c.in-Fits.below) = subst FitsRange c.in-Fits.is c.requires in
+    no_fault c.in-Fits.negative c.in-Fits.size c.in-Fits.below c.signed.result c.signed-in-Fits.result c.signed.ensures c.signed-in-Fits.ensures fits.0 fits.1 fits.2 c.in-Err.field-0 c.in-Err.ensures
 
-pub reduced-requires-clause-positive : goal.reduced-requires-clause-positive
-reduced-requires-clause-positive c = grind (arith, common_steps)
+pub returns-in-Ok : goal.returns-in-Ok
+returns-in-Ok c =
+    let fits : FitsRange (Fits c.in-Fits.negative c.in-Fits.size c.in-Fits.below) = subst FitsRange c.in-Fits.is c.requires in
+    let value : c.in-Ok.value ≡ ratio (text.signed c.in-Fits.negative c.in-Fits.size) c.in-Fits.below =
+    c.in-Ok.ensures.1
+    ∙ quotient_read c.in-Fits.negative c.in-Fits.size c.in-Fits.below c.signed.result c.signed-in-Fits.result c.signed.ensures c.signed-in-Fits.ensures fits.0 fits.1 fits.2 in
+    grind (arith, common_steps, value)

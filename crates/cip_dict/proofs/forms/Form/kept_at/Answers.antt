@@ -1,7 +1,6 @@
 use Rattle.std.proofs.lemmas.Grind.{common_steps}
 use Rattle.std.proofs.Common.{◌<◌, ◌∙◌, ◌^◌, List, pos, sym, ap, length, get_or, arith}
 use Rattle.std.proofs.lemmas.List.{get_or_default}
-use Rattle.cip_rational.specs.Rational.{ℚ}
 use Rattle.cip_dict.specs.SparseLines.{Kept}
 use Rattle.cip_dict.proofs.FormParts.{whole_all, parted_all}
 use Rattle.cip_dict.proofs.WholeParts.{length_over, at_over, read_small, item_below}
@@ -24,9 +23,7 @@ returns-then-self c =
     let there : c.args.at < length c.self.inside.wholes.items = omega (arith, l, length_over c.self.inside.below c.self.inside.wholes.items, c.requires) in
     let number = read_small (get_or c.self.inside.wholes.items c.args.at (0, pos 0)).1 (item_below (2 ^ 42) c.self.inside.wholes.items c.args.at (0, pos 0) (c.self.invariant.whole c.if-self.true).numbers there) in
     let made = rw (c.as_slice-wholes.ensures.value, number) at c.fraction.ensures in
-    λ d. rw c.as_slice-wholes.ensures.value (ap (λ (q : ℚ). ((get_or c.self.inside.wholes.items c.args.at (0, pos 0)).0, q)) made
-    ∙ sym (at_over c.self.inside.below c.self.inside.wholes.items c.args.at d (0, pos 0) there)
-    ∙ ap (λ (xs : List Kept). get_or xs c.args.at d) all)
+    λ d. rw (c.as_slice-wholes.ensures.value, made, ← all) (sym (at_over c.self.inside.below c.self.inside.wholes.items c.args.at d (0, pos 0) there))
 
 pub returns-else-self : goal.returns-else-self
 returns-else-self c =

@@ -30,19 +30,18 @@ returns-then-is_strong-clause-outcome c =
 pub returns-then-is_strong-clause-after : goal.returns-then-is_strong-clause-after
 returns-then-is_strong-clause-after c = refl
 
-pub returns-then-crosses-clause-outcome : goal.returns-then-crosses-clause-outcome
-returns-then-crosses-clause-outcome c =
+pub returns-then-not-contains-clause-outcome : goal.returns-then-not-contains-clause-outcome
+returns-then-not-contains-clause-outcome c =
     let at = c.sides-sides.ensures ∙ ap (λ (d : Domain). sides_at d.box c.args.col) c.self.view_is in
     sym (ap₂ (λ t u. (let r : Tightened = if t then Same else (if u then Empty else Yes) in r)) (ap
     (λ s. is_as_strong s c.args.side c.args.value) (sym at) ∙ sym c.is_strong.ensures
-    ∙ c.if-is_strong.false) (ap (λ s. would_cross s c.args.side c.args.value) (sym at) ∙ sym c.crosses.ensures
-    ∙ c.if-crosses.true))
+    ∙ c.if-is_strong.false) (ap (λ s. would_cross s c.args.side c.args.value) (sym at) ∙ (let h : would_cross c.sides-sides.result c.args.side c.args.value ≡ true = grind (arith, common_steps) in h)))
 
-pub returns-then-crosses-clause-after : goal.returns-then-crosses-clause-after
-returns-then-crosses-clause-after c = refl
+pub returns-then-not-contains-clause-after : goal.returns-then-not-contains-clause-after
+returns-then-not-contains-clause-after c = refl
 
-pub returns-then-crosses-clause-narrows : goal.returns-then-crosses-clause-narrows
-returns-then-crosses-clause-narrows c = λ n. absurd (n refl)
+pub returns-then-not-contains-clause-narrows : goal.returns-then-not-contains-clause-narrows
+returns-then-not-contains-clause-narrows c = λ n. absurd (n refl)
 
 pub set_side-requires-clause-column : goal.set_side-requires-clause-column
 set_side-requires-clause-column c = c.requires.column
@@ -55,8 +54,7 @@ returns-clause-outcome c =
     let at = c.sides-sides.ensures ∙ ap (λ (d : Domain). sides_at d.box c.args.col) c.self.view_is in
     sym (ap₂ (λ t u. (let r : Tightened = if t then Same else (if u then Empty else Yes) in r)) (ap
     (λ s. is_as_strong s c.args.side c.args.value) (sym at) ∙ sym c.is_strong.ensures
-    ∙ c.if-is_strong.false) (ap (λ s. would_cross s c.args.side c.args.value) (sym at) ∙ sym c.crosses.ensures
-    ∙ c.if-crosses.false))
+    ∙ c.if-is_strong.false) (ap (λ s. would_cross s c.args.side c.args.value) (sym at) ∙ (let h : would_cross c.sides-sides.result c.args.side c.args.value ≡ false = grind (arith, common_steps) in h)))
 
 pub returns-clause-after : goal.returns-clause-after
 returns-clause-after c = grind (arith, common_steps)

@@ -1,0 +1,14 @@
+use Rattle.std.proofs.lemmas.Grind.{common_steps}
+use Rattle.std.proofs.Common.{◌-◌, arith}
+use Rattle.cip_text.proofs.Decided.{divided_fine, divided_exact}
+use Rattle.cip_text.proofs.decide.short.Goals as goal
+
+pub returns-in-None : goal.returns-in-None
+returns-in-None c =
+    let told = divided_fine c.args.negative c.args.size (c.args.down - c.args.up) c.requires.small c.in-None.ensures in
+    grind (arith, common_steps, told)
+
+pub returns-in-Some : goal.returns-in-Some
+returns-in-Some c =
+    let told = divided_exact c.args.negative c.args.size (c.args.down - c.args.up) c.in-Some.below c.requires.small c.in-Some.ensures in
+    grind (arith, common_steps, told)
