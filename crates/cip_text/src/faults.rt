@@ -1,5 +1,5 @@
 //! The fault of a text that is known before the text ends, and which fault counts.
-ghost use Rattle.std.specs.Prelude.{◌≡◌, ◌<◌};
+ghost use Rattle.std.specs.Prelude.{◌≡◌};
 ghost use Rattle.cip_text.specs.PieceFaults.{first_fault, fault_when_long};
 
 /// A fault of a text: its line, counted from 1, and the number of its kind.

@@ -1,5 +1,5 @@
 //! Texts of fractions.
-ghost use Rattle.std.specs.Prelude.{◌≡◌, MatchResult, Some, true};
+ghost use Rattle.std.specs.Prelude.{◌≡◌, MatchResult, Some};
 ghost use Rattle.cip_rational.specs.Numeral as text;
 ghost use Rattle.cip_rational.specs.FractionText as fraction_text;
 ghost use Rattle.cip_text.specs.NumberFaults.{faulty};
@@ -12,14 +12,15 @@ use crate::parts::{are_digits, cut, is_minus, without_sign};
 use crate::reading::Reading;
 use cip_frac::Frac;
 
-/// The quotient of two numbers that are written out, `Large` where one of them is above 2^127-1; no number is divided
-/// by 0.
-fn written(negative: bool, over: &[u8], under: &[u8]) -> Reading
-    requires over { text.are_digits over.now ≡ true }
-    requires under { text.are_digits under.now ≡ true }
-    ensures { said result ≡ fraction_text.written_quotient negative
-        (text.digits_value over.now) (text.digits_value under.now) }
+/// The number of a text without its sign that has a `/`: the quotient of the two numbers that are written out, `Large`
+/// where one of them is above 2^127-1. No number is divided by 0.
+fn slashed(negative: bool, body: &[u8]) -> Reading
+    ensures { said result ≡ fraction_text.slashed negative body.now }
 {
+    let (over, under, _) = cut(body, b'/');
+    if !are_digits(over) || !are_digits(under) {
+        return Reading::NoNumber;
+    }
     let Some(size) = grow(0, over) else {
         return Reading::Large { negative };
     };
@@ -36,18 +37,6 @@ fn written(negative: bool, over: &[u8], under: &[u8]) -> Reading
             size,
             below,
         }
-    }
-}
-
-/// The number of a text without its sign that has a `/`.
-fn slashed(negative: bool, body: &[u8]) -> Reading
-    ensures { said result ≡ fraction_text.slashed negative body.now }
-{
-    let (over, under, _) = cut(body, b'/');
-    if are_digits(over) && are_digits(under) {
-        written(negative, over, under)
-    } else {
-        Reading::NoNumber
     }
 }
 

@@ -9,7 +9,7 @@ use cip_domain::{Change, Choice, Choices, Sides, choice_change, high_change, low
 use std::marker::Model;
 
 /// Which half of a column.
-#[derive(Clone, Copy, PartialEq, Eq)]
+#[derive(Clone, Copy)]
 pub(crate) enum Half {
     /// Values up to a whole number.
     AtMost,
