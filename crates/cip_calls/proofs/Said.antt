@@ -1,5 +1,5 @@
 -- What a handler's answer leaves.
-use Rattle.std.proofs.Common.{◌≡◌, ℕ, Bool, true, not, true≢false, List, length, Option, None, Some, MatchOption, cond, Result, Ok, Err, refl, sym, ap, ◌∙◌, subst}
+use Rattle.std.proofs.Common.{◌≡◌, ℕ, List, length, Option, None, Some, cond, Result, Ok, Err, refl, sym, ap, ◌∙◌, subst}
 use Rattle.std.specs.Prelude.{is_some, OnOk}
 use Rattle.cip_calls.specs.declared.judged.Judged.{Judged}
 use Rattle.cip_calls.specs.KeptRankings.{Room}
@@ -42,11 +42,6 @@ alone_further old mid new had node has first second = record {
   same = node_further old mid new had node has first.same second.same;
   pool = second.pool ∙ first.pool;
 }
-
--- a split that isn't refused is one at a place
-pub place_there : {F : Type 0} (refusal : Option F) (none : Bool) (P : Type 0) (Q : F → Type 0) → is_some refusal ≡ not none → MatchOption refusal P Q → none ≡ true → P
-place_there None none P Q e m t = m
-place_there (Some fault) none P Q e m t = absurd (true≢false (e ∙ ap not t))
 
 -- calls alone
 pub come_more : (old mid : CoreState) (had node : TakenNode) (a b c : State) (some room : Room) (scratches : Scratches) → HasCome old had a mid node scratches b some

@@ -53,14 +53,6 @@ impl<'p> Last<'p> {
     }
 }
 
-/// A guess that was accepted, if there is one.
-fn point_in(guess: &Option<Vec<Frac>>) -> Option<&[Frac]> {
-    match guess {
-        None => None,
-        Some(values) => Some(values.as_slice()),
-    }
-}
-
 /// What plugins see of a core while the node of this number is in work, or after it was, with what its last linear
 /// program came to and the last guess that was accepted: all is of the reduced program, and no more of the program as
 /// read than the cost held.
@@ -94,7 +86,10 @@ pub fn view_of<'v>(
         point: last.point,
         combo: last.combo,
         held: core.held_cost(),
-        guess: point_in(guess),
+        guess: match guess {
+            None => None,
+            Some(values) => Some(values.as_slice()),
+        },
         blocks: None,
     }
 }

@@ -30,23 +30,13 @@ pub enum Ruled {
     Halves(u64, u64),
 }
 
-/// The split that a handler asks for, if it does.
-fn split_said(said: &Enforced) -> Option<Split>
-    ensures { result ≡ said_split said.now }
-{
-    match said {
-        Enforced::Branched(split) => Some(*split),
-        _ => None,
-    }
-}
-
 /// The split that is proposed, if it is one.
 fn split_proposed(proposal: &Proposal) -> Option<Split>
     ensures { result ≡ split_in proposal.now }
 {
     match proposal {
         Proposal::Split(split) => Some(*split),
-        Proposal::Enforcement(said) => split_said(said),
+        Proposal::Enforcement(Enforced::Branched(split)) => Some(*split),
         _ => None,
     }
 }

@@ -7,7 +7,7 @@ ghost use Rattle.cip_tree.specs.Nodes.{box_of};
 ghost use Rattle.cip_core.specs.CoreStates.{reduced_of, held_of, IsAtWork};
 ghost use Rattle.cip_core.specs.Later.{IsLaterAt};
 ghost use Rattle.cip_domain.specs.declared.stores.Tightened.{Tightened};
-ghost use Rattle.cip_calls.specs.ReductionsJudged.{is_far as is_far_away, side_fault as fault_of_side, side_checked, reduction_answer, IsAfterReduction};
+ghost use Rattle.cip_calls.specs.ReductionsJudged.{side_fault as fault_of_side, side_checked, reduction_answer, IsAfterReduction};
 ghost use Rattle.cip_calls.specs.ReductionsJudged.{unless_faulty, by_check, judged_by, IsSideShown};
 ghost use Rattle.cip_calls.specs.declared.judged.Judged.TheVariants.{Emptied};
 
@@ -20,13 +20,6 @@ use cip_plugin::Reduction;
 use cip_tree::Node;
 use std::alloc::AllocError;
 
-/// Whether a value has a size above 2^100.
-fn is_far(value: Frac) -> bool
-    ensures { result ≡ is_far_away value }
-{
-    1 << 100 < value.ceil().unsigned_abs() || 1 << 100 < value.floor().unsigned_abs()
-}
-
 /// What a value for a side names that isn't there, or is too far away.
 fn side_fault(program: &Program, col: u32, value: Frac) -> Option<NodeFault>
     ensures { result ≡ fault_of_side program.now col value }
@@ -34,7 +27,9 @@ fn side_fault(program: &Program, col: u32, value: Frac) -> Option<NodeFault>
     if col as usize >= program.columns() {
         return Some(NodeFault::NoSuchColumn);
     }
-    if program.whole()[col as usize] && is_far(value) {
+    if program.whole()[col as usize]
+        && (1 << 100 < value.ceil().unsigned_abs() || 1 << 100 < value.floor().unsigned_abs())
+    {
         return Some(NodeFault::TooFar);
     }
     None
@@ -68,17 +63,6 @@ fn refusal(core: &Core<'_>, told: &Reduction, scratch: &mut Scratch) -> Option<J
     }
 }
 
-/// What a side that isn't refused comes to, by what tightening it came to.
-fn judged_side(outcome: Tightened) -> Judged
-    ensures { result ≡ judged_by None outcome }
-{
-    match outcome {
-        Tightened::Yes => Judged::Accepted,
-        Tightened::Same => Judged::Accepted,
-        Tightened::Empty => Judged::Emptied,
-    }
-}
-
 /// Judges a side that is proposed while a node is in work. `Accepted` comes exactly where the column is one of the
 /// reduced program's, its value isn't too far away where that is whole, the check of its combination accepts it in the
 /// node's box, and it leaves the column a value: then the side of the node's box is at least as strong. `Emptied`
@@ -107,5 +91,10 @@ pub fn judge_reduction(
         return Ok(Judged::Refused(fault));
     }
     let outcome = core.tighten(node, told.col, told.side, told.value)?;
-    Ok(judged_side(outcome))
+    let came = match outcome {
+        Tightened::Yes => Judged::Accepted,
+        Tightened::Same => Judged::Accepted,
+        Tightened::Empty => Judged::Emptied,
+    };
+    Ok(came)
 }

@@ -1,55 +1,18 @@
 //! Branching rules are asked where a node is split.
 ghost use Rattle.std.specs.Prelude.{◌≡◌, IfOk, IfSome, OnOk, IsSome, is_some, slice_get, if◌then◌else◌};
-ghost use Rattle.cip_plugin.specs.Asking.{answer_of};
 ghost use Rattle.cip_plugin.specs.Calls.{Branch};
 ghost use Rattle.cip_calls.specs.Turns.{IsSound};
 ghost use Rattle.cip_calls.specs.Wished.{Ran};
 ghost use Rattle.cip_calls.specs.CoreStates.{IsAtWork};
 ghost use Rattle.cip_calls.specs.SplitsJudged.{IsPlace};
 ghost use Rattle.cip_calls.specs.Noted.{HasNoted, HasJudged};
-ghost use Rattle.cip_calls.specs.Served.{count_for, Used};
+ghost use Rattle.cip_calls.specs.Served.{Used};
 ghost use Rattle.cip_calls.specs.Enforcing.{made, asked_of_rules};
 
-use crate::{Asks, Core, JudgeFault, Judged, Last, Plugins, Turn, split_refusal, view_of};
+use crate::{Asks, Core, Judged, Last, Plugins, Turn, split_refusal, view_of};
 use cip_plugin::{Given, Split};
 use cip_tree::Node;
 use std::alloc::{AllocError, Global};
-
-/// The split that was given, if it is one.
-fn split_in(given: Given) -> Option<Split>
-    ensures { count_for Branch (answer_of given) ≡ if is_some result then 1 else 0 }
-{
-    match given {
-        Given::Split(split) => match split {
-            None => None,
-            Some(split) => Some(split),
-        },
-        Given::Cuts(cuts) => {
-            drop(cuts);
-            None
-        }
-        Given::Reductions(sides) => {
-            drop(sides);
-            None
-        }
-        Given::Priced(priced) => {
-            drop(priced);
-            None
-        }
-        Given::Guesses(points) => {
-            drop(points);
-            None
-        }
-        Given::Enforced(said) => {
-            drop(said);
-            None
-        }
-        Given::Wishes(wishes) => {
-            drop(wishes);
-            None
-        }
-    }
-}
 
 /// The split that a rule gave, if it gave one.
 fn split_of(given: Option<Given>) -> Option<Split>
@@ -57,15 +20,31 @@ fn split_of(given: Option<Given>) -> Option<Split>
 {
     match given {
         None => None,
-        Some(given) => split_in(given),
-    }
-}
-
-/// What a split comes to that is refused for a fault, or accepted where there is none.
-fn came_of_split(refusal: Option<JudgeFault>) -> Judged {
-    match refusal {
-        None => Judged::Accepted,
-        Some(fault) => Judged::Refused(fault),
+        Some(Given::Split(split)) => split,
+        Some(Given::Cuts(cuts)) => {
+            drop(cuts);
+            None
+        }
+        Some(Given::Reductions(sides)) => {
+            drop(sides);
+            None
+        }
+        Some(Given::Priced(priced)) => {
+            drop(priced);
+            None
+        }
+        Some(Given::Guesses(points)) => {
+            drop(points);
+            None
+        }
+        Some(Given::Enforced(said)) => {
+            drop(said);
+            None
+        }
+        Some(Given::Wishes(wishes)) => {
+            drop(wishes);
+            None
+        }
     }
 }
 
@@ -92,12 +71,12 @@ fn take_rule<R: Asks>(
         return Ok(None);
     };
     plugins.judged.reserve(1)?;
-    let refusal = split_refusal(core, node, split);
-    plugins.finish(id, &came_of_split(refusal), None)?;
-    if refusal.is_none() {
-        return Ok(Some(split));
-    }
-    Ok(None)
+    let (came, found) = match split_refusal(core, node, split) {
+        None => (Judged::Accepted, Some(split)),
+        Some(fault) => (Judged::Refused(fault), None),
+    };
+    plugins.finish(id, &came, None)?;
+    Ok(found)
 }
 
 /// Asks branching rules where a node in work is split, by falling priority and rising number, until one gives a split

@@ -1,11 +1,10 @@
 //! Splits that are proposed.
-ghost use Rattle.std.specs.Prelude.{◌≡◌, ◌<◌, ◌^◌, length, MatchOption, MatchResult};
-ghost use Rattle.cip_problem.specs.WellFormed.{columns};
+ghost use Rattle.std.specs.Prelude.{◌≡◌, ◌<◌, ◌^◌, MatchOption, MatchResult};
 ghost use Rattle.cip_problem.specs.Wholes.{AllHaveWholes};
 ghost use Rattle.cip_tree.specs.Nodes.{box_of};
 ghost use Rattle.cip_core.specs.CoreStates.{reduced_of, IsAtWork, IsGivenBound};
 ghost use Rattle.cip_core.specs.Steps.{IsBack};
-ghost use Rattle.cip_calls.specs.SplitsJudged.{IsNamed, IsNoPlace, IsPlace, IsSplitRefused, IsSplitJudged};
+ghost use Rattle.cip_calls.specs.SplitsJudged.{IsPlace, IsSplitRefused, IsSplitJudged};
 
 use crate::judged::{JudgeFault, NodeFault};
 use cip_core::Core;
@@ -24,31 +23,6 @@ pub enum Parted {
     Whole(Node, JudgeFault),
 }
 
-/// Why the region in work can't be split at a place that is there.
-fn no_place(core: &Core<'_>, split: Split) -> Option<SplitFault>
-    requires named { IsNamed core.now split.col split.at }
-    requires long { length core.now.tree.work.box ≡ columns (reduced_of core.now) }
-    ensures { MatchOption result (IsPlace core.now split.col split.at)
-        (IsNoPlace core.now split.col split.at) }
-{
-    let whole = core.reduced().whole()[split.col as usize];
-    let choice = core.choices().at(split.col);
-    if whole {
-        if !choice.is_plain() {
-            return Some(SplitFault::NotWhole);
-        }
-        if can_halve(core.bounds().sides(split.col), split.at) {
-            return None;
-        }
-        return Some(SplitFault::Outside);
-    }
-    if choice.is_open() {
-        None
-    } else {
-        Some(SplitFault::NotWhole)
-    }
-}
-
 /// Why a node in work can't be split at a place. `None` comes exactly where the column is one of the reduced program's,
 /// the number has a size of at most 2^100, and the column is whole and plain with a whole value on both sides of the
 /// number, or isn't whole and its choice is open; else the first of these that fails. Nothing changes.
@@ -65,9 +39,21 @@ pub fn split_refusal(core: &Core<'_>, node: &Node, split: Split) -> Option<Judge
     if split.at.unsigned_abs() > 1 << 100 {
         return Some(JudgeFault::Node(NodeFault::TooFar));
     }
-    match no_place(core, split) {
-        None => None,
-        Some(fault) => Some(JudgeFault::Split(fault)),
+    let whole = core.reduced().whole()[split.col as usize];
+    let choice = core.choices().at(split.col);
+    if whole {
+        if !choice.is_plain() {
+            return Some(JudgeFault::Split(SplitFault::NotWhole));
+        }
+        if can_halve(core.bounds().sides(split.col), split.at) {
+            return None;
+        }
+        return Some(JudgeFault::Split(SplitFault::Outside));
+    }
+    if choice.is_open() {
+        None
+    } else {
+        Some(JudgeFault::Split(SplitFault::NotWhole))
     }
 }
 

@@ -1,12 +1,10 @@
 //! What a handler says of a point is judged.
 ghost use Rattle.std.specs.Prelude.{◌≡◌, length, IfOk, OnOk, IsSome, is_some, slice_get, if◌then◌else◌};
 ghost use Rattle.cip_problem.specs.WellFormed.{columns};
-ghost use Rattle.cip_plugin.specs.Asking.{answer_of};
 ghost use Rattle.cip_plugin.specs.Calls.{Enforce};
 ghost use Rattle.cip_calls.specs.Turns.{IsSound};
 ghost use Rattle.cip_calls.specs.CoreStates.{reduced_of, IsAtWork};
 ghost use Rattle.cip_calls.specs.Noted.{IsReady, HasGone, HasJudged};
-ghost use Rattle.cip_calls.specs.Served.{count_for};
 ghost use Rattle.cip_calls.specs.Enforcing.{made, IsVerdict};
 
 use crate::enforcing::Verdict;
@@ -16,43 +14,34 @@ use cip_plugin::{Cut, Enforced, Given, Reduction};
 use cip_tree::Node;
 use std::alloc::AllocError;
 
-/// What a handler gave, if it is what it says of a point.
-fn said_in(given: Given) -> Option<Enforced>
-    ensures { count_for Enforce (answer_of given) ≡ if is_some result then 1 else 0 }
-{
-    match given {
-        Given::Enforced(said) => Some(said),
-        Given::Cuts(cuts) => {
-            drop(cuts);
-            None
-        }
-        Given::Reductions(sides) => {
-            drop(sides);
-            None
-        }
-        Given::Priced(priced) => {
-            drop(priced);
-            None
-        }
-        Given::Guesses(points) => {
-            drop(points);
-            None
-        }
-        Given::Split(_) => None,
-        Given::Wishes(wishes) => {
-            drop(wishes);
-            None
-        }
-    }
-}
-
 /// What a handler says of a point, if it says something.
 pub(crate) fn said_of(given: Option<Given>) -> Option<Enforced>
     ensures { made Enforce given ≡ if is_some result then 1 else 0 }
 {
     match given {
         None => None,
-        Some(given) => said_in(given),
+        Some(Given::Enforced(said)) => Some(said),
+        Some(Given::Cuts(cuts)) => {
+            drop(cuts);
+            None
+        }
+        Some(Given::Reductions(sides)) => {
+            drop(sides);
+            None
+        }
+        Some(Given::Priced(priced)) => {
+            drop(priced);
+            None
+        }
+        Some(Given::Guesses(points)) => {
+            drop(points);
+            None
+        }
+        Some(Given::Split(_)) => None,
+        Some(Given::Wishes(wishes)) => {
+            drop(wishes);
+            None
+        }
     }
 }
 

@@ -12,6 +12,7 @@ use Rattle.cip_core.proofs.Relations.{later_at_itself}
 use Rattle.cip_calls.specs.ReductionsJudged.{judged_by, IsAfterReduction}
 use Rattle.cip_calls.proofs.SidesJudged.{named_inside, named_near, none_left, after_side, emptied_side}
 use Rattle.cip_calls.proofs.reductions.judge_reduction.Goals as goal
+use Rattle.cip_calls.proofs.reductions.judge_reduction.Goals.{in-Yes, in-Same, in-Empty}
 
 pub refusal-requires-clause-long : goal.refusal-requires-clause-long
 refusal-requires-clause-long c = work_long c.args.core.now c.args.node.now c.is_sound.ensures.reduced c.requires.at_work
@@ -50,25 +51,43 @@ returns-in_err-outcome-clause-scratch c = c.refusal.ensures.room
 
 pub returns-clause-answer : goal.returns-clause-answer
 returns-clause-answer c =
+    let here : c.match-outcome.came ≡ judged_by None c.in_ok-outcome.outcome =
+    elim c.match-outcome.branch [
+      | in-Yes w ↦ w.came-is ∙ ap (judged_by None) (sym w.in-Yes.is)
+      | in-Same w ↦ w.came-is ∙ ap (judged_by None) (sym w.in-Same.is)
+      | in-Empty w ↦ w.came-is ∙ ap (judged_by None) (sym w.in-Empty.is)
+    ] in
     let told = c.args.told.now in
     let outcome = tightening (sides_at c.args.core.now.tree.work.box told.col) told.side told.value in
-    c.judged_side.ensures ∙ ap (judged_by None) c.in_ok-outcome.ensures.tightened.outcome ∙ ap (λ r. judged_by r outcome) (sym c.in_default.is) ∙ c.refusal.ensures.answer outcome
+    here ∙ ap (judged_by None) c.in_ok-outcome.ensures.tightened.outcome ∙ ap (λ r. judged_by r outcome) (sym c.in_default.is) ∙ c.refusal.ensures.answer outcome
 
 pub returns-clause-after : goal.returns-clause-after
 returns-clause-after c =
+    let here : c.match-outcome.came ≡ judged_by None c.in_ok-outcome.outcome =
+    elim c.match-outcome.branch [
+      | in-Yes w ↦ w.came-is ∙ ap (judged_by None) (sym w.in-Yes.is)
+      | in-Same w ↦ w.came-is ∙ ap (judged_by None) (sym w.in-Same.is)
+      | in-Empty w ↦ w.came-is ∙ ap (judged_by None) (sym w.in-Empty.is)
+    ] in
     let told = c.args.told.now in
     let old = c.args.core.now in
     let new = c.tighten.new.self in
     let had = c.args.node.now in
     let has = c.tighten.new.node in
-    subst (λ j. IsAfterReduction j old new had has told.col told.side told.value) (sym c.judged_side.ensures) (after_side old new had has told.col told.side told.value c.in_ok-outcome.outcome c.in_ok-outcome.ensures.tightened)
+    subst (λ j. IsAfterReduction j old new had has told.col told.side told.value) (sym here) (after_side old new had has told.col told.side told.value c.in_ok-outcome.outcome c.in_ok-outcome.ensures.tightened)
 
 pub returns-clause-emptied : goal.returns-clause-emptied
 returns-clause-emptied c = λ e.
+    let here : c.match-outcome.came ≡ judged_by None c.in_ok-outcome.outcome =
+    elim c.match-outcome.branch [
+      | in-Yes w ↦ w.came-is ∙ ap (judged_by None) (sym w.in-Yes.is)
+      | in-Same w ↦ w.came-is ∙ ap (judged_by None) (sym w.in-Same.is)
+      | in-Empty w ↦ w.came-is ∙ ap (judged_by None) (sym w.in-Empty.is)
+    ] in
     let core = c.args.core.now in
     let told = c.args.told.now in
     let shown = c.refusal.ensures.shown c.in_default.is in
-    let crossed : tightening (sides_at core.tree.work.box told.col) told.side told.value ≡ Empty = sym c.in_ok-outcome.ensures.tightened.outcome ∙ emptied_side c.in_ok-outcome.outcome (sym c.judged_side.ensures ∙ e) in
+    let crossed : tightening (sides_at core.tree.work.box told.col) told.side told.value ≡ Empty = sym c.in_ok-outcome.ensures.tightened.outcome ∙ emptied_side c.in_ok-outcome.outcome (sym here ∙ e) in
     subst (λ (r : Region). HasNoImproving (reduced_of core) (held_of core) r.box) c.requires.at_work.region
     (none_left (reduced_of core) (held_of core) core.tree.work.box told.col told.side told.value shown.follows crossed)
 
