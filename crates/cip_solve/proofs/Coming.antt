@@ -40,7 +40,3 @@ come_told core node a b room first second s ready sound run = record {
   rows = more_none core.pool;
   run = run;
 }
-
--- nothing at all
-pub come_none : (core : CoreState) (node : TakenNode) (a : State) (room : Room) (scratches : Scratches) → IsReady core node scratches → IsSound a room → HasCome core node a core node scratches a room
-come_none core node a room scratches ready sound = come_told core node a a room scratches scratches refl ready sound (ran_none a)

@@ -1,6 +1,5 @@
 -- What may be searched in place of a program.
-use Rattle.std.proofs.Common.{Bool, Result, Ok, Err, sym, subst}
-use Rattle.std.specs.Prelude.{IfOk}
+use Rattle.std.proofs.Common.{Bool, sym, subst}
 use Rattle.cip_problem.specs.Program.{Program}
 use Rattle.cip_solve.specs.Presolved.{Presolved}
 use Rattle.cip_solve.specs.PresolvedPrograms.{IsPresolved, IsUnchanged}
@@ -13,8 +12,3 @@ itself_searched presolve program presolved near b u = record {
   near = subst AreNearColumns (sym u.reduced) near;
   same = λ e. u;
 }
-
--- the program itself, if there was memory for it
-pub each_itself : {E : Type 0} (presolve : Bool) (program : Program) (r : Result Presolved E) → AreNearColumns program → IfOk r (IsPresolved program) → IfOk r (IsUnchanged program) → IfOk r (CanBeSearched presolve program)
-each_itself presolve program (Ok presolved) near b u = itself_searched presolve program presolved near b u
-each_itself presolve program (Err error) near b u = tt

@@ -5,19 +5,16 @@ ghost use Rattle.cip_rational.specs.Rational.{ℚ};
 ghost use Rattle.cip_problem.specs.Program.{Program};
 ghost use Rattle.cip_problem.specs.Log.{Entry};
 ghost use Rattle.cip_problem.specs.WellFormed.{columns};
-ghost use Rattle.cip_search.specs.SearchState.{WayBack};
 ghost use Rattle.cip_search.specs.SeenLogs.{log_seen};
-ghost use Rattle.cip_tree.specs.Nodes.{Nodes};
 ghost use Rattle.cip_solve.specs.Mark.{Mark};
 ghost use Rattle.cip_solve.specs.PresolvedPrograms.{IsUnchanged};
 ghost use Rattle.cip_solve.specs.CoreStates.{reduced_of};
-ghost use Rattle.cip_solve.specs.KeptNodes.{IsHolding};
 ghost use Rattle.cip_endings.specs.AnswerOf.{answer_of};
 ghost use Rattle.cip_solve.specs.FirstStops.{StopsFirst};
 ghost use Rattle.cip_solve.specs.Logs.{entries_of};
 ghost use Rattle.cip_solve.specs.Reducing.{IsOfReduced};
 ghost use Rattle.cip_solve.specs.Searching.{IsAtRoot, IsEndless, CanBeSeen};
-ghost use Rattle.cip_solve.specs.Searching.{StopsStill, StopsEndless, StopsRefused, IsWithin, IsWithinAt};
+ghost use Rattle.cip_solve.specs.Searching.{StopsEndless, IsWithin, IsWithinAt};
 ghost use Rattle.cip_solve.specs.Stops.{StopsAt};
 ghost use Rattle.cip_solve.specs.Solved.{IsSolvedBy};
 ghost use Rattle.cip_solve.specs.Answered.{IsAnswered};
@@ -35,7 +32,6 @@ use cip_frac::Frac;
 use cip_incumbent::Incumbent;
 use cip_model::{Program, Verdict};
 use cip_node::{NodeWork, cost_of};
-use cip_tree::Tree;
 use std::alloc::Global;
 
 /// The point held with its cost, if there is one, written to a list of as many values.
@@ -49,44 +45,6 @@ fn held_of(incumbent: &Incumbent, mut point: Vec<Frac>) -> Option<Held>
             point.as_mut_slice().copy_from_slice(values);
             Some(Held { cost, point })
         }
-    }
-}
-
-/// How many nodes were taken and have ended.
-fn taken_of(tree: &Tree) -> u64
-    ensures { result ≡ length tree.now.log }
-{
-    tree.log().len() as u64
-}
-
-/// The answer of a search that stands still, its point written to a list of as many values.
-fn still_answer(
-    tree: &Tree,
-    incumbent: &Incumbent,
-    worst: Option<Worst>,
-    asked: &Option<Frac>,
-    point: Vec<Frac>,
-) -> Answer
-    requires { IfSome incumbent.now.best (λ held. length held.point ≡ length point.items) }
-    ensures right { (program reduced : Program) (way : WayBack) (kept : ℕ → ℕ) (nodes : ℕ) (marks : List (ℕ × Mark))
-        → CanBeSeen program reduced kept
-        → StopsStill program reduced way tree.now.root.bound nodes asked.now tree.now incumbent.now worst
-        → IsWithin program reduced tree.now.root.bound nodes tree.now.log marks
-        → IsAnswered program tree.now.root.bound nodes asked.now (log_seen kept tree.now.log) marks (answer_of result) }
-    ensures nodes { result.nodes ≡ length tree.now.log }
-    ensures untraced { result.trace ≡ None }
-{
-    let held = cost_of(incumbent);
-    let waiting = tree.bound();
-    let bound = flat(least_left(held, waiting, &worst));
-    let ended = ended_at(asked, &bound, &held, &waiting, worst);
-    let best = held_of(incumbent, point);
-    Answer {
-        ended,
-        best,
-        bound,
-        nodes: taken_of(tree),
-        trace: None,
     }
 }
 
@@ -114,34 +72,6 @@ fn endless_answer(program: &Program, point: Vec<Frac>, ray: Vec<Frac>, nodes: u6
     }
 }
 
-/// The answer after memory was refused, with the least bound before, after so many nodes; its point is written to a
-/// list of as many values.
-fn refused_answer(
-    incumbent: &Incumbent,
-    bound: Option<Frac>,
-    point: Vec<Frac>,
-    nodes: u64,
-) -> Answer
-    requires { IfSome incumbent.now.best (λ held. length held.point ≡ length point.items) }
-    ensures right { (program reduced : Program) (way : WayBack) (kept : ℕ → ℕ) (start : Option ℚ) (budget : ℕ)
-        (asked : Option ℚ) (tree : Nodes) (marks : List (ℕ × Mark)) → CanBeSeen program reduced kept
-        → StopsRefused program reduced way start tree incumbent.now bound → IsHolding program incumbent.now
-        → IsWithin program reduced start budget tree.log marks
-        → IsAnswered program start budget asked (log_seen kept tree.log) marks (answer_of result) }
-    ensures nodes { result.nodes ≡ nodes }
-    ensures untraced { result.trace ≡ None }
-{
-    let bound = capped(cost_of(incumbent), bound);
-    let best = held_of(incumbent, point);
-    Answer {
-        ended: Ended::NoMemory,
-        best,
-        bound,
-        nodes,
-        trace: None,
-    }
-}
-
 /// The answer of a search that stopped so, its point written to a list of as many values.
 fn answer_at(
     core: &Core<'_>,
@@ -163,42 +93,29 @@ fn answer_at(
     core.is_sound();
     let tree = core.tree();
     let incumbent = core.incumbent();
-    let nodes = taken_of(tree);
+    let nodes = tree.log().len() as u64;
     match stop {
-        Stop::Still => still_answer(tree, incumbent, worst, &options.gap, point),
+        Stop::Still => {
+            let held = cost_of(incumbent);
+            let waiting = tree.bound();
+            let bound = flat(least_left(held, waiting, &worst));
+            let ended = ended_at(&options.gap, &bound, &held, &waiting, worst);
+            Answer {
+                ended,
+                best: held_of(incumbent, point),
+                bound,
+                nodes,
+                trace: None,
+            }
+        }
         Stop::Endless { point, ray } => endless_answer(core.program(), point, ray, nodes),
-        Stop::NoMemory { bound } => refused_answer(incumbent, bound, point, nodes),
-    }
-}
-
-impl<'a> Search<'a> {
-    /// The answer of a search that stopped so, its point written to a list of as many values; what it did is left in
-    /// the log, with the numbers that columns have in the reduced program.
-    fn finish(self, stop: Stop, options: &Options, point: Vec<Frac>, log: &mut Log) -> Answer
-        requires stop { StopsAt self.work.core options.now.nodes options.now.gap self.worst stop }
-        requires within { IsWithinAt self.work.core options.now.nodes self.marks.items }
-        requires point { length point.items ≡ columns self.work.core.program }
-        ensures right { (kept : ℕ → ℕ)
-            → CanBeSeen self.entry.work.core.program (reduced_of self.entry.work.core) kept
-            → IsAnswered self.entry.work.core.program self.entry.work.core.tree.root.bound options.now.nodes
-            options.now.gap (log_seen kept (entries_of log.new)) log.new.marks.items (answer_of result) }
-        ensures nodes { result.nodes ≡ length (entries_of log.new) }
-        ensures untraced { result.trace ≡ None }
-        ensures logged { entries_of log.new ≡ self.entry.work.core.tree.log }
-        ensures marked { log.new.marks ≡ self.entry.marks }
-    {
-        let Search { work, worst, marks } = self;
-        let NodeWork {
-            core,
-            solver,
-            starts,
-        } = work;
-        drop(solver);
-        drop(starts);
-        let answer = answer_at(&core, worst, stop, options, point);
-        log.taken = core.take_log();
-        log.marks = marks;
-        answer
+        Stop::NoMemory { bound } => Answer {
+            ended: Ended::NoMemory,
+            bound: capped(cost_of(incumbent), bound),
+            best: held_of(incumbent, point),
+            nodes,
+            trace: None,
+        },
     }
 }
 
@@ -235,7 +152,17 @@ pub(crate) fn search_from<W: Works>(
         marks: Vec::new(alloc),
     };
     let stop = search.explore(alloc, works, options.nodes, &options.gap);
-    let answer = search.finish(stop, options, point, log);
+    let Search { work, worst, marks } = search;
+    let NodeWork {
+        core,
+        solver,
+        starts,
+    } = work;
+    drop(solver);
+    drop(starts);
+    let answer = answer_at(&core, worst, stop, options, point);
+    log.taken = core.take_log();
+    log.marks = marks;
     log.rename(presolved.kept.as_slice());
     answer
 }

@@ -18,26 +18,20 @@ pub struct Log {
     pub marks: Vec<(u64, Mark)>,
 }
 
-/// The number that a list has for a column; that of one that isn't below the list's length stays.
-fn renamed(column: u32, numbers: &[u32]) -> u32
-    ensures { result ≡ renamed numbers.now column }
-{
-    match numbers.get(column as usize) {
-        Some(number) => *number,
-        None => column,
-    }
-}
-
-/// An end with the number that a list has for the column of its split.
+/// An end with the number that a list has for the column of its split; that of one that isn't below the list's length
+/// stays.
 fn renamed_end(end: End, numbers: &[u32]) -> End
     ensures { end_of result ≡ end_seen (renamed numbers.now) (end_of end) }
 {
     match end {
-        End::Split { col, at, low, high } => End::Split {
-            col: renamed(col, numbers),
-            at,
-            low,
-            high,
+        End::Split { col, at, low, high } => match numbers.get(col as usize) {
+            Some(number) => End::Split {
+                col: *number,
+                at,
+                low,
+                high,
+            },
+            None => End::Split { col, at, low, high },
         },
         End::Closed => End::Closed,
         End::Parked => End::Parked,

@@ -2,30 +2,17 @@
 ghost use Rattle.std.specs.Prelude.{◌≢◌, ◌∷◌, [], IfOk};
 ghost use Rattle.cip_plugin.specs.Calls.{Propagate};
 ghost use Rattle.cip_roster.specs.Turns.{IsSound};
-ghost use Rattle.cip_calls.specs.CoreStates.{IsAtWork};
 ghost use Rattle.cip_node_rules.specs.declared.looks.Looked.TheVariants.{Empty};
 ghost use Rattle.cip_calls.specs.Noted.{IsReady, HasCome};
 ghost use Rattle.cip_calls.specs.Served.{Used};
 ghost use Rattle.cip_solve.specs.NodesReached.{IsSeen};
 
-use crate::telling::{last_kept, tell_now};
-use cip_calls::{Asks, Came, Core, Plugins};
+use crate::telling::tell_now;
+use cip_calls::{Asks, Came, Core, Last, Plugins};
 use cip_node::Starts;
 use cip_node_rules::{Looked, look_at};
 use cip_tree::Node;
 use std::alloc::{AllocError, Global};
-
-/// What the box in work and its choices, which are those of a node, come to.
-fn look_again(core: &Core<'_>, node: &Node) -> Looked
-    requires { IsAtWork core.now node.now }
-    ensures { IsSeen core.now node.now result }
-{
-    let _ = node;
-    core.is_sound();
-    let program = core.reduced();
-    let _columns = program.columns();
-    look_at(program.whole(), core.bounds(), core.choices())
-}
 
 /// Asks for sides in rounds, while a node is in work, tells what happened, and looks at what is left of the node: it
 /// may have no improving point, be a leaf, or be open. What is seen is the last linear program that had a point, of
@@ -46,12 +33,18 @@ pub(crate) fn narrow<R: Asks>(
     ensures seen { IfOk result (IsSeen core.new node.new) }
 {
     let columns = core.reduced().columns();
-    let last = last_kept(starts, columns);
+    let last = Last {
+        point: starts.last_values(columns),
+        combo: starts.last_combo(),
+    };
     match plugins.propagate(alloc, core, node, last)? {
         Came::Emptied => Ok(Looked::Empty),
         _ => {
             tell_now(alloc, core, plugins, node, None, last)?;
-            Ok(look_again(core, node))
+            core.is_sound();
+            let program = core.reduced();
+            let _columns = program.columns();
+            Ok(look_at(program.whole(), core.bounds(), core.choices()))
         }
     }
 }

@@ -94,34 +94,9 @@ fn turn<R: Asks>(
     }
 }
 
-/// Passes over a node in work, with what handlers say behind each, until it needn't go back to its sides; behind the
-/// twentieth time that it goes back handlers aren't asked, so that no side and no row comes behind its last linear
-/// program. `Err` comes where memory was refused.
-fn go_in_turns<R: Asks>(
-    alloc: Global,
-    work: &mut NodeWork<'_>,
-    plugins: &mut Plugins<R>,
-    node: &mut Node,
-) -> Result<Reached, AllocError>
-    requires ready { IsReady work.old.core node.old plugins.old.scratches
-        × IsSound (R.state plugins.old.roster) (R.room plugins.old.roster) }
-    ensures come { HasCome work.old.core node.old (R.state plugins.old.roster) work.new.core node.new
-        plugins.new.scratches (R.state plugins.new.roster) (R.room plugins.new.roster) }
-    ensures used { IfOk result (λ reached. IsUsedIn asks_in_pass reached (R.state plugins.old.roster)
-        plugins.old.judged.items (R.state plugins.new.roster) plugins.new.judged.items) }
-    ensures reached { IfOk result (IsReached work.new.core node.new) }
-{
-    for _ in 0..MOST_RETURNS {
-        match turn(alloc, work, plugins, node)? {
-            None => {}
-            Some(reached) => return Ok(reached),
-        }
-    }
-    pass(alloc, work, plugins, node)
-}
-
-/// Tells that a node, which is in work, was taken up, and passes over it in turns. `Err` comes where memory was
-/// refused.
+/// Tells that a node, which is in work, was taken up, and passes over it, with what handlers say behind each pass,
+/// until it needn't go back to its sides; behind the twentieth time that it goes back handlers aren't asked, so that no
+/// side and no row comes behind its last linear program. `Err` comes where memory was refused.
 pub(crate) fn focus_and_turn<R: Asks>(
     alloc: Global,
     work: &mut NodeWork<'_>,
@@ -138,5 +113,11 @@ pub(crate) fn focus_and_turn<R: Asks>(
     ensures reached { IfOk result (IsReached work.new.core node.new) }
 {
     plugins.focus(alloc, &work.core, node)?;
-    go_in_turns(alloc, work, plugins, node)
+    for _ in 0..MOST_RETURNS {
+        match turn(alloc, work, plugins, node)? {
+            None => {}
+            Some(reached) => return Ok(reached),
+        }
+    }
+    pass(alloc, work, plugins, node)
 }

@@ -12,8 +12,7 @@ use crate::asking::Asking;
 use crate::kits::begin;
 use cip_calls::{Core, Last, Plugins, Presolved, Scratches, view_of};
 use cip_frac::Frac;
-use cip_lin::Combo;
-use cip_model::{Blocks, Program};
+use cip_model::Program;
 use cip_node::NodeWork;
 use cip_plugin::{AnyPlugin, Kit, Tells, View};
 use cip_roster::{Roster, Seated};
@@ -33,28 +32,9 @@ pub(crate) struct Outset<'p> {
     pub(crate) asking: Asking<Roster>,
 }
 
-/// What plugins are lent beside the core as they begin: no combination, no blocks, and no guess.
-#[derive(Drop)]
-struct Opening {
-    combo: Option<Combo>,
-    blocks: Option<Blocks>,
-    guess: Option<Vec<Frac>>,
-}
-
-impl Opening {
-    /// What plugins see of a core before a node was taken up.
-    fn view<'v>(&'v self, core: &'v Core<'_>) -> View<'v> {
-        let view = view_of(core, 0, Last::none(), &self.guess);
-        View {
-            combo: self.combo.as_ref(),
-            blocks: self.blocks.as_ref(),
-            ..view
-        }
-    }
-}
-
-/// Moves the plugins of a kit into a roster, and calls those of its start for the first two times. `Err` comes where
-/// memory was refused: then nobody was called, and the kit is as it was.
+/// Moves the plugins of a kit into a roster, and calls those of its start for the first two times: they see the core
+/// before a node was taken up, without a combination, blocks or a guess. `Err` comes where memory was refused: then
+/// nobody was called, and the kit is as it was.
 fn ask(alloc: Global, core: &Core<'_>, kit: &mut Kit, kept: bool) -> Result<Roster, AllocError>
     requires few { IsFew (stock_of ⟦<AnyPlugin as Tells>⟧.who kit.old) }
     ensures begun { IfOk result (λ roster. HasBegun (stock_of ⟦<AnyPlugin as Tells>⟧.who kit.old)
@@ -66,12 +46,12 @@ fn ask(alloc: Global, core: &Core<'_>, kit: &mut Kit, kept: bool) -> Result<Rost
     ensures err { OnErr result (stock_of ⟦<AnyPlugin as Tells>⟧.who kit.new
         ≡ stock_of ⟦<AnyPlugin as Tells>⟧.who kit.old) }
 {
-    let opening = Opening {
-        combo: None,
+    let guess = None;
+    let view = View {
         blocks: None,
-        guess: None,
+        ..view_of(core, 0, Last::none(), &guess)
     };
-    begin(alloc, kit, kept, &opening.view(core))
+    begin(alloc, kit, kept, &view)
 }
 
 /// What a search begins with of the program that presolve made of one, before a node was taken. `Err` comes where

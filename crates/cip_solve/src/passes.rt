@@ -1,6 +1,6 @@
 //! One pass over a node in work: sides, its linear program with rows, and points.
 ghost use Rattle.std.specs.Prelude.{◌∷◌, [], IfOk};
-ghost use Rattle.cip_plugin.specs.Calls.{Separate, Search};
+ghost use Rattle.cip_plugin.specs.Calls.{Search};
 ghost use Rattle.cip_roster.specs.Turns.{IsSound};
 ghost use Rattle.cip_node.specs.Looking.{IsOpenNode};
 ghost use Rattle.cip_calls.specs.Noted.{IsReady, HasCome};
@@ -42,35 +42,6 @@ fn improve<R: Asks>(
     tell_now(alloc, core, plugins, node, None, last)
 }
 
-/// Solves the linear program of an open node in work, with rounds for rows, and asks for points. `Err` comes where
-/// memory was refused.
-fn relax_and_improve<R: Asks>(
-    alloc: Global,
-    work: &mut NodeWork<'_>,
-    plugins: &mut Plugins<R>,
-    node: &mut Node,
-) -> Result<Reached, AllocError>
-    requires ready { IsReady work.old.core node.old plugins.old.scratches
-        × IsSound (R.state plugins.old.roster) (R.room plugins.old.roster) }
-    requires open_ { IsOpenNode work.old.core node.old }
-    ensures come { HasCome work.old.core node.old (R.state plugins.old.roster) work.new.core node.new
-        plugins.new.scratches (R.state plugins.new.roster) (R.room plugins.new.roster) }
-    ensures used { IfOk result (λ reached. IsUsedIn (Separate ∷ Search ∷ []) reached (R.state plugins.old.roster)
-        plugins.old.judged.items (R.state plugins.new.roster) plugins.new.judged.items) }
-    ensures reached { IfOk result (IsReached work.new.core node.new) }
-{
-    match separate(alloc, work, plugins, node)? {
-        Bounded::Empty => Ok(Reached::Empty),
-        Bounded::Open(found) => match improve(alloc, &mut work.core, plugins, node, &found) {
-            Err(error) => {
-                drop(found);
-                Err(error)
-            }
-            Ok(()) => Ok(Reached::Open(found)),
-        },
-    }
-}
-
 /// Asks for sides, looks at a node in work, and, where it is open, solves its linear program and asks for rows and
 /// points. `Err` comes where memory was refused.
 pub(crate) fn pass<R: Asks>(
@@ -90,6 +61,15 @@ pub(crate) fn pass<R: Asks>(
     match narrow(alloc, &mut work.core, &work.starts, plugins, node)? {
         Looked::Empty => Ok(Reached::Empty),
         Looked::Leaf => Ok(Reached::Leaf),
-        Looked::Open => relax_and_improve(alloc, work, plugins, node),
+        Looked::Open => match separate(alloc, work, plugins, node)? {
+            Bounded::Empty => Ok(Reached::Empty),
+            Bounded::Open(found) => match improve(alloc, &mut work.core, plugins, node, &found) {
+                Err(error) => {
+                    drop(found);
+                    Err(error)
+                }
+                Ok(()) => Ok(Reached::Open(found)),
+            },
+        },
     }
 }

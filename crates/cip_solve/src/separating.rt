@@ -52,34 +52,9 @@ fn solve_lp<R: Asks>(
     }
 }
 
-/// Solves the linear program of a node in work again, behind rows that were added, and keeps what it finds; `Emptied`
-/// comes where the node has no improving point. `Err` comes where memory was refused.
-fn solve_again<R: Asks>(
-    alloc: Global,
-    work: &mut NodeWork<'_>,
-    plugins: &mut Plugins<R>,
-    node: &mut Node,
-    found: &mut Found,
-) -> Result<Came, AllocError>
-    requires ready { IsReady work.old.core node.old plugins.old.scratches
-        × IsSound (R.state plugins.old.roster) (R.room plugins.old.roster) }
-    ensures come { HasCome work.old.core node.old (R.state plugins.old.roster) work.new.core node.new
-        plugins.new.scratches (R.state plugins.new.roster) (R.room plugins.new.roster) }
-    ensures silent { (plugins.new.roster ≡ plugins.old.roster) × (plugins.new.judged ≡ plugins.old.judged) }
-    ensures region { region_of work.new.core.tree node.new ≡ region_of work.old.core.tree node.old }
-    ensures found { IfOk result (λ came. IsFoundBy came work.new.core node.new found.new) }
-{
-    match solve_lp(alloc, work, plugins, node, None)? {
-        Bounded::Empty => Ok(Came::Emptied),
-        Bounded::Open(newer) => {
-            drop(mem::replace(found, newer));
-            Ok(Came::Accepted)
-        }
-    }
-}
-
-/// Asks for rows once, while a node is in work, and solves its linear program again where one was added: `Accepted`
-/// comes then. `Emptied` comes where the node has no improving point. `Err` comes where memory was refused.
+/// Asks for rows once, while a node is in work, and, where one was added, solves its linear program again and keeps
+/// what it finds: `Accepted` comes then. `Emptied` comes where the node has no improving point. `Err` comes where
+/// memory was refused.
 fn cut_once<R: Asks>(
     alloc: Global,
     work: &mut NodeWork<'_>,
@@ -98,7 +73,13 @@ fn cut_once<R: Asks>(
     ensures found { IfOk result (λ came. IsFoundBy came work.new.core node.new found.new) }
 {
     match plugins.ask_round(alloc, &mut work.core, node, Round::Cuts, last_of(found))? {
-        Came::Accepted => solve_again(alloc, work, plugins, node, found),
+        Came::Accepted => match solve_lp(alloc, work, plugins, node, None)? {
+            Bounded::Empty => Ok(Came::Emptied),
+            Bounded::Open(newer) => {
+                drop(mem::replace(found, newer));
+                Ok(Came::Accepted)
+            }
+        },
         came => Ok(came),
     }
 }

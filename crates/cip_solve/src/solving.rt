@@ -2,7 +2,6 @@
 ghost use Rattle.std.specs.Prelude.{◌≡◌, ℕ, Bool, true, false, Option, None, [], ◌<◌, length};
 ghost use Rattle.cip_rational.specs.Rational.{ℚ};
 ghost use Rattle.cip_problem.specs.WellFormed.{columns};
-ghost use Rattle.cip_search.specs.NarrowedPrograms.{IsInfeasible};
 ghost use Rattle.cip_solve.specs.PresolvedPrograms.{IsPresolved, IsUnchanged};
 ghost use Rattle.cip_solve.specs.Beginning.{AreNearColumns};
 ghost use Rattle.cip_endings.specs.AnswerOf.{answer_of};
@@ -10,7 +9,6 @@ ghost use Rattle.cip_solve.specs.Kits.{stock_of, IsFew};
 ghost use Rattle.cip_solve.specs.FirstStops.{StopsFirst};
 ghost use Rattle.cip_solve.specs.KitsServed.{is_alone, IsKitAfter};
 ghost use Rattle.cip_solve.specs.Logs.{entries_of};
-ghost use Rattle.cip_solve.specs.Reducing.{CanBeSearched};
 ghost use Rattle.cip_solve.specs.Solved.{IsSolved, IsSolvedBy};
 ghost use Rattle.cip_solve.specs.SplitsServed.{splits_in, HasServed};
 
@@ -22,7 +20,6 @@ use crate::reducing::reduced_for;
 use crate::works::{Alone, Works};
 use cip_calls::Presolved;
 use cip_endings::{Answer, Ended};
-use cip_events::Trace;
 use cip_frac::Frac;
 use cip_model::Program;
 use cip_node::root_bound;
@@ -56,25 +53,6 @@ pub fn unsearched(program: &Program) -> Answer
         ended: Ended::NoMemory,
         best: None,
         bound: root_bound(program),
-        nodes: 0,
-        trace: None,
-    }
-}
-
-/// The answer where presolve has shown that no point is feasible: no node is taken.
-fn infeasible(program: &Program) -> Answer
-    requires { IsInfeasible program.now }
-    ensures solved { (nodes : ℕ) (asked : Option ℚ) (alone : Bool)
-        → IsSolvedBy program.now nodes asked true alone [] [] (answer_of result) }
-    ensures nodes { result.nodes ≡ 0 }
-    ensures trace { result.trace ≡ None }
-    ensures first { (asked : Option ℚ) → StopsFirst program.now asked [] }
-{
-    let _root = root_bound(program);
-    Answer {
-        ended: Ended::Infeasible,
-        best: None,
-        bound: None,
         nodes: 0,
         trace: None,
     }
@@ -116,13 +94,6 @@ pub fn solve_by<W: Works>(
     }
 }
 
-/// An answer with these lines of a trace, if there are any.
-fn with_trace(answer: Answer, trace: Option<Trace>) -> Answer
-    ensures { result ≡ record answer { trace = trace } }
-{
-    Answer { trace, ..answer }
-}
-
 /// Searches so with the plugins of a kit. Where memory is refused before a node is taken, nobody was called.
 fn solve_with(
     alloc: Global,
@@ -153,7 +124,7 @@ fn solve_with(
             let answer = search_from(begun, presolved, &mut asking, alloc, options, log);
             let trace = end(alloc, kit, &mut asking.plugins.roster, options.trace);
             drop(asking);
-            with_trace(answer, trace)
+            Answer { trace, ..answer }
         }
     }
 }
@@ -163,33 +134,6 @@ fn goes_alone(options: &Options, kit: &Kit) -> bool
     ensures { result ≡ is_alone options.now.plain (stock_of ⟦<AnyPlugin as Tells>⟧.who kit.now) }
 {
     options.plain || is_bare(kit)
-}
-
-/// Searches what presolve made of a program, with the plugins of a kit or without.
-fn solve_reduced(
-    alloc: Global,
-    program: &Program,
-    presolved: &Presolved,
-    options: &Options,
-    kit: &mut Kit,
-    log: &mut Log,
-) -> Answer
-    requires can { CanBeSearched options.now.presolve program.now presolved.now }
-    requires some { 0 < options.now.nodes }
-    requires few { IsFew (stock_of ⟦<AnyPlugin as Tells>⟧.who kit.old) }
-    ensures solved { IsSolvedBy program.now options.now.nodes options.now.gap options.now.presolve
-        (is_alone options.now.plain (stock_of ⟦<AnyPlugin as Tells>⟧.who kit.old)) (entries_of log.new)
-        log.new.marks.items (answer_of result) }
-    ensures nodes { result.nodes ≡ length (entries_of log.new) }
-    ensures first { StopsFirst program.now options.now.gap (entries_of log.new) }
-    ensures kit { IsKitAfter (is_alone options.now.plain (stock_of ⟦<AnyPlugin as Tells>⟧.who kit.old))
-        options.now.trace (entries_of log.new) (stock_of ⟦<AnyPlugin as Tells>⟧.who kit.old)
-        (stock_of ⟦<AnyPlugin as Tells>⟧.who kit.new) result.trace }
-{
-    if goes_alone(options, kit) {
-        return solve_by(alloc, program, presolved, options, &mut Alone, log);
-    }
-    solve_with(alloc, program, presolved, options, kit, log)
 }
 
 /// Searches for a feasible point of least cost: presolve reduces the program, and what it makes of it is searched, with
@@ -221,9 +165,23 @@ pub fn solve(
     log.marks.clear();
     match reduced_for(alloc, program, options.presolve) {
         Err(_) => unsearched(program),
-        Ok(None) => infeasible(program),
+        Ok(None) => {
+            let _root = root_bound(program);
+            Answer {
+                ended: Ended::Infeasible,
+                best: None,
+                bound: None,
+                nodes: 0,
+                trace: None,
+            }
+        }
         Ok(Some(presolved)) => {
-            let answer = solve_reduced(alloc, program, &presolved, options, kit, log);
+            if goes_alone(options, kit) {
+                let answer = solve_by(alloc, program, &presolved, options, &mut Alone, log);
+                drop(presolved);
+                return answer;
+            }
+            let answer = solve_with(alloc, program, &presolved, options, kit, log);
             drop(presolved);
             answer
         }

@@ -1,9 +1,8 @@
 //! What is told of the work on a node, and what plugins see of its last linear program.
-ghost use Rattle.std.specs.Prelude.{◌≡◌, [], length, IfSome, OnOk};
-ghost use Rattle.cip_problem.specs.WellFormed.{columns};
+ghost use Rattle.std.specs.Prelude.{◌≡◌, [], OnOk};
 ghost use Rattle.cip_roster.specs.Turns.{IsSound};
 ghost use Rattle.cip_roster.specs.Wished.{Ran};
-ghost use Rattle.cip_calls.specs.CoreStates.{reduced_of, IsAtWork};
+ghost use Rattle.cip_calls.specs.CoreStates.{IsAtWork};
 ghost use Rattle.cip_node.specs.Bounding.{IsBounded};
 ghost use Rattle.cip_calls.specs.Noted.{IsReady, HasCome};
 ghost use Rattle.cip_calls.specs.Served.{Used};
@@ -13,7 +12,7 @@ use cip_calls::{Asks, Core, Last, Plugins, PostsolveFault, postsolve};
 use cip_events::EventKind;
 use cip_frac::Frac;
 use cip_model::Verdict;
-use cip_node::{Bounded, Found, NodeEnd, Starts};
+use cip_node::{Bounded, Found, NodeEnd};
 use cip_tree::Node;
 use std::alloc::{AllocError, Global};
 
@@ -29,53 +28,10 @@ pub(crate) fn last_of(found: &Found) -> Last<'_> {
     }
 }
 
-/// What plugins see of the last linear program that had a point, of a program of so many columns.
-pub(crate) fn last_kept(starts: &Starts, columns: usize) -> Last<'_> {
-    Last {
-        point: starts.last_values(columns),
-        combo: starts.last_combo(),
-    }
-}
-
-/// What is told of a point that was offered and not taken, by its test: that it is no cheaper than the point held, if
-/// it is feasible.
-fn poor_kind(verdict: Verdict) -> Option<EventKind> {
-    match verdict {
-        Verdict::Feasible(_) => Some(EventKind::PoorSolFound),
-        _ => None,
-    }
-}
-
-/// What is told of a point of the reduced program that was offered and not taken, by the test of what it comes back as;
-/// nothing, where a number on the way back isn't in range. `Err` comes where memory was refused.
-fn told_of(alloc: Global, core: &Core<'_>, point: &[Frac]) -> Result<Option<EventKind>, AllocError>
-    requires { length point.now ≡ columns (reduced_of core.now) }
-{
-    core.is_sound();
-    match postsolve(alloc, core.steps(), point) {
-        Ok(values) => Ok(poor_kind(core.program().check(values.as_slice()))),
-        Err(PostsolveFault::Wide) => Ok(None),
-        Err(PostsolveFault::NoMemory) => Err(AllocError),
-    }
-}
-
-/// So it is of a point, if there is one.
-fn told_if(
-    alloc: Global,
-    core: &Core<'_>,
-    point: &Option<Vec<Frac>>,
-) -> Result<Option<EventKind>, AllocError>
-    requires { IfSome point.now (λ values. length values.items ≡ columns (reduced_of core.now)) }
-{
-    match point {
-        None => Ok(None),
-        Some(values) => told_of(alloc, core, values.as_slice()),
-    }
-}
-
 /// What is told of the point of the linear program of a node in work, a point of the reduced program, which was offered
 /// if it was whole, where the cost held was this before: that what it comes back as was taken, or that this is feasible
-/// and no cheaper than the point held. Nothing, where nobody is to be told. `Err` comes where memory was refused.
+/// and no cheaper than the point held. Nothing, where nobody is to be told, or a number on the way back isn't in range.
+/// `Err` comes where memory was refused.
 pub(crate) fn offered_kind(
     alloc: Global,
     core: &Core<'_>,
@@ -95,9 +51,19 @@ pub(crate) fn offered_kind(
         return Ok(Some(EventKind::BestSolFound));
     }
     core.is_sound();
-    match bounded {
-        Bounded::Empty => Ok(None),
-        Bounded::Open(found) => told_if(alloc, core, &found.point),
+    let Bounded::Open(found) = bounded else {
+        return Ok(None);
+    };
+    let Some(point) = &found.point else {
+        return Ok(None);
+    };
+    match postsolve(alloc, core.steps(), point.as_slice()) {
+        Ok(values) => match core.program().check(values.as_slice()) {
+            Verdict::Feasible(_) => Ok(Some(EventKind::PoorSolFound)),
+            _ => Ok(None),
+        },
+        Err(PostsolveFault::Wide) => Ok(None),
+        Err(PostsolveFault::NoMemory) => Err(AllocError),
     }
 }
 
@@ -153,28 +119,20 @@ pub(crate) fn tell_now<R: Asks>(
     plugins.tell(alloc, core, node.id(), last)
 }
 
-/// What is told of a node that ended so.
-fn end_kind(end: &NodeEnd) -> Option<EventKind> {
-    match end {
-        NodeEnd::Pruned => Some(EventKind::NodeInfeasible),
-        NodeEnd::Empty => Some(EventKind::NodeInfeasible),
-        NodeEnd::Solved => Some(EventKind::NodeFeasible),
-        NodeEnd::Split(_, _) => Some(EventKind::NodeBranched),
-        NodeEnd::Parked { .. } => None,
-        NodeEnd::Ray { .. } => None,
-    }
-}
-
-/// What is told of the point of a node that ended so: where a leaf's was no cheaper than the point held, too.
-fn point_kind(done: &Done) -> Option<EventKind> {
+/// What is told of the point of a node that ended so, where a leaf's was no cheaper than the point held, too; and
+/// behind it of the node.
+fn end_kinds(done: &Done) -> (Option<EventKind>, Option<EventKind>) {
+    let (point, end) = match &done.end {
+        NodeEnd::Pruned | NodeEnd::Empty => (None, Some(EventKind::NodeInfeasible)),
+        NodeEnd::Solved => (Some(EventKind::PoorSolFound), Some(EventKind::NodeFeasible)),
+        NodeEnd::Split(_, _) => (None, Some(EventKind::NodeBranched)),
+        NodeEnd::Parked { .. } => (None, None),
+        NodeEnd::Ray { .. } => (Some(EventKind::PoorSolFound), None),
+    };
     if done.taken {
-        return Some(EventKind::BestSolFound);
+        return (Some(EventKind::BestSolFound), end);
     }
-    match &done.end {
-        NodeEnd::Solved => Some(EventKind::PoorSolFound),
-        NodeEnd::Ray { .. } => Some(EventKind::PoorSolFound),
-        _ => None,
-    }
+    (point, end)
 }
 
 /// Tells all that waits behind the work on a node of this number, and how it ended. `Err` comes where memory was
@@ -193,6 +151,7 @@ pub fn tell_end<R: Asks>(
     ensures run { Ran (R.state plugins.old.roster) (R.state plugins.new.roster) }
     ensures frame { (plugins.new.scratches ≡ plugins.old.scratches) × (plugins.new.judged ≡ plugins.old.judged) }
 {
-    queue_both(plugins, node, point_kind(done), Ok(end_kind(&done.end)))?;
+    let (point, end) = end_kinds(done);
+    queue_both(plugins, node, point, Ok(end))?;
     plugins.tell(alloc, core, node, Last::none())
 }

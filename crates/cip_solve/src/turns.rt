@@ -49,12 +49,17 @@ impl<'a> Search<'a> {
         }
     }
 
-    /// Keeps what the end of a node comes to; how the search stops by it.
-    fn keep(&mut self, end: NodeEnd) -> Option<Stop>
+    /// Keeps what was met in the work on a node, for which there is room, and what its end comes to; how the search
+    /// stops by it.
+    fn settle(&mut self, number: u64, done: (NodeEnd, NodeRecord)) -> Option<Stop>
+        requires { vec_len self.old.marks < vec_capacity self.old.marks }
         ensures work { self.new.work ≡ self.old.work }
-        ensures marks { self.new.marks ≡ self.old.marks }
-        ensures kept { IsKeptAs self.old.worst self.new.worst end result }
+        ensures marked { self.new.marks.items ≡ self.old.marks.items ++ marks_by number done.1.mark }
+        ensures kept { IsKeptAs self.old.worst self.new.worst done.0 result }
     {
+        let (end, record) = done;
+        let NodeRecord { mark } = record;
+        self.note(number, mark);
         match end {
             NodeEnd::Parked {
                 leaf,
@@ -75,20 +80,6 @@ impl<'a> Search<'a> {
             NodeEnd::Ray { point, ray } => Some(Stop::Endless { point, ray }),
             NodeEnd::Pruned | NodeEnd::Empty | NodeEnd::Solved | NodeEnd::Split(_, _) => None,
         }
-    }
-
-    /// Keeps what was met in the work on a node, for which there is room, and what its end comes to; how the search
-    /// stops by it.
-    fn settle(&mut self, number: u64, done: (NodeEnd, NodeRecord)) -> Option<Stop>
-        requires { vec_len self.old.marks < vec_capacity self.old.marks }
-        ensures work { self.new.work ≡ self.old.work }
-        ensures marked { self.new.marks.items ≡ self.old.marks.items ++ marks_by number done.1.mark }
-        ensures kept { IsKeptAs self.old.worst self.new.worst done.0 result }
-    {
-        let (end, record) = done;
-        let NodeRecord { mark } = record;
-        self.note(number, mark);
-        self.keep(end)
     }
 
     /// Takes up a node and works on it; how the search stops, if it does.

@@ -3,6 +3,8 @@ use Rattle.std.proofs.Common.{refl, ap, subst, arith}
 use Rattle.cip_calls.specs.CoreStates.{CoreState}
 use Rattle.cip_calls.proofs.PassedOn.{used_none}
 use Rattle.std.proofs.lemmas.Result.{IfOk-weaker}
+use Rattle.std.specs.Prelude.{Bool}
+use Rattle.cip_rows.specs.RowPools.{Pool}
 use Rattle.cip_solve.specs.NodesReached.{IsReached}
 use Rattle.cip_solve.proofs.Closing.{emptied_here}
 use Rattle.cip_solve.proofs.Coming.{ran_none}
@@ -19,13 +21,6 @@ returns-in-Empty-clause-ended g c =
 pub returns-in-Empty-clause-kept : goal.returns-in-Empty-clause-kept
 returns-in-Empty-clause-kept g c =
     (ap (λ (k : CoreState). k.pool) c.close_empty.ensures.frame, c.requires.sound, ran_none (g.R.Seated.state c.args.plugins.now.roster), refl)
-
-pub end_as_leaf-requires-clause-leaf : goal.end_as_leaf-requires-clause-leaf
-end_as_leaf-requires-clause-leaf g c = subst (IsReached c.args.work.now.core c.args.node) c.in-Leaf.is c.requires.reached
-
-pub returns-in-Leaf-clause-kept : goal.returns-in-Leaf-clause-kept
-returns-in-Leaf-clause-kept g c =
-    (c.end_as_leaf.ensures.pool, c.requires.sound, ran_none (g.R.Seated.state c.args.plugins.now.roster), refl)
 
 pub end_open-requires-clause-open_ : goal.end_open-requires-clause-open_
 end_open-requires-clause-open_ g c = subst (IsReached c.args.work.now.core c.args.node) c.in-Open.is c.requires.reached
@@ -55,16 +50,9 @@ returns-in-Place-clause-kept g c =
 pub returns-in-Empty-clause-used : goal.returns-in-Empty-clause-used
 returns-in-Empty-clause-used g c = ends_empty _ _ _ _ _ _ c.in-Empty.is tt
 
-pub returns-in-Leaf-clause-used : goal.returns-in-Leaf-clause-used
-returns-in-Leaf-clause-used g c =
-    IfOk-weaker c.end_as_leaf.result _ _ (λ done kind. ends_leaf _ done _ _ _ _ c.in-Leaf.is kind) c.end_as_leaf.ensures.kind
-
 pub returns-in-Open-clause-used : goal.returns-in-Open-clause-used
 returns-in-Open-clause-used g c =
     IfOk-weaker c.end_open.result _ _ (λ done used. ends_open _ c.in-Open.found done _ _ _ _ c.in-Open.is used) c.end_open.ensures.used
-
-pub returns-in-Leaf-clause-ended : goal.returns-in-Leaf-clause-ended
-returns-in-Leaf-clause-ended g c = grind (arith, common_steps)
 
 pub returns-in-Open-clause-ended : goal.returns-in-Open-clause-ended
 returns-in-Open-clause-ended g c = grind (arith, common_steps)
@@ -74,3 +62,20 @@ returns-in-Open-clause-kept g c = grind (arith, common_steps)
 
 pub returns-in-Place-clause-ended : goal.returns-in-Place-clause-ended
 returns-in-Place-clause-ended g c = grind (arith, common_steps)
+
+pub end_leaf-requires-clause-leaf : goal.end_leaf-requires-clause-leaf
+end_leaf-requires-clause-leaf g c = subst (IsReached c.args.work.now.core c.args.node) c.in-Leaf.is c.requires.reached
+
+pub returns-in_err-end-in-Leaf-clause-kept : goal.returns-in_err-end-in-Leaf-clause-kept
+returns-in_err-end-in-Leaf-clause-kept g c =
+    (ap (λ (rows : Pool × Bool). rows.0) c.end_leaf.ensures.rows, c.requires.sound, ran_none (g.R.Seated.state c.args.plugins.now.roster), refl)
+
+pub returns-in_ok-end-in-Leaf-clause-kept : goal.returns-in_ok-end-in-Leaf-clause-kept
+returns-in_ok-end-in-Leaf-clause-kept g c =
+    (ap (λ (rows : Pool × Bool). rows.0) c.end_leaf.ensures.rows, c.requires.sound, ran_none (g.R.Seated.state c.args.plugins.now.roster), refl)
+
+pub returns-in_ok-end-in-Leaf-clause-used : goal.returns-in_ok-end-in-Leaf-clause-used
+returns-in_ok-end-in-Leaf-clause-used g c = ends_leaf _ _ _ _ _ _ c.in-Leaf.is c.in_ok-end-in-Leaf.ensures.kind
+
+pub returns-in_ok-end-in-Leaf-clause-ended : goal.returns-in_ok-end-in-Leaf-clause-ended
+returns-in_ok-end-in-Leaf-clause-ended g c = grind (arith, common_steps)

@@ -1,7 +1,11 @@
 use Rattle.std.proofs.lemmas.Grind.{common_steps}
-use Rattle.std.proofs.Common.{◌∷◌, [], refl, arith}
+use Rattle.std.proofs.Common.{◌∷◌, [], ◌∙◌, length, refl, sym, ap, subst, arith}
 use Rattle.cip_plugin.specs.Calls.{Propagate}
-use Rattle.cip_calls.proofs.PassedOn.{come_further}
+use Rattle.cip_problem.specs.Program.{Program}
+use Rattle.cip_node_rules.specs.BoxLooks.{IsBoxLook}
+use Rattle.cip_calls.proofs.PassedOn.{come_further, work_long}
+use Rattle.cip_node.proofs.Looked.{look_entered}
+use Rattle.cip_solve.proofs.Standing.{seen_of}
 use Rattle.cip_solve.proofs.Using.{in_then}
 use Rattle.cip_solve.proofs.looking.narrow.Goals as goal
 
@@ -27,17 +31,29 @@ propagate-requires-clause-ready g c = c.requires.ready.0
 pub propagate-requires-clause-sound : goal.propagate-requires-clause-sound
 propagate-requires-clause-sound g c = c.requires.ready.1
 
-pub look_again-requires : goal.look_again-requires
-look_again-requires g c = grind (arith, common_steps)
-
 pub returns-in-Emptied-clause-come : goal.returns-in-Emptied-clause-come
 returns-in-Emptied-clause-come g c = grind (arith, common_steps)
 
 pub returns-in_err-propagate-clause-come : goal.returns-in_err-propagate-clause-come
 returns-in_err-propagate-clause-come g c = grind (arith, common_steps)
 
-pub returns-in_ok-tell_now-in_default-clause-seen : goal.returns-in_ok-tell_now-in_default-clause-seen
-returns-in_ok-tell_now-in_default-clause-seen g c = grind (arith, common_steps)
-
 pub tell_now-requires : goal.tell_now-requires
 tell_now-requires g c = grind (arith, common_steps)
+
+pub look_at-requires-clause-long : goal.look_at-requires-clause-long
+look_at-requires-clause-long g c =
+    let core = c.propagate.new.core in
+    let formed = c.is_sound.ensures.reduced in
+    ap length (c.whole.ensures.whole ∙ ap (λ (p : Program). p.integral) c.reduced-program.ensures) ∙ formed.integral ∙ sym (work_long core c.propagate.new.node formed c.propagate.ensures.come.ready.at_work) ∙ sym (ap length c.bounds.ensures)
+
+pub look_at-requires-clause-columns : goal.look_at-requires-clause-columns
+look_at-requires-clause-columns g c = grind (arith, common_steps)
+
+pub returns-in_ok-tell_now-in_default-clause-seen : goal.returns-in_ok-tell_now-in_default-clause-seen
+returns-in_ok-tell_now-in_default-clause-seen g c =
+    let core = c.propagate.new.core in
+    let node = c.propagate.new.node in
+    seen_of core node c.look_at.result (look_entered core node c.look_at.result c.propagate.ensures.come.ready.at_work.region
+    (subst (λ i. IsBoxLook i core.tree.work.box core.tree.work.choices c.look_at.result) (c.whole.ensures.whole ∙ ap (λ (p : Program). p.integral) c.reduced-program.ensures)
+    (subst (λ b. IsBoxLook c.whole.result.now b core.tree.work.choices c.look_at.result) c.bounds.ensures
+    (subst (λ o. IsBoxLook c.whole.result.now c.bounds.result.now o c.look_at.result) c.choices.ensures c.look_at.ensures))))

@@ -1,5 +1,7 @@
 use Rattle.std.proofs.lemmas.Grind.{common_steps}
-use Rattle.std.proofs.Common.{ap, subst, sym, arith}
+use Rattle.std.proofs.lemmas.Int.{to_z-of_z, fits_signed_from_abs}
+use Rattle.std.proofs.Common.{◌≡◌, ◌<◌, ◌≤◌, ◌^◌, unsigned_abs, ap, subst, sym, rules, arith, to_z, of_z}
+use Rattle.std.specs.Int.{w128}
 use Rattle.cip_problem.specs.Log.{Split}
 use Rattle.cip_calls.specs.CoreStates.{CoreState}
 use Rattle.cip_calls.specs.Steps.{HasLeft}
@@ -8,24 +10,38 @@ use Rattle.cip_solve.specs.NodesDone.{HasParted}
 use Rattle.cip_solve.proofs.Closing.{parted_here}
 use Rattle.cip_solve.proofs.parting.end_parted.Goals as goal
 
-pub part-parted-requires-clause-at_work : goal.part-parted-requires-clause-at_work
-part-parted-requires-clause-at_work c = (record { up = c.requires.up.0; region = c.requires.open_.0.full.region }, c.requires.up.1)
+pub split-parted-requires-clause-at_work : goal.split-parted-requires-clause-at_work
+split-parted-requires-clause-at_work c = record { up = c.requires.up.0; region = c.requires.open_.0.full.region }
 
 pub returns-in-Ok-clause-ended : goal.returns-in-Ok-clause-ended
 returns-in-Ok-clause-ended c =
     let core = c.args.work.now.core in
-    let new = c.part-parted.new.work.core in
+    let new = c.split-parted.new.self in
     let node = c.args.node in
     let end = by.Split c.in-Ok.halves.0 c.in-Ok.halves.1 in
-    subst (λ (k : CoreState). HasParted core k node c.args.found.mark end) (sym c.part-parted.ensures.frame)
+    let place = c.args.split.at in
+    let near : unsigned_abs place ≤ 2 ^ 100 = c.requires.place.named.near in
+    let at : to_z w128 (of_z w128 place) ≡ place = to_z-of_z w128 place (fits_signed_from_abs w128 place (omega (arith, near))) in
+    let left = subst (λ a. HasLeft core new node (Split c.args.split.col a c.in-Ok.halves.0 c.in-Ok.halves.1)) at c.in-Ok.ensures.split in
+    subst (λ (k : CoreState). HasParted core k node c.args.found.mark end) (sym c.split-parted.ensures.frame)
     (parted_here core new.tree node c.args.found c.args.split.col c.args.split.at c.in-Ok.halves.0 c.in-Ok.halves.1 c.requires.open_.1
-    (subst (λ (k : CoreState). HasLeft core k node (Split c.args.split.col c.args.split.at c.in-Ok.halves.0 c.in-Ok.halves.1)) c.part-parted.ensures.frame c.in-Ok.ensures.split))
+    (subst (λ (k : CoreState). HasLeft core k node (Split c.args.split.col c.args.split.at c.in-Ok.halves.0 c.in-Ok.halves.1)) c.split-parted.ensures.frame left))
 
 pub returns-in-Ok-clause-pool : goal.returns-in-Ok-clause-pool
-returns-in-Ok-clause-pool c = ap (λ (k : CoreState). k.pool) c.part-parted.ensures.frame
+returns-in-Ok-clause-pool c = ap (λ (k : CoreState). k.pool) c.split-parted.ensures.frame
 
 pub returns-in-Err-clause-pool : goal.returns-in-Err-clause-pool
-returns-in-Err-clause-pool c = ap (λ (k : CoreState). k.pool) c.part-parted.ensures.frame
+returns-in-Err-clause-pool c = ap (λ (k : CoreState). k.pool) c.split-parted.ensures.frame
 
 pub returns-in-Err-clause-ended : goal.returns-in-Err-clause-ended
 returns-in-Err-clause-ended c = grind (arith, common_steps)
+
+pub split-parted-requires-clause-place : goal.split-parted-requires-clause-place
+split-parted-requires-clause-place c =
+    let inside = subst (λ n. c.args.split.col < n) (sym c.is_sound.ensures.reduced.integral) c.requires.place.named.inside in
+    let region = c.requires.open_.0.full.region in
+    let placed = c.requires.place.place in
+    (c.requires.up.1, inside, search rules)
+
+pub split-parted-requires-clause-given : goal.split-parted-requires-clause-given
+split-parted-requires-clause-given c = c.requires.up.2

@@ -2,10 +2,10 @@ use Rattle.std.proofs.lemmas.Grind.{common_steps}
 use Rattle.std.proofs.Common.{◌≢◌, ◌∷◌, [], ◌∙◌, sym, subst, arith}
 use Rattle.cip_plugin.specs.Calls.{Propagate, Separate, Search}
 use Rattle.cip_node_rules.specs.declared.looks.Looked.TheVariants.{Empty, Open}
-use Rattle.cip_calls.proofs.PassedOn.{come_further}
-use Rattle.std.proofs.lemmas.Result.{IfOk-weaker}
-use Rattle.cip_solve.specs.NodesReached.{IsSeen}
-use Rattle.cip_solve.proofs.Using.{in_further}
+use Rattle.cip_calls.proofs.PassedOn.{come_further, used_further}
+use Rattle.cip_node.specs.Bounding.{IsBounded}
+use Rattle.cip_node.proofs.Looked.{open_after}
+use Rattle.cip_solve.specs.NodesReached.{IsOpenBounded, IsSeen}
 use Rattle.cip_solve.proofs.passes.pass.Goals as goal
 
 pub returns-in-Empty-clause-reached : goal.returns-in-Empty-clause-reached
@@ -14,24 +14,8 @@ returns-in-Empty-clause-reached g c = subst (IsSeen c.narrow.new.core c.narrow.n
 pub returns-in-Leaf-clause-reached : goal.returns-in-Leaf-clause-reached
 returns-in-Leaf-clause-reached g c = subst (IsSeen c.narrow.new.core c.narrow.new.node) c.in-Leaf.is c.in_ok-narrow.ensures.seen
 
-pub relax_and_improve-requires-clause-open_ : goal.relax_and_improve-requires-clause-open_
-relax_and_improve-requires-clause-open_ g c = subst (IsSeen c.narrow.new.core c.narrow.new.node) c.in-Open.is c.in_ok-narrow.ensures.seen
-
-pub returns-in-Open-clause-come : goal.returns-in-Open-clause-come
-returns-in-Open-clause-come g c = come_further _ _ _ _ _ _ _ _ _ _ _ _ _ c.narrow.ensures.come c.relax_and_improve.ensures.come
-
 open_not_empty : Open ≢ Empty
 open_not_empty e = cc
-
-pub returns-in-Open-clause-used : goal.returns-in-Open-clause-used
-returns-in-Open-clause-used g c =
-    let first = c.in_ok-narrow.ensures.used (λ e. open_not_empty (sym c.in-Open.is ∙ e)) in
-    IfOk-weaker c.relax_and_improve.result _ _
-    (λ reached used. in_further (Propagate ∷ []) (Separate ∷ Search ∷ []) reached _ _ _ _ _ _ c.narrow.ensures.come.sound.settled first used)
-    c.relax_and_improve.ensures.used
-
-pub relax_and_improve-requires-clause-ready : goal.relax_and_improve-requires-clause-ready
-relax_and_improve-requires-clause-ready g c = grind (arith, common_steps)
 
 pub returns-in-Empty-clause-come : goal.returns-in-Empty-clause-come
 returns-in-Empty-clause-come g c = grind (arith, common_steps)
@@ -39,5 +23,34 @@ returns-in-Empty-clause-come g c = grind (arith, common_steps)
 pub returns-in-Leaf-clause-come : goal.returns-in-Leaf-clause-come
 returns-in-Leaf-clause-come g c = grind (arith, common_steps)
 
-pub returns-in-Open-clause-reached : goal.returns-in-Open-clause-reached
-returns-in-Open-clause-reached g c = grind (arith, common_steps)
+pub returns-in_err-separate-in-Open-clause-come : goal.returns-in_err-separate-in-Open-clause-come
+returns-in_err-separate-in-Open-clause-come g c = come_further _ _ _ _ _ _ _ _ _ _ _ _ _ c.narrow.ensures.come c.separate.ensures.come
+
+pub returns-in-Empty-2-clause-come : goal.returns-in-Empty-2-clause-come
+returns-in-Empty-2-clause-come g c = come_further _ _ _ _ _ _ _ _ _ _ _ _ _ c.narrow.ensures.come c.separate.ensures.come
+
+pub returns-in-Empty-2-clause-reached : goal.returns-in-Empty-2-clause-reached
+returns-in-Empty-2-clause-reached g c = subst (IsBounded c.separate.new.work.core c.separate.new.node) c.in-Empty-2.is c.in_ok-separate-in-Open.ensures.bounded
+
+pub improve-requires-clause-open_ : goal.improve-requires-clause-open_
+improve-requires-clause-open_ g c = (
+  open_after c.narrow.new.core c.separate.new.work.core c.narrow.new.node c.separate.new.node c.separate.ensures.come.later c.separate.ensures.region
+      (subst (IsSeen c.narrow.new.core c.narrow.new.node) c.in-Open.is c.in_ok-narrow.ensures.seen),
+  subst (IsBounded c.separate.new.work.core c.separate.new.node) c.in-Open-2.is c.in_ok-separate-in-Open.ensures.bounded,
+)
+
+pub returns-in-Err-clause-come : goal.returns-in-Err-clause-come
+returns-in-Err-clause-come g c = come_further _ _ _ _ _ _ _ _ _ _ _ _ _ (come_further _ _ _ _ _ _ _ _ _ _ _ _ _ c.narrow.ensures.come c.separate.ensures.come) c.improve.ensures.come
+
+pub returns-in-Ok-clause-come : goal.returns-in-Ok-clause-come
+returns-in-Ok-clause-come g c = come_further _ _ _ _ _ _ _ _ _ _ _ _ _ (come_further _ _ _ _ _ _ _ _ _ _ _ _ _ c.narrow.ensures.come c.separate.ensures.come) c.improve.ensures.come
+
+pub returns-in-Ok-clause-used : goal.returns-in-Ok-clause-used
+returns-in-Ok-clause-used g c =
+    let first = c.in_ok-narrow.ensures.used (λ e. open_not_empty (sym c.in-Open.is ∙ e)) in
+    used_further (Propagate ∷ []) (Separate ∷ Search ∷ []) _ _ _ _ _ _ c.narrow.ensures.come.sound.settled first
+    (used_further (Separate ∷ []) (Search ∷ []) _ _ _ _ _ _ c.separate.ensures.come.sound.settled
+    (c.in_ok-separate-in-Open.ensures.used (subst IsOpenBounded (sym c.in-Open-2.is) tt)) c.in-Ok.ensures.used)
+
+pub returns-in-Ok-clause-reached : goal.returns-in-Ok-clause-reached
+returns-in-Ok-clause-reached g c = c.improve.ensures.open_

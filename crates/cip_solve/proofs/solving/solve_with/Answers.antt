@@ -1,9 +1,8 @@
 use Rattle.std.proofs.lemmas.Grind.{common_steps}
-use Rattle.std.proofs.Common.{◌∙◌, ap, false, inl, sym, subst, true≢false, arith}
+use Rattle.std.proofs.Common.{◌∙◌, ap, false, inl, refl, sym, subst, true≢false, arith}
 use Rattle.cip_problem.specs.Program.{Program}
 use Rattle.cip_problem.specs.WellFormed.{columns}
 use Rattle.cip_tree.specs.Entries as tree
-use Rattle.cip_endings.specs.Answer.{Answer}
 use Rattle.cip_endings.specs.AnswerOf.{answer_of}
 use Rattle.cip_solve.specs.ProposalsJudged.{HaveRoom}
 use Rattle.cip_solve.specs.FirstStops.{StopsFirst}
@@ -41,18 +40,17 @@ pub returns-in-Ok-clause-solved : goal.returns-in-Ok-clause-solved
 returns-in-Ok-clause-solved g c =
     let log = c.search_from-answer.new.log in
     let of_program = c.in-Ok.ensures.start.program_is in
-    let solved = subst (λ (p : Program). IsSolvedBy p c.args.options.now.nodes c.args.options.now.gap c.args.options.now.presolve false (entries_of log) log.marks.items (answer_of c.search_from-answer.result))
-    of_program (c.search_from-answer.ensures.solved c.args.options.now.presolve false (λ e. subst (λ (p : Program). IsUnchanged p c.args.presolved.now) (sym of_program) (c.requires.same e)) (λ e. absurd (true≢false (sym e)))) in
-    subst (λ (a : Answer). IsSolvedBy c.args.program.now c.args.options.now.nodes c.args.options.now.gap c.args.options.now.presolve false (entries_of log) log.marks.items (answer_of a)) (sym c.with_trace.ensures) solved
+    subst (λ (p : Program). IsSolvedBy p c.args.options.now.nodes c.args.options.now.gap c.args.options.now.presolve false (entries_of log) log.marks.items (answer_of c.search_from-answer.result))
+    of_program (c.search_from-answer.ensures.solved c.args.options.now.presolve false (λ e. subst (λ (p : Program). IsUnchanged p c.args.presolved.now) (sym of_program) (c.requires.same e)) (λ e. absurd (true≢false (sym e))))
 
 pub returns-in-Ok-clause-nodes : goal.returns-in-Ok-clause-nodes
-returns-in-Ok-clause-nodes g c = ap (λ (a : Answer). a.nodes) c.with_trace.ensures ∙ c.search_from-answer.ensures.nodes
+returns-in-Ok-clause-nodes g c = c.search_from-answer.ensures.nodes
 
 pub returns-in-Ok-clause-first : goal.returns-in-Ok-clause-first
 returns-in-Ok-clause-first g c = subst (λ (p : Program). StopsFirst p c.args.options.now.gap (entries_of c.search_from-answer.new.log)) c.in-Ok.ensures.start.program_is c.search_from-answer.ensures.first
 
 pub returns-in-Ok-clause-kit : goal.returns-in-Ok-clause-kit
-returns-in-Ok-clause-kit g c = kit_told _ _ _ _ _ _ (ap (λ (a : Answer). a.trace) c.with_trace.ensures) (inl (record {
+returns-in-Ok-clause-kit g c = kit_told _ _ _ _ _ _ refl (inl (record {
   between = _;
   begun = _;
   left = _;

@@ -1,13 +1,26 @@
+use Rattle.std.proofs.lemmas.Grind.{common_steps}
+use Rattle.std.proofs.Common.{◌∙◌, None, refl, sym, subst, arith}
 use Rattle.cip_solve.specs.Stops.{IsKeptAs}
-use Rattle.cip_solve.specs.Mark.{Mark}
-use Rattle.std.proofs.Common.{ℕ, Vec, Global, ap, ◌∙◌, subst}
+use Rattle.cip_endings.specs.Worst.{IsWorse}
+use Rattle.cip_endings.specs.declared.worst.Worst.{Worst}
 use Rattle.cip_solve.proofs.turns.Search.settle.Goals as goal
 
-pub returns-clause-marked : goal.returns-clause-marked
-returns-clause-marked c = ap (λ (v : Vec (ℕ × Mark) Global). v.items) c.keep.ensures.marks ∙ c.note.ensures.marked
+pub returns-in-Parked-clause-kept : goal.returns-in-Parked-clause-kept
+returns-in-Parked-clause-kept c =
+    let parked : Worst = record { leaf = c.in-Parked.leaf; on = c.in-Parked.on; bound = c.in-Parked.bound; shown = c.in-Parked.shown } in
+    subst (λ e. IsKeptAs c.args.self.now.worst c.worse.result e None) (sym c.in-Parked.is) (
+      record {
+        parked = parked;
+        leaf_is = refl;
+        bound_is = refl;
+        shown_is = refl;
+        worse = subst (λ b. IsWorse b parked c.worse.result) (c.take-before.ensures.value ∙ c.note.ensures.worst) c.worse.ensures;
+      },
+      refl,
+    )
 
-pub returns-clause-work : goal.returns-clause-work
-returns-clause-work c = c.keep.ensures.work ∙ c.note.ensures.work
+pub returns-in-Pruned-clause-kept : goal.returns-in-Pruned-clause-kept
+returns-in-Pruned-clause-kept c = grind (arith, common_steps)
 
-pub returns-clause-kept : goal.returns-clause-kept
-returns-clause-kept c = subst (λ w. IsKeptAs w c.keep.new.self.worst c.args.done.0 c.keep.result) c.note.ensures.worst c.keep.ensures.kept
+pub returns-in-Ray-clause-kept : goal.returns-in-Ray-clause-kept
+returns-in-Ray-clause-kept c = grind (arith, common_steps)
