@@ -1,4 +1,5 @@
-use Rattle.std.proofs.Common.{◌≡◌, true, length, sym, ◌∙◌, rules}
+use Rattle.std.proofs.lemmas.Grind.{common_steps}
+use Rattle.std.proofs.Common.{◌≡◌, true, length, sym, ◌∙◌, rules, arith}
 use Rattle.cip_basis.specs.PointTests.{keeps_box, keeps_rows}
 use Rattle.cip_basis.specs.Shown.{lent_rows}
 use Rattle.cip_basis.proofs.Points.{own_stand, others_stand, tested}
@@ -18,3 +19,12 @@ returns c e =
     let own : keeps_rows problem.own.now point ≡ true = search rules in
     let others : keeps_rows (lent_rows problem.others.now) point ≡ true = sym c.keeps_others.ensures ∙ e in
     tested problem point box own others
+
+pub returns-then-not-keeps_rows : goal.returns-then-not-keeps_rows
+returns-then-not-keeps_rows c = grind (arith, common_steps)
+
+pub returns-then-not-keeps_box : goal.returns-then-not-keeps_box
+returns-then-not-keeps_box c = grind (arith, common_steps)
+
+pub keeps_box-requires : goal.keeps_box-requires
+keeps_box-requires c = grind (arith, common_steps)

@@ -4,3 +4,9 @@ use Rattle.cip_blocks.proofs.words.keyword_of.Goals as goal
 
 pub returns-then-eq-3 : goal.returns-then-eq-3
 returns-then-eq-3 c = grind (arith, common_steps)
+
+pub returns-then-eq-2 : goal.returns-then-eq-2
+returns-then-eq-2 c = grind (arith, common_steps)
+
+pub returns-then-eq : goal.returns-then-eq
+returns-then-eq c = grind (arith, common_steps)

@@ -30,3 +30,18 @@ returns-then-not-is_cheaper-clause-answer c = grind (arith, common_steps)
 
 pub returns-clause-answer : goal.returns-clause-answer
 returns-clause-answer c = grind (arith, common_steps)
+
+pub returns-clause-frame : goal.returns-clause-frame
+returns-clause-frame c = grind (arith, common_steps)
+
+pub returns-clause-later : goal.returns-clause-later
+returns-clause-later c = grind (arith, common_steps)
+
+pub returns-then-not-is_cheaper-clause-frame : goal.returns-then-not-is_cheaper-clause-frame
+returns-then-not-is_cheaper-clause-frame c = grind (arith, common_steps)
+
+pub returns-then-not-is_cheaper-clause-after : goal.returns-then-not-is_cheaper-clause-after
+returns-then-not-is_cheaper-clause-after c = grind (arith, common_steps)
+
+pub returns-then-not-is_cheaper-clause-region : goal.returns-then-not-is_cheaper-clause-region
+returns-then-not-is_cheaper-clause-region c = grind (arith, common_steps)

@@ -96,3 +96,6 @@ returns-in-Err-clause-judged c = grind (arith, common_steps)
 
 pub returns-then-values-columns-clause-judged : goal.returns-then-values-columns-clause-judged
 returns-then-values-columns-clause-judged c = grind (arith, common_steps)
+
+pub returns-in-Err-NoMemory-clause-judged : goal.returns-in-Err-NoMemory-clause-judged
+returns-in-Err-NoMemory-clause-judged c = grind (arith, common_steps)

@@ -29,3 +29,15 @@ hold-requires-clause-at_work c = c.requires.at_work
 
 pub returns-in-Feasible-clause-answer : goal.returns-in-Feasible-clause-answer
 returns-in-Feasible-clause-answer c = grind (arith, common_steps)
+
+pub returns-in-Feasible-clause-region : goal.returns-in-Feasible-clause-region
+returns-in-Feasible-clause-region c = grind (arith, common_steps)
+
+pub returns-in-Feasible-clause-frame : goal.returns-in-Feasible-clause-frame
+returns-in-Feasible-clause-frame c = grind (arith, common_steps)
+
+pub returns-in-Feasible-clause-after : goal.returns-in-Feasible-clause-after
+returns-in-Feasible-clause-after c = grind (arith, common_steps)
+
+pub returns-in-Feasible-clause-later : goal.returns-in-Feasible-clause-later
+returns-in-Feasible-clause-later c = grind (arith, common_steps)

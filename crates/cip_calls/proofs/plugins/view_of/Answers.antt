@@ -26,3 +26,6 @@ returns-clause-bounds c = grind (arith, common_steps)
 
 pub returns-clause-held : goal.returns-clause-held
 returns-clause-held c = grind (arith, common_steps)
+
+pub returns-clause-node : goal.returns-clause-node
+returns-clause-node c = grind (arith, common_steps)

@@ -54,3 +54,9 @@ returns-in-Ok-clause-ruled c = grind (arith, common_steps)
 
 pub go_back-requires-clause-up : goal.go_back-requires-clause-up
 go_back-requires-clause-up c = grind (arith, common_steps)
+
+pub returns-in_err-low-clause-scratches : goal.returns-in_err-low-clause-scratches
+returns-in_err-low-clause-scratches c = grind (arith, common_steps)
+
+pub judge_split-requires-clause-wholes : goal.judge_split-requires-clause-wholes
+judge_split-requires-clause-wholes c = grind (arith, common_steps)

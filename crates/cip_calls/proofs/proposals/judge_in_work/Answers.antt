@@ -1,4 +1,5 @@
-use Rattle.std.proofs.Common.{◌≡◌, None, IfOk, sym, ◌∙◌, subst}
+use Rattle.std.proofs.lemmas.Grind.{common_steps}
+use Rattle.std.proofs.Common.{◌≡◌, None, IfOk, sym, ◌∙◌, subst, arith}
 use Rattle.cip_plugin.specs.declared.proposals.Proposal.{Proposal}
 use Rattle.cip_calls.specs.ProposalsJudged.{IsJudged, split_in}
 use Rattle.cip_calls.proofs.Going.{cut_judged, cut_result, cut_err, side_judged, side_result, side_err, guess_judged, guess_result, guess_err}
@@ -114,3 +115,6 @@ returns-in-Enforcement-clause-later c = c.judge_said.ensures.later
 
 pub returns-in-Enforcement-clause-scratches : goal.returns-in-Enforcement-clause-scratches
 returns-in-Enforcement-clause-scratches c = c.judge_said.ensures.scratches
+
+pub unreachable-requires : goal.unreachable-requires
+unreachable-requires c = grind (arith, common_steps)

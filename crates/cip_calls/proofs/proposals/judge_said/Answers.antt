@@ -1,4 +1,5 @@
-use Rattle.std.proofs.Common.{IfOk, refl, sym, ◌∙◌, subst}
+use Rattle.std.proofs.lemmas.Grind.{common_steps}
+use Rattle.std.proofs.Common.{IfOk, refl, sym, ◌∙◌, subst, arith}
 use Rattle.cip_core.proofs.Relations.{later_at_itself}
 use Rattle.cip_plugin.specs.declared.proposals.Enforced.{Enforced}
 use Rattle.cip_calls.specs.ProposalsJudged.{IsSaid}
@@ -108,3 +109,21 @@ returns-in-Feasible-clause-goes_on c = word_goes_on c.args.core.now c.args.node.
 
 pub returns-in-Feasible-clause-later : goal.returns-in-Feasible-clause-later
 returns-in-Feasible-clause-later c = later_at_itself c.args.core.now c.args.node.now c.requires.at_work
+
+pub unreachable-requires : goal.unreachable-requires
+unreachable-requires c = grind (arith, common_steps)
+
+pub returns-in-Feasible-clause-err : goal.returns-in-Feasible-clause-err
+returns-in-Feasible-clause-err c = grind (arith, common_steps)
+
+pub returns-in-Infeasible-clause-err : goal.returns-in-Infeasible-clause-err
+returns-in-Infeasible-clause-err c = grind (arith, common_steps)
+
+pub returns-in-Cutoff-clause-err : goal.returns-in-Cutoff-clause-err
+returns-in-Cutoff-clause-err c = grind (arith, common_steps)
+
+pub returns-in-Feasible-clause-scratches : goal.returns-in-Feasible-clause-scratches
+returns-in-Feasible-clause-scratches c = grind (arith, common_steps)
+
+pub returns-in-Infeasible-clause-scratches : goal.returns-in-Infeasible-clause-scratches
+returns-in-Infeasible-clause-scratches c = grind (arith, common_steps)

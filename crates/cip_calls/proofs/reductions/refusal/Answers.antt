@@ -87,3 +87,6 @@ returns-in-Err-clause-shown c = grind (arith, common_steps)
 
 pub returns-in-Some-clause-shown : goal.returns-in-Some-clause-shown
 returns-in-Some-clause-shown c = grind (arith, common_steps)
+
+pub returns-in-Some-clause-room : goal.returns-in-Some-clause-room
+returns-in-Some-clause-room c = grind (arith, common_steps)

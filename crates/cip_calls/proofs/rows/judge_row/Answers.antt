@@ -17,3 +17,18 @@ returns-in-Ok-Refused-clause-judged c = grind (arith, common_steps)
 
 pub returns-in-Ok-Refused-clause-frame : goal.returns-in-Ok-Refused-clause-frame
 returns-in-Ok-Refused-clause-frame c = grind (arith, common_steps)
+
+pub returns-in-Ok-Refused-clause-later : goal.returns-in-Ok-Refused-clause-later
+returns-in-Ok-Refused-clause-later c = grind (arith, common_steps)
+
+pub returns-in-Ok-Told-clause-frame : goal.returns-in-Ok-Told-clause-frame
+returns-in-Ok-Told-clause-frame c = grind (arith, common_steps)
+
+pub returns-in-Ok-Told-clause-later : goal.returns-in-Ok-Told-clause-later
+returns-in-Ok-Told-clause-later c = grind (arith, common_steps)
+
+pub returns-in-Err-clause-frame : goal.returns-in-Err-clause-frame
+returns-in-Err-clause-frame c = grind (arith, common_steps)
+
+pub returns-in-Err-clause-later : goal.returns-in-Err-clause-later
+returns-in-Err-clause-later c = grind (arith, common_steps)

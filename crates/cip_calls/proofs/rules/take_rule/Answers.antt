@@ -28,3 +28,27 @@ returns-in_default-clause-judged g c = grind (arith, common_steps)
 
 pub finish-requires-clause-seat : goal.finish-requires-clause-seat
 finish-requires-clause-seat g c = grind (arith, common_steps)
+
+pub returns-clause-place : goal.returns-clause-place
+returns-clause-place g c = grind (arith, common_steps)
+
+pub returns-clause-judged : goal.returns-clause-judged
+returns-clause-judged g c = grind (arith, common_steps)
+
+pub split_refusal-requires : goal.split_refusal-requires
+split_refusal-requires g c = grind (arith, common_steps)
+
+pub returns-in_default-clause-sound : goal.returns-in_default-clause-sound
+returns-in_default-clause-sound g c = grind (arith, common_steps)
+
+pub returns-in_err-reserve-clause-noted : goal.returns-in_err-reserve-clause-noted
+returns-in_err-reserve-clause-noted g c = grind (arith, common_steps)
+
+pub returns-in_err-reserve-clause-scratches : goal.returns-in_err-reserve-clause-scratches
+returns-in_err-reserve-clause-scratches g c = grind (arith, common_steps)
+
+pub returns-in_default-clause-place : goal.returns-in_default-clause-place
+returns-in_default-clause-place g c = grind (arith, common_steps)
+
+pub returns-in_default-clause-scratches : goal.returns-in_default-clause-scratches
+returns-in_default-clause-scratches g c = grind (arith, common_steps)

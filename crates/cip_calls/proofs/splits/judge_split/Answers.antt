@@ -29,3 +29,6 @@ returns-in-Some-clause-judged c = grind (arith, common_steps)
 
 pub returns-clause-frame : goal.returns-clause-frame
 returns-clause-frame c = grind (arith, common_steps)
+
+pub returns-in-Some-clause-frame : goal.returns-in-Some-clause-frame
+returns-in-Some-clause-frame c = grind (arith, common_steps)

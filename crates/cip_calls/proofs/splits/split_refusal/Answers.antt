@@ -100,3 +100,12 @@ pub bounds-whole-split : goal.bounds-whole-split
 bounds-whole-split c =
     let named : IsNamed c.args.core.now c.args.split.col c.args.split.at = record { inside = grind (arith, common_steps); near = grind (arith, common_steps) } in
     subst (λ n. c.args.split.col < n) (sym (ap length c.whole.ensures.whole ∙ c.whole.ensures.formed.integral ∙ ap columns c.reduced-2.ensures)) named.inside
+
+pub returns-then-split-columns : goal.returns-then-split-columns
+returns-then-split-columns c = grind (arith, common_steps)
+
+pub overflow_cast-whole : goal.overflow_cast-whole
+overflow_cast-whole c = grind (arith, common_steps)
+
+pub overflow_cast-split : goal.overflow_cast-split
+overflow_cast-split c = grind (arith, common_steps)

@@ -25,3 +25,15 @@ returns-in-Emptied-clause-gone g c = grind (arith, common_steps)
 
 pub returns-in-Accepted-clause-gone : goal.returns-in-Accepted-clause-gone
 returns-in-Accepted-clause-gone g c = grind (arith, common_steps)
+
+pub take_side-requires-clause-ready : goal.take_side-requires-clause-ready
+take_side-requires-clause-ready g c = grind (arith, common_steps)
+
+pub returns-in-Accepted-clause-verdict : goal.returns-in-Accepted-clause-verdict
+returns-in-Accepted-clause-verdict g c = grind (arith, common_steps)
+
+pub take_side-requires-clause-sound : goal.take_side-requires-clause-sound
+take_side-requires-clause-sound g c = grind (arith, common_steps)
+
+pub take_side-requires-clause-seat : goal.take_side-requires-clause-seat
+take_side-requires-clause-seat g c = grind (arith, common_steps)

@@ -40,3 +40,12 @@ returns-in-Separated-clause-judged g c = grind (arith, common_steps)
 
 pub returns-in-Reduced-clause-verdict : goal.returns-in-Reduced-clause-verdict
 returns-in-Reduced-clause-verdict g c = grind (arith, common_steps)
+
+pub returns-in-Reduced-clause-judged : goal.returns-in-Reduced-clause-judged
+returns-in-Reduced-clause-judged g c = grind (arith, common_steps)
+
+pub returns-in-Separated-clause-gone : goal.returns-in-Separated-clause-gone
+returns-in-Separated-clause-gone g c = grind (arith, common_steps)
+
+pub returns-in-Reduced-clause-gone : goal.returns-in-Reduced-clause-gone
+returns-in-Reduced-clause-gone g c = grind (arith, common_steps)

@@ -17,3 +17,15 @@ returns-in-Accepted-clause-judged g c = grind (arith, common_steps)
 
 pub returns-in-Accepted-clause-gone : goal.returns-in-Accepted-clause-gone
 returns-in-Accepted-clause-gone g c = grind (arith, common_steps)
+
+pub take_cut-requires-clause-ready : goal.take_cut-requires-clause-ready
+take_cut-requires-clause-ready g c = grind (arith, common_steps)
+
+pub returns-in-Accepted-clause-verdict : goal.returns-in-Accepted-clause-verdict
+returns-in-Accepted-clause-verdict g c = grind (arith, common_steps)
+
+pub take_cut-requires-clause-sound : goal.take_cut-requires-clause-sound
+take_cut-requires-clause-sound g c = grind (arith, common_steps)
+
+pub take_cut-requires-clause-seat : goal.take_cut-requires-clause-seat
+take_cut-requires-clause-seat g c = grind (arith, common_steps)

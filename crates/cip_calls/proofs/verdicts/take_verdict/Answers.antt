@@ -23,3 +23,9 @@ returns-in-Some-clause-verdict g c = grind (arith, common_steps)
 
 pub returns-in-Some-clause-gone : goal.returns-in-Some-clause-gone
 returns-in-Some-clause-gone g c = grind (arith, common_steps)
+
+pub take_said-verdict-requires-clause-ready : goal.take_said-verdict-requires-clause-ready
+take_said-verdict-requires-clause-ready g c = grind (arith, common_steps)
+
+pub take_said-verdict-requires-clause-seat : goal.take_said-verdict-requires-clause-seat
+take_said-verdict-requires-clause-seat g c = grind (arith, common_steps)

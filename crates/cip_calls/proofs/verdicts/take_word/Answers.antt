@@ -32,3 +32,6 @@ returns-clause-judged g c = grind (arith, common_steps)
 
 pub returns-clause-verdict : goal.returns-clause-verdict
 returns-clause-verdict g c = grind (arith, common_steps)
+
+pub finish-requires-clause-seat : goal.finish-requires-clause-seat
+finish-requires-clause-seat g c = grind (arith, common_steps)

@@ -16,3 +16,15 @@ loop-at-init c = grind (arith, common_steps)
 
 pub returns : goal.returns
 returns c = grind (arith, common_steps)
+
+pub overflow_cast-at : goal.overflow_cast-at
+overflow_cast-at c = grind (arith, common_steps)
+
+pub bounds-costs-at : goal.bounds-costs-at
+bounds-costs-at c = grind (arith, common_steps)
+
+pub offset_bounds-costs-at : goal.offset_bounds-costs-at
+offset_bounds-costs-at c = grind (arith, common_steps)
+
+pub same-row : goal.same-row
+same-row c = grind (arith, common_steps)

@@ -4,3 +4,6 @@ use Rattle.cip_core.proofs.offering.set_side.Goals as goal
 
 pub returns-in-Some : goal.returns-in-Some
 returns-in-Some c = grind (arith, common_steps)
+
+pub returns-in_default : goal.returns-in_default
+returns-in_default c = grind (arith, common_steps)

@@ -1,3 +1,4 @@
+use Rattle.std.proofs.lemmas.Grind.{common_steps}
 use Rattle.std.proofs.Common.{◌≡◌, ◌∙◌, sym, ap, arith}
 use Rattle.cip_rational.specs.Rational.{inverse}
 use Rattle.cip_rational.proofs.Rational.Inverse.{inverse_nonzero}
@@ -109,3 +110,15 @@ returns-in-Ok-write_values-clause-long c = c.write_values.ensures.long
 
 pub returns-in-Err-write_values-clause-long : goal.returns-in-Err-write_values-clause-long
 returns-in-Err-write_values-clause-long c = c.write_values.ensures.long
+
+pub entry-entry-requires : goal.entry-entry-requires
+entry-entry-requires c = grind (arith, common_steps)
+
+pub bounds-rows-asked : goal.bounds-rows-asked
+bounds-rows-asked c = grind (arith, common_steps)
+
+pub offset_bounds-rows-asked : goal.offset_bounds-rows-asked
+offset_bounds-rows-asked c = grind (arith, common_steps)
+
+pub overflow_cast-asked : goal.overflow_cast-asked
+overflow_cast-asked c = grind (arith, common_steps)

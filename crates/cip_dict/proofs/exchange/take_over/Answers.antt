@@ -1,3 +1,4 @@
+use Rattle.std.proofs.lemmas.Grind.{common_steps}
 use Rattle.std.proofs.Common.{◌∙◌, ap, refl, length, arith}
 use Rattle.cip_bland.proofs.Tables.{length-table}
 use Rattle.cip_dict.specs.Values.{taken_value}
@@ -63,3 +64,18 @@ returns c =
       rest_costs = c.swap.ensures.y_after;
       rest_values = c.requires.room_long.values;
     }
+
+pub overflow_cast-asked-2 : goal.overflow_cast-asked-2
+overflow_cast-asked-2 c = grind (arith, common_steps)
+
+pub overflow_cast-asked : goal.overflow_cast-asked
+overflow_cast-asked c = grind (arith, common_steps)
+
+pub way_back_following-room : goal.way_back_following-room
+way_back_following-room c = grind (arith, common_steps)
+
+pub way_back_following-lists : goal.way_back_following-lists
+way_back_following-lists c = grind (arith, common_steps)
+
+pub way_back_following-lists-2 : goal.way_back_following-lists-2
+way_back_following-lists-2 c = grind (arith, common_steps)

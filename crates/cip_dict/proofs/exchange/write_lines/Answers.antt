@@ -46,3 +46,48 @@ write_others-requires-clause-is_entering c =
     let r : c.index-rows-pivot.result ≡ row_in c.args.lists.now.rows.items c.args.pivot.now.leaving = row_read c.args.lists.now.rows.items c.args.pivot.now.leaving c.index-rows-pivot.result there is in
     let h = rw r at c.in-Ok.ensures.written in
     h.1
+
+pub write_others-requires-clause-room_long : goal.write_others-requires-clause-room_long
+write_others-requires-clause-room_long c = grind (arith, common_steps)
+
+pub write_others-requires-clause-lists_long : goal.write_others-requires-clause-lists_long
+write_others-requires-clause-lists_long c = grind (arith, common_steps)
+
+pub write_others-requires-clause-is_spelled : goal.write_others-requires-clause-is_spelled
+write_others-requires-clause-is_spelled c = grind (arith, common_steps)
+
+pub returns-in-Err-count_room-clause-long : goal.returns-in-Err-count_room-clause-long
+returns-in-Err-count_room-clause-long c = grind (arith, common_steps)
+
+pub returns-clause-long : goal.returns-clause-long
+returns-clause-long c = grind (arith, common_steps)
+
+pub returns-in-Err-clause-long : goal.returns-in-Err-clause-long
+returns-in-Err-clause-long c = grind (arith, common_steps)
+
+pub write_others-requires-clause-leaving : goal.write_others-requires-clause-leaving
+write_others-requires-clause-leaving c = grind (arith, common_steps)
+
+pub write_others-requires-clause-entering : goal.write_others-requires-clause-entering
+write_others-requires-clause-entering c = grind (arith, common_steps)
+
+pub write_others-requires-clause-few : goal.write_others-requires-clause-few
+write_others-requires-clause-few c = grind (arith, common_steps)
+
+pub write_solved-requires-clause-leaving : goal.write_solved-requires-clause-leaving
+write_solved-requires-clause-leaving c = grind (arith, common_steps)
+
+pub write_solved-requires-clause-entering : goal.write_solved-requires-clause-entering
+write_solved-requires-clause-entering c = grind (arith, common_steps)
+
+pub write_solved-requires-clause-few : goal.write_solved-requires-clause-few
+write_solved-requires-clause-few c = grind (arith, common_steps)
+
+pub bounds-rows-pivot : goal.bounds-rows-pivot
+bounds-rows-pivot c = grind (arith, common_steps)
+
+pub offset_bounds-rows-pivot : goal.offset_bounds-rows-pivot
+offset_bounds-rows-pivot c = grind (arith, common_steps)
+
+pub write_solved-requires-clause-nonzero : goal.write_solved-requires-clause-nonzero
+write_solved-requires-clause-nonzero c = grind (arith, common_steps)

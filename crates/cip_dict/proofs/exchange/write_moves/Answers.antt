@@ -53,3 +53,21 @@ returns-clause-written c =
 
 pub write_moved-requires-clause-rows_long : goal.write_moved-requires-clause-rows_long
 write_moved-requires-clause-rows_long c = grind (arith, common_steps)
+
+pub write_moved-requires-clause-values_long : goal.write_moved-requires-clause-values_long
+write_moved-requires-clause-values_long c = grind (arith, common_steps)
+
+pub entry-entry-requires : goal.entry-entry-requires
+entry-entry-requires c = grind (arith, common_steps)
+
+pub write_moved-requires-clause-entering : goal.write_moved-requires-clause-entering
+write_moved-requires-clause-entering c = grind (arith, common_steps)
+
+pub write_moved-requires-clause-out_long : goal.write_moved-requires-clause-out_long
+write_moved-requires-clause-out_long c = grind (arith, common_steps)
+
+pub write_moved-requires-clause-marked : goal.write_moved-requires-clause-marked
+write_moved-requires-clause-marked c = grind (arith, common_steps)
+
+pub write_moved-requires-clause-few : goal.write_moved-requires-clause-few
+write_moved-requires-clause-few c = grind (arith, common_steps)

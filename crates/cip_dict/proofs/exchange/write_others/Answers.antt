@@ -1,3 +1,4 @@
+use Rattle.std.proofs.lemmas.Grind.{common_steps}
 use Rattle.std.proofs.Common.{◌∙◌, sym, ap, length, refl, arith}
 use Rattle.cip_problem.specs.Activity.{value_at}
 use Rattle.cip_bland.specs.Operations.{first_overflow}
@@ -74,3 +75,36 @@ write_costs-requires-clause-costs_long c = omega arith
 
 pub write_costs-requires-clause-new_long : goal.write_costs-requires-clause-new_long
 write_costs-requires-clause-new_long c = omega arith
+
+pub write_costs-requires-clause-entering : goal.write_costs-requires-clause-entering
+write_costs-requires-clause-entering c = grind (arith, common_steps)
+
+pub write_costs-requires-clause-leaving : goal.write_costs-requires-clause-leaving
+write_costs-requires-clause-leaving c = grind (arith, common_steps)
+
+pub write_rows-requires-clause-new_long : goal.write_rows-requires-clause-new_long
+write_rows-requires-clause-new_long c = grind (arith, common_steps)
+
+pub write_costs-requires-clause-few : goal.write_costs-requires-clause-few
+write_costs-requires-clause-few c = grind (arith, common_steps)
+
+pub write_costs-requires-clause-new_spelled : goal.write_costs-requires-clause-new_spelled
+write_costs-requires-clause-new_spelled c = grind (arith, common_steps)
+
+pub write_rows-requires-clause-entering : goal.write_rows-requires-clause-entering
+write_rows-requires-clause-entering c = grind (arith, common_steps)
+
+pub write_rows-requires-clause-leaving : goal.write_rows-requires-clause-leaving
+write_rows-requires-clause-leaving c = grind (arith, common_steps)
+
+pub write_rows-requires-clause-few : goal.write_rows-requires-clause-few
+write_rows-requires-clause-few c = grind (arith, common_steps)
+
+pub write_rows-requires-clause-new_spelled : goal.write_rows-requires-clause-new_spelled
+write_rows-requires-clause-new_spelled c = grind (arith, common_steps)
+
+pub way_back_beside_following-room-2 : goal.way_back_beside_following-room-2
+way_back_beside_following-room-2 c = grind (arith, common_steps)
+
+pub way_back_beside_following-room : goal.way_back_beside_following-room
+way_back_beside_following-room c = grind (arith, common_steps)

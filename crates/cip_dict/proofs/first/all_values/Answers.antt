@@ -39,3 +39,21 @@ loop-k-preserved c =
     let read : c.index-columns-k.result ≡ sides_at c.args.columns.now c.loop-k.k = c.index-columns-k.is ∙ get_or_default c.args.columns.now c.loop-k.k c.index-columns-k.result no_sides c.loop-k-test.true in
     let value = c.value_at_stand.ensures ∙ ap (standing_value c.index-columns-k.result) c.first_stand.ensures ∙ ap (λ sides. standing_value sides (first_stand sides)) read in
     c.in-Ok.ensures.items ∙ ap₂ (λ xs x. xs ++ x ∷ []) c.loop-k.invariant value ∙ sym (table_more c.loop-k.k _)
+
+pub rows_and_cost-found-requires-clause-count : goal.rows_and_cost-found-requires-clause-count
+rows_and_cost-found-requires-clause-count c = grind (arith, common_steps)
+
+pub rows_and_cost-found-requires-clause-costs_long : goal.rows_and_cost-found-requires-clause-costs_long
+rows_and_cost-found-requires-clause-costs_long c = grind (arith, common_steps)
+
+pub rows_and_cost-found-requires-clause-few : goal.rows_and_cost-found-requires-clause-few
+rows_and_cost-found-requires-clause-few c = grind (arith, common_steps)
+
+pub bounds-columns-k : goal.bounds-columns-k
+bounds-columns-k c = grind (arith, common_steps)
+
+pub offset_bounds-columns-k : goal.offset_bounds-columns-k
+offset_bounds-columns-k c = grind (arith, common_steps)
+
+pub returns-in_default : goal.returns-in_default
+returns-in_default c = grind (arith, common_steps)

@@ -1,4 +1,5 @@
-use Rattle.std.proofs.Common.{◌∙◌, ◌++◌, ◌∷◌, [], sym, ap₂}
+use Rattle.std.proofs.lemmas.Grind.{common_steps}
+use Rattle.std.proofs.Common.{◌∙◌, ◌++◌, ◌∷◌, [], sym, ap₂, arith}
 use Rattle.cip_dict.proofs.Grown.{table_none, table_more}
 use Rattle.cip_dict.proofs.first.empty_rows.Goals as goal
 
@@ -7,3 +8,9 @@ loop-v-init c = c.emptied-rows.ensures ∙ table_none _
 
 pub loop-v-preserved : goal.loop-v-preserved
 loop-v-preserved c = c.in-Ok.ensures.items ∙ ap₂ (λ xs x. xs ++ x ∷ []) c.loop-v.invariant c.empty_row-row.ensures ∙ sym (table_more c.loop-v.v _)
+
+pub empty_row-row-requires : goal.empty_row-row-requires
+empty_row-row-requires c = grind (arith, common_steps)
+
+pub returns-in_default : goal.returns-in_default
+returns-in_default c = grind (arith, common_steps)

@@ -1,4 +1,5 @@
-use Rattle.std.proofs.Common.{◌≡◌, ◌∙◌, ◌++◌, ap, length}
+use Rattle.std.proofs.lemmas.Grind.{common_steps}
+use Rattle.std.proofs.Common.{◌≡◌, ◌∙◌, ◌++◌, ap, length, arith}
 use Rattle.cip_dict.specs.State.{state}
 use Rattle.cip_dict.proofs.first.first_lists.Goals as goal
 
@@ -23,3 +24,15 @@ returns-in-Ok-room_for c =
       },
       c.in-Ok-room_for.ensures,
     )
+
+pub lists_for-requires-clause-within : goal.lists_for-requires-clause-within
+lists_for-requires-clause-within c = grind (arith, common_steps)
+
+pub lists_for-requires-clause-costs_long : goal.lists_for-requires-clause-costs_long
+lists_for-requires-clause-costs_long c = grind (arith, common_steps)
+
+pub lists_for-requires-clause-few : goal.lists_for-requires-clause-few
+lists_for-requires-clause-few c = grind (arith, common_steps)
+
+pub lists_for-requires-clause-stands : goal.lists_for-requires-clause-stands
+lists_for-requires-clause-stands c = grind (arith, common_steps)

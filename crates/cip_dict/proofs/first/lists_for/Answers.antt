@@ -1,3 +1,4 @@
+use Rattle.std.proofs.lemmas.Grind.{common_steps}
 use Rattle.std.proofs.Common.{◌≡◌, ◌∙◌, ◌+◌, refl, ap, ap₂, sym, subst, length, length-append, arith}
 use Rattle.cip_bland.specs.Tables.{table}
 use Rattle.cip_bland.specs.Operations.{first_overflow}
@@ -51,3 +52,15 @@ all_costs-requires-clause-few c =
 pub all_costs-requires-clause-columns : goal.all_costs-requires-clause-columns
 all_costs-requires-clause-columns c =
     omega (arith, c.requires.costs_long, standing_long c.args.system.now.columns.now (length c.args.system.now.rows.now) c.args.standing.now c.requires.stands)
+
+pub first_rows-requires-clause-within : goal.first_rows-requires-clause-within
+first_rows-requires-clause-within c = grind (arith, common_steps)
+
+pub all_values-requires-clause-few : goal.all_values-requires-clause-few
+all_values-requires-clause-few c = grind (arith, common_steps)
+
+pub first_rows-requires-clause-few : goal.first_rows-requires-clause-few
+first_rows-requires-clause-few c = grind (arith, common_steps)
+
+pub first_rows-requires-clause-stands : goal.first_rows-requires-clause-stands
+first_rows-requires-clause-stands c = grind (arith, common_steps)

@@ -1,3 +1,4 @@
+use Rattle.std.proofs.lemmas.Grind.{common_steps}
 use Rattle.std.proofs.Common.{◌≡◌, ◌∙◌, ◌+◌, ◌<◌, sym, ap, subst, length, arith, length-set, set}
 use Rattle.cip_dict.specs.Entries.{Entry}
 use Rattle.cip_dict.specs.Row.{row_in}
@@ -31,3 +32,30 @@ set-requires c =
     let same_long = c.loop-entry.invariant.long (c.args.columns + e.0) in
     let at_least = c.requires.long (c.args.columns + e.0) (omega arith) (omega (arith, within.0, c.requires.count)) in
     rw (sym c.index-rows-columns.is ∙ row_read c.loop-entry.rows (c.args.columns + e.0) c.index-rows-columns.result row_there c.index-rows-columns.is) (omega (arith, within.1, same_long, at_least))
+
+pub returns-in_err-set-clause-count : goal.returns-in_err-set-clause-count
+returns-in_err-set-clause-count c = grind (arith, common_steps)
+
+pub returns-clause-put : goal.returns-clause-put
+returns-clause-put c = grind (arith, common_steps)
+
+pub returns-clause-long : goal.returns-clause-long
+returns-clause-long c = grind (arith, common_steps)
+
+pub offset_bounds-rows-columns : goal.offset_bounds-rows-columns
+offset_bounds-rows-columns c = grind (arith, common_steps)
+
+pub returns-clause-rest : goal.returns-clause-rest
+returns-clause-rest c = grind (arith, common_steps)
+
+pub overflow_add-row : goal.overflow_add-row
+overflow_add-row c = grind (arith, common_steps)
+
+pub returns-clause-count : goal.returns-clause-count
+returns-clause-count c = grind (arith, common_steps)
+
+pub loop-entry-init : goal.loop-entry-init
+loop-entry-init c = grind (arith, common_steps)
+
+pub offset_bounds-entries-entry-index : goal.offset_bounds-entries-entry-index
+offset_bounds-entries-entry-index c = grind (arith, common_steps)

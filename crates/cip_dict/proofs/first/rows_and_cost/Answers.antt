@@ -1,3 +1,4 @@
+use Rattle.std.proofs.lemmas.Grind.{common_steps}
 use Rattle.std.proofs.Common.{◌≡◌, ◌<◌, ◌+◌, ◌∙◌, length, arith, ◌++◌, ◌∷◌, [], refl, sym, ap, ap₂, append_assoc, append-nil}
 use Rattle.cip_bland.specs.Tables.{table}
 use Rattle.cip_bland.proofs.Overflow.{first_more, first_at, overflow-append, overflow-found}
@@ -40,3 +41,36 @@ returns-in-Err-value c =
     let end : c.loop-r.r ≡ c.args.m = omega arith in
     let fits = rw end at c.loop-r.invariant.fits in
     overflow-append _ _ fits ∙ c.in-Err-value.ensures
+
+pub value-requires-clause-values_long : goal.value-requires-clause-values_long
+value-requires-clause-values_long c = grind (arith, common_steps)
+
+pub value-requires-clause-few : goal.value-requires-clause-few
+value-requires-clause-few c = grind (arith, common_steps)
+
+pub bounds-rows-columns : goal.bounds-rows-columns
+bounds-rows-columns c = grind (arith, common_steps)
+
+pub offset_bounds-rows-columns : goal.offset_bounds-rows-columns
+offset_bounds-rows-columns c = grind (arith, common_steps)
+
+pub overflow_add-columns : goal.overflow_add-columns
+overflow_add-columns c = grind (arith, common_steps)
+
+pub overflow_cast-line : goal.overflow_cast-line
+overflow_cast-line c = grind (arith, common_steps)
+
+pub value-requires-2-clause-few : goal.value-requires-2-clause-few
+value-requires-2-clause-few c = grind (arith, common_steps)
+
+pub overflow_add-line : goal.overflow_add-line
+overflow_add-line c = grind (arith, common_steps)
+
+pub value-requires-2-clause-values_long : goal.value-requires-2-clause-values_long
+value-requires-2-clause-values_long c = grind (arith, common_steps)
+
+pub value-requires-2-clause-row_long : goal.value-requires-2-clause-row_long
+value-requires-2-clause-row_long c = grind (arith, common_steps)
+
+pub returns-in-Err-push : goal.returns-in-Err-push
+returns-in-Err-push c = grind (arith, common_steps)

@@ -1,3 +1,4 @@
+use Rattle.std.proofs.lemmas.Grind.{common_steps}
 use Rattle.std.proofs.Common.{◌≡◌, sym, ap, length, arith}
 use Rattle.cip_bland.specs.MoveOperations.{first_line}
 use Rattle.cip_dict.specs.Lists.{basic_in}
@@ -14,3 +15,9 @@ pub returns : goal.returns
 returns c =
     let end : c.loop-v.v ≡ length c.args.standing.now = omega arith in
     sym (ap first_line (rw end at c.loop-v.invariant))
+
+pub overflow_cast-result : goal.overflow_cast-result
+overflow_cast-result c = grind (arith, common_steps)
+
+pub is_basic-requires : goal.is_basic-requires
+is_basic-requires c = grind (arith, common_steps)

@@ -1,3 +1,4 @@
+use Rattle.std.proofs.lemmas.Grind.{common_steps}
 use Rattle.std.proofs.Common.{◌≡◌, ◌∙◌, ap, length, [], ◌∷◌, arith}
 use Rattle.cip_problem.specs.Activity.{value_at}
 use Rattle.cip_problem.specs.Box.{sides_at}
@@ -48,3 +49,24 @@ write_flips-requires-clause-lists_long c = c.requires.lists_long
 
 pub write_flips-requires-clause-room_long : goal.write_flips-requires-clause-room_long
 write_flips-requires-clause-room_long c = c.requires.room_long
+
+pub returns-in-Err-clause-long : goal.returns-in-Err-clause-long
+returns-in-Err-clause-long c = grind (arith, common_steps)
+
+pub returns-in-Ok-clause-long : goal.returns-in-Ok-clause-long
+returns-in-Ok-clause-long c = grind (arith, common_steps)
+
+pub number_at-value-requires : goal.number_at-value-requires
+number_at-value-requires c = grind (arith, common_steps)
+
+pub side_of-side-requires : goal.side_of-side-requires
+side_of-side-requires c = grind (arith, common_steps)
+
+pub first_basic-requires : goal.first_basic-requires
+first_basic-requires c = grind (arith, common_steps)
+
+pub bounds-standing-j : goal.bounds-standing-j
+bounds-standing-j c = grind (arith, common_steps)
+
+pub offset_bounds-standing-j : goal.offset_bounds-standing-j
+offset_bounds-standing-j c = grind (arith, common_steps)

@@ -53,3 +53,24 @@ returns-clause-long c =
 
 pub write_flipped-requires-clause-arrives : goal.write_flipped-requires-clause-arrives
 write_flipped-requires-clause-arrives c = grind (arith, common_steps)
+
+pub write_flipped-requires-clause-rows_long : goal.write_flipped-requires-clause-rows_long
+write_flipped-requires-clause-rows_long c = grind (arith, common_steps)
+
+pub entry-entry-requires : goal.entry-entry-requires
+entry-entry-requires c = grind (arith, common_steps)
+
+pub write_flipped-requires-clause-values_long : goal.write_flipped-requires-clause-values_long
+write_flipped-requires-clause-values_long c = grind (arith, common_steps)
+
+pub write_flipped-requires-clause-flips : goal.write_flipped-requires-clause-flips
+write_flipped-requires-clause-flips c = grind (arith, common_steps)
+
+pub write_flipped-requires-clause-out_long : goal.write_flipped-requires-clause-out_long
+write_flipped-requires-clause-out_long c = grind (arith, common_steps)
+
+pub write_flipped-requires-clause-few : goal.write_flipped-requires-clause-few
+write_flipped-requires-clause-few c = grind (arith, common_steps)
+
+pub write_flipped-requires-clause-nonbasic : goal.write_flipped-requires-clause-nonbasic
+write_flipped-requires-clause-nonbasic c = grind (arith, common_steps)

@@ -44,3 +44,12 @@ places-smaller c = omega arith
 
 pub number_at-value-requires : goal.number_at-value-requires
 number_at-value-requires c = grind (arith, common_steps)
+
+pub bounds-entries-place : goal.bounds-entries-place
+bounds-entries-place c = grind (arith, common_steps)
+
+pub offset_bounds-entries-place : goal.offset_bounds-entries-place
+offset_bounds-entries-place c = grind (arith, common_steps)
+
+pub overflow_cast-entry : goal.overflow_cast-entry
+overflow_cast-entry c = grind (arith, common_steps)

@@ -1,4 +1,5 @@
-use Rattle.std.proofs.Common.{◌∙◌, sym}
+use Rattle.std.proofs.lemmas.Grind.{common_steps}
+use Rattle.std.proofs.Common.{◌∙◌, sym, arith}
 use Rattle.cip_dict.proofs.Places.{entry_hit, entry_miss}
 use Rattle.cip_dict.proofs.kept.entry_from.Goals as goal
 
@@ -9,3 +10,12 @@ returns-then-stands_at c =
 pub returns-else-stands_at : goal.returns-else-stands_at
 returns-else-stands_at c =
     c.zero.ensures ∙ sym (entry_miss c.args.k c.args.entries.now c.args.place 0 c.requires.kept.0 c.requires.kept.1 c.requires.at (λ d w. c.stands_at.ensures.no c.if-stands_at.false d w))
+
+pub bounds-entries-place-then-stands_at : goal.bounds-entries-place-then-stands_at
+bounds-entries-place-then-stands_at c = grind (arith, common_steps)
+
+pub bounds-entries-place : goal.bounds-entries-place
+bounds-entries-place c = grind (arith, common_steps)
+
+pub offset_bounds-entries-place : goal.offset_bounds-entries-place
+offset_bounds-entries-place c = grind (arith, common_steps)

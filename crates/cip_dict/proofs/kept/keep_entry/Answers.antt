@@ -4,3 +4,12 @@ use Rattle.cip_dict.proofs.kept.keep_entry.Goals as goal
 
 pub returns-in_ok-push-clause-kept : goal.returns-in_ok-push-clause-kept
 returns-in_ok-push-clause-kept c = grind (arith, common_steps)
+
+pub returns-else-not-vanishes-clause-kept : goal.returns-else-not-vanishes-clause-kept
+returns-else-not-vanishes-clause-kept c = grind (arith, common_steps)
+
+pub returns-in_ok-push-clause-refused : goal.returns-in_ok-push-clause-refused
+returns-in_ok-push-clause-refused c = grind (arith, common_steps)
+
+pub returns-else-not-vanishes-clause-refused : goal.returns-else-not-vanishes-clause-refused
+returns-else-not-vanishes-clause-refused c = grind (arith, common_steps)

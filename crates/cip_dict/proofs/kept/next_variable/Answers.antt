@@ -1,3 +1,4 @@
+use Rattle.std.proofs.lemmas.Grind.{common_steps}
 use Rattle.std.proofs.Common.{arith}
 use Rattle.cip_dict.proofs.Places.{next_of}
 use Rattle.cip_dict.proofs.kept.next_variable.Goals as goal
@@ -15,3 +16,15 @@ returns-else-first-second-clause-next c =
     c.requires.row_kept c.variable_at-first.ensures.first c.variable_at-first.ensures.last
     c.requires.new_kept c.variable_at-second.ensures.first c.variable_at-second.ensures.last
     (omega (arith, c.if-first-second.false)) (omega arith) (λ from a b. b)
+
+pub returns-then-first-second-clause-within : goal.returns-then-first-second-clause-within
+returns-then-first-second-clause-within c = grind (arith, common_steps)
+
+pub returns-else-first-second-clause-within : goal.returns-else-first-second-clause-within
+returns-else-first-second-clause-within c = grind (arith, common_steps)
+
+pub variable_at-second-requires : goal.variable_at-second-requires
+variable_at-second-requires c = grind (arith, common_steps)
+
+pub variable_at-first-requires : goal.variable_at-first-requires
+variable_at-first-requires c = grind (arith, common_steps)

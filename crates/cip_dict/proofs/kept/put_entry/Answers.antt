@@ -1,3 +1,4 @@
+use Rattle.std.proofs.lemmas.Grind.{common_steps}
 use Rattle.std.proofs.Common.{◌≡◌, ◌≤◌, sym, length, arith}
 use Rattle.cip_rational.specs.Rational.{zeroℚ}
 use Rattle.cip_bland.proofs.Zeros.{nonzero_of}
@@ -70,3 +71,12 @@ returns-clause-kept c =
     let at : IsPlace c.args.k c.args.entries.now.items c.place_from-place.result = rw c.as_slice-2.ensures.value at c.place_from-place.ensures in
     let s = rw c.as_slice-3.ensures.value at c.stands_at-stands.ensures in
     λ n l h. rw c.in_ok-insert.ensures.items (insert_kept c.args.k c.args.entry c.args.entries.now.items c.place_from-place.result 0 n h at (omega arith) l (s.no c.if-stands.false) (nonzero_of c.args.entry (sym c.if-vanishes.ensures)))
+
+pub index_mut-requires : goal.index_mut-requires
+index_mut-requires c = grind (arith, common_steps)
+
+pub remove-gone-requires : goal.remove-gone-requires
+remove-gone-requires c = grind (arith, common_steps)
+
+pub returns-then-not-stands-clause-kept : goal.returns-then-not-stands-clause-kept
+returns-then-not-stands-clause-kept c = grind (arith, common_steps)

@@ -75,3 +75,12 @@ place_past-there-requires-clause-at c = c.loop-k.invariant.leaving_place
 
 pub loop-k-smaller : goal.loop-k-smaller
 loop-k-smaller c = grind (arith, common_steps)
+
+pub returns-clause-written : goal.returns-clause-written
+returns-clause-written c = grind (arith, common_steps)
+
+pub solved_entry-requires : goal.solved_entry-requires
+solved_entry-requires c = grind (arith, common_steps)
+
+pub overflow_cast-len : goal.overflow_cast-len
+overflow_cast-len c = grind (arith, common_steps)

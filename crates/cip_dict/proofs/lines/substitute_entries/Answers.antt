@@ -83,3 +83,9 @@ loop-k-smaller c = grind (arith, common_steps)
 
 pub returns-clause-written : goal.returns-clause-written
 returns-clause-written c = grind (arith, common_steps)
+
+pub substituted_entry-requires : goal.substituted_entry-requires
+substituted_entry-requires c = grind (arith, common_steps)
+
+pub overflow_cast-len : goal.overflow_cast-len
+overflow_cast-len c = grind (arith, common_steps)

@@ -90,3 +90,24 @@ returns-in-Ok-clause-written c =
     whole number (c.requires.pivot ∙ ap inverse (sym (whole_read c.row.inside.len c.row.inside.is_whole c.row.inside.below c.row.inside.wholes.items c.row.inside.entries.items c.args.row.now c.row.invariant c.row.view_is c.args.pivot.now.entering c.if-row.true (omega (arith, c.requires.entering, c.requires.row_long))))) c.requires.nonzero p (omega (arith, p, c.number_of-own.ensures.small)) sign.yes sign.no kept in
     let is_whole : IsWhole c.unsigned_abs-out-inside.result c.turn_entries.new.out.items = record { positive = t.0; small = omega (arith, p, c.number_of-own.ensures.small); numbers = c.in-Ok.ensures.small } in
     turn_written (length c.args.pivot.now.standing.now) (Row c.args.pivot.now.entering) (basic_in c.args.pivot.now.standing.now) c.args.pivot.now.leaving c.args.pivot.now.entering c.args.pivot.now.inverse c.args.row.now c.row.inside.len c.row.inside.below c.row.inside.wholes.items c.unsigned_abs-out-inside.result c.turn_entries.new.out.items (whole_view c.row.inside.len c.row.inside.is_whole c.row.inside.below c.row.inside.wholes.items c.row.inside.entries.items c.args.row.now c.row.invariant c.row.view_is c.if-row.true) c.requires.row_long t.1 t.2
+
+pub turn_entries-requires-clause-own_small : goal.turn_entries-requires-clause-own_small
+turn_entries-requires-clause-own_small c = grind (arith, common_steps)
+
+pub signed_below-positive-requires : goal.signed_below-positive-requires
+signed_below-positive-requires c = grind (arith, common_steps)
+
+pub turn_entries-requires-clause-few : goal.turn_entries-requires-clause-few
+turn_entries-requires-clause-few c = grind (arith, common_steps)
+
+pub solve_entries-requires-clause-few : goal.solve_entries-requires-clause-few
+solve_entries-requires-clause-few c = grind (arith, common_steps)
+
+pub turn_entries-requires-clause-leaves : goal.turn_entries-requires-clause-leaves
+turn_entries-requires-clause-leaves c = grind (arith, common_steps)
+
+pub solve_entries-requires-clause-leaves : goal.solve_entries-requires-clause-leaves
+solve_entries-requires-clause-leaves c = grind (arith, common_steps)
+
+pub returns-in-Err-clause-written : goal.returns-in-Err-clause-written
+returns-in-Err-clause-written c = grind (arith, common_steps)

@@ -1,3 +1,4 @@
+use Rattle.std.proofs.lemmas.Grind.{common_steps}
 use Rattle.std.proofs.Common.{◌∙◌, ℕ, length, refl, sym, subst, arith}
 use Rattle.cip_problem.specs.Activity.{value_at}
 use Rattle.cip_bland.specs.Exchange.{substituted}
@@ -38,3 +39,69 @@ returns-in-Err-spell-clause-long c = dense_long _ _
 
 pub returns-in-Ok-true-clause-written : goal.returns-in-Ok-true-clause-written
 returns-in-Ok-true-clause-written c = c.in-Ok-true.ensures.written c.in-Ok-true.field-0-test c.args.line
+
+pub invariant_of-out-2 : goal.invariant_of-out-2
+invariant_of-out-2 c = grind (arith, common_steps)
+
+pub invariant_of-out : goal.invariant_of-out
+invariant_of-out c = grind (arith, common_steps)
+
+pub substitute_entries-requires-clause-new_kept : goal.substitute_entries-requires-clause-new_kept
+substitute_entries-requires-clause-new_kept c = grind (arith, common_steps)
+
+pub substitute_entries-requires-clause-row_kept : goal.substitute_entries-requires-clause-row_kept
+substitute_entries-requires-clause-row_kept c = grind (arith, common_steps)
+
+pub returns-clause-spelled : goal.returns-clause-spelled
+returns-clause-spelled c = grind (arith, common_steps)
+
+pub returns-in-Err-spell-clause-spelled : goal.returns-in-Err-spell-clause-spelled
+returns-in-Err-spell-clause-spelled c = grind (arith, common_steps)
+
+pub entry-b-requires : goal.entry-b-requires
+entry-b-requires c = grind (arith, common_steps)
+
+pub returns-in-Err-ensure_spelled-clause-long : goal.returns-in-Err-ensure_spelled-clause-long
+returns-in-Err-ensure_spelled-clause-long c = grind (arith, common_steps)
+
+pub returns-in-Ok-true-clause-spelled : goal.returns-in-Ok-true-clause-spelled
+returns-in-Ok-true-clause-spelled c = grind (arith, common_steps)
+
+pub returns-in-Err-ensure_spelled-clause-spelled : goal.returns-in-Err-ensure_spelled-clause-spelled
+returns-in-Err-ensure_spelled-clause-spelled c = grind (arith, common_steps)
+
+pub ensure_spelled-requires : goal.ensure_spelled-requires
+ensure_spelled-requires c = grind (arith, common_steps)
+
+pub returns-in-Ok-true-clause-long : goal.returns-in-Ok-true-clause-long
+returns-in-Ok-true-clause-long c = grind (arith, common_steps)
+
+pub returns-in-Err-clause-long : goal.returns-in-Err-clause-long
+returns-in-Err-clause-long c = grind (arith, common_steps)
+
+pub returns-in-Err-clause-spelled : goal.returns-in-Err-clause-spelled
+returns-in-Err-clause-spelled c = grind (arith, common_steps)
+
+pub put_form-requires-clause-leaving : goal.put_form-requires-clause-leaving
+put_form-requires-clause-leaving c = grind (arith, common_steps)
+
+pub put_form-requires-clause-entering : goal.put_form-requires-clause-entering
+put_form-requires-clause-entering c = grind (arith, common_steps)
+
+pub put_form-requires-clause-row_long : goal.put_form-requires-clause-row_long
+put_form-requires-clause-row_long c = grind (arith, common_steps)
+
+pub put_form-requires-clause-new_long : goal.put_form-requires-clause-new_long
+put_form-requires-clause-new_long c = grind (arith, common_steps)
+
+pub put_form-requires-clause-few : goal.put_form-requires-clause-few
+put_form-requires-clause-few c = grind (arith, common_steps)
+
+pub put_form-requires-clause-is_leaving : goal.put_form-requires-clause-is_leaving
+put_form-requires-clause-is_leaving c = grind (arith, common_steps)
+
+pub returns-in-Err-ensure_spelled-clause-written : goal.returns-in-Err-ensure_spelled-clause-written
+returns-in-Err-ensure_spelled-clause-written c = grind (arith, common_steps)
+
+pub returns-in-Err-clause-written : goal.returns-in-Err-clause-written
+returns-in-Err-clause-written c = grind (arith, common_steps)

@@ -11,3 +11,15 @@ returns-else-len-eq0 g c = λ t.
 
 pub returns-then-len-eq0 : goal.returns-then-len-eq0
 returns-then-len-eq0 g c = grind (arith, common_steps)
+
+pub bounds-entries-len-else-len-eq0 : goal.bounds-entries-len-else-len-eq0
+bounds-entries-len-else-len-eq0 g c = grind (arith, common_steps)
+
+pub bounds-entries-len : goal.bounds-entries-len
+bounds-entries-len g c = grind (arith, common_steps)
+
+pub overflow_sub-result : goal.overflow_sub-result
+overflow_sub-result g c = grind (arith, common_steps)
+
+pub offset_bounds-entries-len : goal.offset_bounds-entries-len
+offset_bounds-entries-len g c = grind (arith, common_steps)

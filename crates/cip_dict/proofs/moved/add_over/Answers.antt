@@ -17,3 +17,12 @@ returns-in-None c = grind (arith, common_steps)
 
 pub returns-in-Some : goal.returns-in-Some
 returns-in-Some c = grind (arith, common_steps)
+
+pub fraction-requires-clause-positive : goal.fraction-requires-clause-positive
+fraction-requires-clause-positive c = grind (arith, common_steps)
+
+pub short_sum-requires : goal.short_sum-requires
+short_sum-requires c = grind (arith, common_steps)
+
+pub fraction-requires-clause-small : goal.fraction-requires-clause-small
+fraction-requires-clause-small c = grind (arith, common_steps)

@@ -35,3 +35,27 @@ terms_of_sum-over-requires-clause-own c = grind (arith, common_steps)
 
 pub terms_of_sum-over-requires-clause-own_below : goal.terms_of_sum-over-requires-clause-own_below
 terms_of_sum-over-requires-clause-own_below c = grind (arith, common_steps)
+
+pub overflow_cast-over : goal.overflow_cast-over
+overflow_cast-over c = grind (arith, common_steps)
+
+pub terms_of_sum-over-requires-clause-factor : goal.terms_of_sum-over-requires-clause-factor
+terms_of_sum-over-requires-clause-factor c = grind (arith, common_steps)
+
+pub terms_of_sum-over-requires-clause-factor_below : goal.terms_of_sum-over-requires-clause-factor_below
+terms_of_sum-over-requires-clause-factor_below c = grind (arith, common_steps)
+
+pub overflow_cast-under : goal.overflow_cast-under
+overflow_cast-under c = grind (arith, common_steps)
+
+pub returns-in-Err : goal.returns-in-Err
+returns-in-Err c = grind (arith, common_steps)
+
+pub returns-in_default-short_terms : goal.returns-in_default-short_terms
+returns-in_default-short_terms c = grind (arith, common_steps)
+
+pub returns-in_default : goal.returns-in_default
+returns-in_default c = grind (arith, common_steps)
+
+pub returns-then-unsigned_abs-ge-SHORT : goal.returns-then-unsigned_abs-ge-SHORT
+returns-then-unsigned_abs-ge-SHORT c = grind (arith, common_steps)

@@ -10,3 +10,6 @@ overflow_cast-result-then-b c = grind (arith, common_steps)
 
 pub returns-then-b : goal.returns-then-b
 returns-then-b c = grind (arith, common_steps)
+
+pub returns-else-unsigned_abs : goal.returns-else-unsigned_abs
+returns-else-unsigned_abs c = grind (arith, common_steps)

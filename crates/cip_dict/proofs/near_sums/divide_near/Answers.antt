@@ -36,3 +36,21 @@ returns-clause-small c =
 
 pub returns-in-None-clause-small : goal.returns-in-None-clause-small
 returns-in-None-clause-small c = grind (arith, common_steps)
+
+pub returns-in-None-clause-divided : goal.returns-in-None-clause-divided
+returns-in-None-clause-divided c = grind (arith, common_steps)
+
+pub bounds-numbers-at-in-Some : goal.bounds-numbers-at-in-Some
+bounds-numbers-at-in-Some c = grind (arith, common_steps)
+
+pub offset_bounds-numbers-at-in-Some : goal.offset_bounds-numbers-at-in-Some
+offset_bounds-numbers-at-in-Some c = grind (arith, common_steps)
+
+pub small_part-requires : goal.small_part-requires
+small_part-requires c = grind (arith, common_steps)
+
+pub bounds-numbers-at : goal.bounds-numbers-at
+bounds-numbers-at c = grind (arith, common_steps)
+
+pub offset_bounds-numbers-at : goal.offset_bounds-numbers-at
+offset_bounds-numbers-at c = grind (arith, common_steps)

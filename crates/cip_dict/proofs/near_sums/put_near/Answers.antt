@@ -40,3 +40,15 @@ returns-then-near-lt-SMALL c = grind (arith, common_steps)
 
 pub returns-then-divide_near : goal.returns-then-divide_near
 returns-then-divide_near c = grind (arith, common_steps)
+
+pub returns-else-below-lt-SMALL : goal.returns-else-below-lt-SMALL
+returns-else-below-lt-SMALL c = grind (arith, common_steps)
+
+pub divide_near-requires-clause-positive : goal.divide_near-requires-clause-positive
+divide_near-requires-clause-positive c = grind (arith, common_steps)
+
+pub divide_near-requires-clause-near : goal.divide_near-requires-clause-near
+divide_near-requires-clause-near c = grind (arith, common_steps)
+
+pub short_part-requires : goal.short_part-requires
+short_part-requires c = grind (arith, common_steps)

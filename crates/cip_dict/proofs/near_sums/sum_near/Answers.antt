@@ -1,3 +1,4 @@
+use Rattle.std.proofs.lemmas.Grind.{common_steps}
 use Rattle.std.proofs.Common.{◌≡◌, ◌<◌, ◌≤◌, ◌∙◌, to_z, of_z, length, arith, suc, sym, subst, lit<, ◌^◌, ap}
 use Rattle.std.specs.Int.{w64, w128}
 use Rattle.std.proofs.lemmas.Int.{ints, fits_signed_from_abs}
@@ -89,3 +90,51 @@ pub returns-clause-told : goal.returns-clause-told
 returns-clause-told c =
     let end : c.loop-step.step.k ≡ length c.args.pivot.now.standing.now = omega arith in
     (c.loop-step.invariant.positive, (λ s. (c.loop-step.invariant.under s, c.loop-step.invariant.small s)), c.loop-step.invariant.written ∙ ap (λ k. wholes_of k (put_number (basic_in c.args.pivot.now.standing.now) c.args.pivot.now.leaving c.args.pivot.now.entering c.args.factors.own c.args.factors.new c.args.row.now c.args.new.now)) end)
+
+pub next_step-step-requires-in-loop-step-clause-row_kept : goal.next_step-step-requires-in-loop-step-clause-row_kept
+next_step-step-requires-in-loop-step-clause-row_kept c = grind (arith, common_steps)
+
+pub next_step-step-requires-in-loop-step-clause-row_small : goal.next_step-step-requires-in-loop-step-clause-row_small
+next_step-step-requires-in-loop-step-clause-row_small c = grind (arith, common_steps)
+
+pub next_step-step-requires-in-loop-step-clause-new_kept : goal.next_step-step-requires-in-loop-step-clause-new_kept
+next_step-step-requires-in-loop-step-clause-new_kept c = grind (arith, common_steps)
+
+pub next_step-step-requires-in-loop-step-clause-new_small : goal.next_step-step-requires-in-loop-step-clause-new_small
+next_step-step-requires-in-loop-step-clause-new_small c = grind (arith, common_steps)
+
+pub returns-then-z-clause-near : goal.returns-then-z-clause-near
+returns-then-z-clause-near c = grind (arith, common_steps)
+
+pub with_number-near-requires : goal.with_number-near-requires
+with_number-near-requires c = grind (arith, common_steps)
+
+pub substituted_number-z-requires-clause-within : goal.substituted_number-z-requires-clause-within
+substituted_number-z-requires-clause-within c = grind (arith, common_steps)
+
+pub returns-clause-near : goal.returns-clause-near
+returns-clause-near c = grind (arith, common_steps)
+
+pub substituted_number-z-requires-clause-own_small : goal.substituted_number-z-requires-clause-own_small
+substituted_number-z-requires-clause-own_small c = grind (arith, common_steps)
+
+pub substituted_number-z-requires-clause-factor_small : goal.substituted_number-z-requires-clause-factor_small
+substituted_number-z-requires-clause-factor_small c = grind (arith, common_steps)
+
+pub next_step-step-requires-clause-new_kept : goal.next_step-step-requires-clause-new_kept
+next_step-step-requires-clause-new_kept c = grind (arith, common_steps)
+
+pub next_step-step-requires-clause-row_kept : goal.next_step-step-requires-clause-row_kept
+next_step-step-requires-clause-row_kept c = grind (arith, common_steps)
+
+pub next_step-step-requires-clause-new_small : goal.next_step-step-requires-clause-new_small
+next_step-step-requires-clause-new_small c = grind (arith, common_steps)
+
+pub next_step-step-requires-clause-row_small : goal.next_step-step-requires-clause-row_small
+next_step-step-requires-clause-row_small c = grind (arith, common_steps)
+
+pub overflow_cast-len : goal.overflow_cast-len
+overflow_cast-len c = grind (arith, common_steps)
+
+pub returns-then-z-clause-told : goal.returns-then-z-clause-told
+returns-then-z-clause-told c = grind (arith, common_steps)

@@ -1,3 +1,4 @@
+use Rattle.std.proofs.lemmas.Grind.{common_steps}
 use Rattle.std.proofs.Common.{arith}
 use Rattle.std.proofs.lemmas.Nat.{le_or_l, le_or_r}
 use Rattle.std.proofs.lemmas.Int.{ints}
@@ -8,3 +9,6 @@ returns-clause-before c = le_or_l c.args.near.most c.unsigned_abs-size.result
 
 pub returns-clause-this : goal.returns-clause-this
 returns-clause-this c = omega (arith, ints, le_or_r c.args.near.most c.unsigned_abs-size.result, c.unsigned_abs-size.ensures.value, c.ranges.z)
+
+pub returns-clause-positive : goal.returns-clause-positive
+returns-clause-positive c = grind (arith, common_steps)

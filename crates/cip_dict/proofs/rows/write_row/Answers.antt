@@ -54,3 +54,15 @@ returns-in-Ok-count_room-clause-written c = grind (arith, common_steps)
 
 pub write_substituted-requires-clause-row_long : goal.write_substituted-requires-clause-row_long
 write_substituted-requires-clause-row_long c = grind (arith, common_steps)
+
+pub overflow_cast-v : goal.overflow_cast-v
+overflow_cast-v c = grind (arith, common_steps)
+
+pub returns-then-not-changes-clause-spelled : goal.returns-then-not-changes-clause-spelled
+returns-then-not-changes-clause-spelled c = grind (arith, common_steps)
+
+pub returns-in-Err-clause-marked : goal.returns-in-Err-clause-marked
+returns-in-Err-clause-marked c = grind (arith, common_steps)
+
+pub returns-then-not-changes-clause-long : goal.returns-then-not-changes-clause-long
+returns-then-not-changes-clause-long c = grind (arith, common_steps)

@@ -61,3 +61,42 @@ write_row-requires-clause-out_long c = grind (arith, common_steps)
 
 pub write_row-requires-clause-row_long : goal.write_row-requires-clause-row_long
 write_row-requires-clause-row_long c = grind (arith, common_steps)
+
+pub loop-v-init : goal.loop-v-init
+loop-v-init c = grind (arith, common_steps)
+
+pub returns-in-Err-clause-changed_long : goal.returns-in-Err-clause-changed_long
+returns-in-Err-clause-changed_long c = grind (arith, common_steps)
+
+pub returns-in-Err-clause-spelled : goal.returns-in-Err-clause-spelled
+returns-in-Err-clause-spelled c = grind (arith, common_steps)
+
+pub returns-clause-long : goal.returns-clause-long
+returns-clause-long c = grind (arith, common_steps)
+
+pub write_row-requires-clause-within : goal.write_row-requires-clause-within
+write_row-requires-clause-within c = grind (arith, common_steps)
+
+pub write_row-requires-clause-new_spelled : goal.write_row-requires-clause-new_spelled
+write_row-requires-clause-new_spelled c = grind (arith, common_steps)
+
+pub bounds-out-v : goal.bounds-out-v
+bounds-out-v c = grind (arith, common_steps)
+
+pub returns-clause-changed_long : goal.returns-clause-changed_long
+returns-clause-changed_long c = grind (arith, common_steps)
+
+pub bounds-rows-v : goal.bounds-rows-v
+bounds-rows-v c = grind (arith, common_steps)
+
+pub offset_bounds-out-v : goal.offset_bounds-out-v
+offset_bounds-out-v c = grind (arith, common_steps)
+
+pub returns-clause-spelled : goal.returns-clause-spelled
+returns-clause-spelled c = grind (arith, common_steps)
+
+pub offset_bounds-rows-v : goal.offset_bounds-rows-v
+offset_bounds-rows-v c = grind (arith, common_steps)
+
+pub returns-in-Err-clause-marked : goal.returns-in-Err-clause-marked
+returns-in-Err-clause-marked c = grind (arith, common_steps)

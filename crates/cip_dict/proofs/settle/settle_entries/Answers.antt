@@ -22,3 +22,18 @@ returns c = grind (arith, common_steps)
 
 pub returns-in-None : goal.returns-in-None
 returns-in-None c = grind (arith, common_steps)
+
+pub whole_of-requires-clause-positive : goal.whole_of-requires-clause-positive
+whole_of-requires-clause-positive c = grind (arith, common_steps)
+
+pub loop-at-init : goal.loop-at-init
+loop-at-init c = grind (arith, common_steps)
+
+pub whole_of-requires-clause-small : goal.whole_of-requires-clause-small
+whole_of-requires-clause-small c = grind (arith, common_steps)
+
+pub bounds-entries-at : goal.bounds-entries-at
+bounds-entries-at c = grind (arith, common_steps)
+
+pub offset_bounds-entries-at : goal.offset_bounds-entries-at
+offset_bounds-entries-at c = grind (arith, common_steps)

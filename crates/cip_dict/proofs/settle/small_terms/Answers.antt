@@ -7,3 +7,9 @@ overflow_cast-result c = grind (arith, common_steps)
 
 pub returns : goal.returns
 returns c = grind (arith, common_steps)
+
+pub overflow_cast-result-2 : goal.overflow_cast-result-2
+overflow_cast-result-2 c = grind (arith, common_steps)
+
+pub returns-then-unsigned_abs-from : goal.returns-then-unsigned_abs-from
+returns-then-unsigned_abs-from c = grind (arith, common_steps)

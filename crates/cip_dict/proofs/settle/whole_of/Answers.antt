@@ -13,3 +13,15 @@ returns-in-Some c =
 
 pub number_over-requires-clause-number_small : goal.number_over-requires-clause-number_small
 number_over-requires-clause-number_small c = grind (arith, common_steps)
+
+pub number_over-requires-clause-under_positive : goal.number_over-requires-clause-under_positive
+number_over-requires-clause-under_positive c = grind (arith, common_steps)
+
+pub number_over-requires-clause-positive : goal.number_over-requires-clause-positive
+number_over-requires-clause-positive c = grind (arith, common_steps)
+
+pub number_over-requires-clause-small : goal.number_over-requires-clause-small
+number_over-requires-clause-small c = grind (arith, common_steps)
+
+pub returns-in-None : goal.returns-in-None
+returns-in-None c = grind (arith, common_steps)

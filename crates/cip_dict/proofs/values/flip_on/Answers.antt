@@ -13,3 +13,15 @@ returns-then-is_basic c = grind (arith, common_steps)
 
 pub returns-then-v-j : goal.returns-then-v-j
 returns-then-v-j c = grind (arith, common_steps)
+
+pub bounds-shift-v : goal.bounds-shift-v
+bounds-shift-v c = grind (arith, common_steps)
+
+pub number_at-requires : goal.number_at-requires
+number_at-requires c = grind (arith, common_steps)
+
+pub offset_bounds-shift-v : goal.offset_bounds-shift-v
+offset_bounds-shift-v c = grind (arith, common_steps)
+
+pub is_basic-requires : goal.is_basic-requires
+is_basic-requires c = grind (arith, common_steps)

@@ -19,3 +19,33 @@ returns-else-v-pivot-2 c =
     ] in
     let added : IsAdded true c.number_at-then-is_basic.result (entry_in c.args.shift.now.rows.now c.args.v c.args.pivot.now.entering) c.args.shift.now.by c.number_at-then-is_basic.result = zero_left c.number_at-then-is_basic.result (entry_in c.args.shift.now.rows.now c.args.v c.args.pivot.now.entering) c.args.shift.now.by none in
     grind (arith, common_steps, added)
+
+pub add_times-requires : goal.add_times-requires
+add_times-requires c = grind (arith, common_steps)
+
+pub returns-else-is_basic : goal.returns-else-is_basic
+returns-else-is_basic c = grind (arith, common_steps)
+
+pub returns-then-v-pivot-2 : goal.returns-then-v-pivot-2
+returns-then-v-pivot-2 c = grind (arith, common_steps)
+
+pub returns-then-v-pivot : goal.returns-then-v-pivot
+returns-then-v-pivot c = grind (arith, common_steps)
+
+pub bounds-shift-v : goal.bounds-shift-v
+bounds-shift-v c = grind (arith, common_steps)
+
+pub number_at-requires-then-is_basic : goal.number_at-requires-then-is_basic
+number_at-requires-then-is_basic c = grind (arith, common_steps)
+
+pub bounds-changed-v : goal.bounds-changed-v
+bounds-changed-v c = grind (arith, common_steps)
+
+pub offset_bounds-shift-v : goal.offset_bounds-shift-v
+offset_bounds-shift-v c = grind (arith, common_steps)
+
+pub number_at-requires : goal.number_at-requires
+number_at-requires c = grind (arith, common_steps)
+
+pub is_basic-requires : goal.is_basic-requires
+is_basic-requires c = grind (arith, common_steps)

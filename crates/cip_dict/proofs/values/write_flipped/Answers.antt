@@ -22,3 +22,36 @@ loop-v-init c = grind (arith, common_steps)
 
 pub returns-then-not-flip_on-clause-long : goal.returns-then-not-flip_on-clause-long
 returns-then-not-flip_on-clause-long c = grind (arith, common_steps)
+
+pub flip_on-requires-clause-rows_long : goal.flip_on-requires-clause-rows_long
+flip_on-requires-clause-rows_long c = grind (arith, common_steps)
+
+pub out_of_range-requires : goal.out_of_range-requires
+out_of_range-requires c = grind (arith, common_steps)
+
+pub flip_on-requires-clause-within : goal.flip_on-requires-clause-within
+flip_on-requires-clause-within c = grind (arith, common_steps)
+
+pub flip_on-requires-clause-flips : goal.flip_on-requires-clause-flips
+flip_on-requires-clause-flips c = grind (arith, common_steps)
+
+pub flip_on-requires-clause-values_long : goal.flip_on-requires-clause-values_long
+flip_on-requires-clause-values_long c = grind (arith, common_steps)
+
+pub flip_on-requires-clause-few : goal.flip_on-requires-clause-few
+flip_on-requires-clause-few c = grind (arith, common_steps)
+
+pub returns-clause-long : goal.returns-clause-long
+returns-clause-long c = grind (arith, common_steps)
+
+pub bounds-out-v : goal.bounds-out-v
+bounds-out-v c = grind (arith, common_steps)
+
+pub offset_bounds-out-v : goal.offset_bounds-out-v
+offset_bounds-out-v c = grind (arith, common_steps)
+
+pub flip_on-requires-clause-arrives : goal.flip_on-requires-clause-arrives
+flip_on-requires-clause-arrives c = grind (arith, common_steps)
+
+pub flip_on-requires-clause-nonbasic : goal.flip_on-requires-clause-nonbasic
+flip_on-requires-clause-nonbasic c = grind (arith, common_steps)

@@ -19,3 +19,36 @@ returns-clause-written c = taken_end (length c.args.pivot.now.standing.now) c.lo
 
 pub returns-then-not-move_on-clause-long : goal.returns-then-not-move_on-clause-long
 returns-then-not-move_on-clause-long c = grind (arith, common_steps)
+
+pub loop-v-init : goal.loop-v-init
+loop-v-init c = grind (arith, common_steps)
+
+pub out_of_range-requires : goal.out_of_range-requires
+out_of_range-requires c = grind (arith, common_steps)
+
+pub move_on-requires-clause-rows_long : goal.move_on-requires-clause-rows_long
+move_on-requires-clause-rows_long c = grind (arith, common_steps)
+
+pub move_on-requires-clause-within : goal.move_on-requires-clause-within
+move_on-requires-clause-within c = grind (arith, common_steps)
+
+pub move_on-requires-clause-values_long : goal.move_on-requires-clause-values_long
+move_on-requires-clause-values_long c = grind (arith, common_steps)
+
+pub move_on-requires-clause-entering : goal.move_on-requires-clause-entering
+move_on-requires-clause-entering c = grind (arith, common_steps)
+
+pub move_on-requires-clause-marked : goal.move_on-requires-clause-marked
+move_on-requires-clause-marked c = grind (arith, common_steps)
+
+pub move_on-requires-clause-few : goal.move_on-requires-clause-few
+move_on-requires-clause-few c = grind (arith, common_steps)
+
+pub returns-clause-long : goal.returns-clause-long
+returns-clause-long c = grind (arith, common_steps)
+
+pub bounds-out-v : goal.bounds-out-v
+bounds-out-v c = grind (arith, common_steps)
+
+pub offset_bounds-out-v : goal.offset_bounds-out-v
+offset_bounds-out-v c = grind (arith, common_steps)

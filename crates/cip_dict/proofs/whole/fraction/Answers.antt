@@ -1,3 +1,4 @@
+use Rattle.std.proofs.lemmas.Grind.{common_steps}
 use Rattle.std.proofs.Common.{◌≡◌, ◌∙◌, pos, to_z, of_z, sym, ap, ap₂, arith, ◌<◌, ◌^◌}
 use Rattle.std.specs.Int.{w64, w128}
 use Rattle.std.proofs.lemmas.Int.{ints}
@@ -24,3 +25,9 @@ returns-in-Err c =
     let n : magnitude (to_z w128 (of_z w128 (to_z w64 (of_z w64 c.args.n)))) < 2 ^ 64 = omega (arith, ints, c.ranges.n) in
     let d : to_z w128 c.args.d ≡ pos c.args.d = omega (arith, ints, c.requires.small) in
     absurd (fault_never _ _ c.args.d c.in-Err.field-0 c.requires.positive c.requires.small n d c.in-Err.ensures)
+
+pub overflow_cast-n : goal.overflow_cast-n
+overflow_cast-n c = grind (arith, common_steps)
+
+pub overflow_cast-d : goal.overflow_cast-d
+overflow_cast-d c = grind (arith, common_steps)

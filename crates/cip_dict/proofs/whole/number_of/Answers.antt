@@ -1,4 +1,5 @@
-use Rattle.std.proofs.Common.{◌<◌, ◌∙◌, pos, sym, length, get_or, ◌^◌}
+use Rattle.std.proofs.lemmas.Grind.{common_steps}
+use Rattle.std.proofs.Common.{◌<◌, ◌∙◌, pos, sym, length, get_or, ◌^◌, arith}
 use Rattle.cip_dict.proofs.WholeParts.{rising_over, over_place, number_hit, number_miss, read_small, item_below}
 use Rattle.cip_dict.proofs.whole.number_of.Goals as goal
 
@@ -19,3 +20,9 @@ returns-then-stands_at-clause-small c =
 pub returns-else-stands_at-clause-value : goal.returns-else-stands_at-clause-value
 returns-else-stands_at-clause-value c =
     sym (number_miss c.args.k c.args.wholes.now c.place_from-place.result c.requires.kept.0 c.requires.kept.1 (over_place 1 c.args.k c.args.wholes.now c.place_from-place.result c.place_from-place.ensures) (λ d w. c.stands_at.ensures.no c.if-stands_at.false d w))
+
+pub bounds-wholes-place : goal.bounds-wholes-place
+bounds-wholes-place c = grind (arith, common_steps)
+
+pub offset_bounds-wholes-place : goal.offset_bounds-wholes-place
+offset_bounds-wholes-place c = grind (arith, common_steps)

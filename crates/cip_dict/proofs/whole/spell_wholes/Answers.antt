@@ -1,3 +1,4 @@
+use Rattle.std.proofs.lemmas.Grind.{common_steps}
 use Rattle.std.proofs.Common.{◌≡◌, ◌++◌, ◌∷◌, [], pos, get_or, take, length, sym, ap, ap₂, ◌∙◌, arith, ◌^◌}
 use Rattle.std.proofs.Math.Seq.{take-length}
 use Rattle.std.proofs.lemmas.List.{take_more}
@@ -18,3 +19,24 @@ pub returns : goal.returns
 returns c =
     let end : c.loop-at.at ≡ length c.args.wholes.now = omega arith in
     c.loop-at.invariant ∙ ap (λ n. over c.args.below (take n c.args.wholes.now)) end ∙ ap (over c.args.below) (take-length c.args.wholes.now)
+
+pub fraction-requires-clause-positive : goal.fraction-requires-clause-positive
+fraction-requires-clause-positive c = grind (arith, common_steps)
+
+pub bounds-wholes-at-in-loop-at : goal.bounds-wholes-at-in-loop-at
+bounds-wholes-at-in-loop-at c = grind (arith, common_steps)
+
+pub fraction-requires-clause-small : goal.fraction-requires-clause-small
+fraction-requires-clause-small c = grind (arith, common_steps)
+
+pub bounds-wholes-at : goal.bounds-wholes-at
+bounds-wholes-at c = grind (arith, common_steps)
+
+pub offset_bounds-wholes-at-in-loop-at : goal.offset_bounds-wholes-at-in-loop-at
+offset_bounds-wholes-at-in-loop-at c = grind (arith, common_steps)
+
+pub offset_bounds-wholes-at : goal.offset_bounds-wholes-at
+offset_bounds-wholes-at c = grind (arith, common_steps)
+
+pub loop-at-init : goal.loop-at-init
+loop-at-init c = grind (arith, common_steps)

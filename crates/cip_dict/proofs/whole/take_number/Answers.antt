@@ -1,3 +1,4 @@
+use Rattle.std.proofs.lemmas.Grind.{common_steps}
 use Rattle.std.proofs.Common.{◌<◌, ◌∙◌, add-one, pos, sym, ap, length, arith}
 use Rattle.cip_rational.specs.Rational.{zeroℚ}
 use Rattle.cip_dict.specs.WholeLines.{Whole, over}
@@ -25,3 +26,9 @@ returns-else-head-k-clause-value c =
 pub returns-else-head-k-clause-past : goal.returns-else-head-k-clause-past
 returns-else-head-k-clause-past c =
     λ i. place_miss c.args.k (over 1 c.args.wholes.now) c.args.place i (no_over c.args.wholes.now c.args.place c.args.k (λ d w s. c.if-head-k.false (ap (λ (e : Whole). e.0) (c.requires.at d w) ∙ s)))
+
+pub returns-then-head-k-clause-small : goal.returns-then-head-k-clause-small
+returns-then-head-k-clause-small c = grind (arith, common_steps)
+
+pub overflow_add-result : goal.overflow_add-result
+overflow_add-result c = grind (arith, common_steps)

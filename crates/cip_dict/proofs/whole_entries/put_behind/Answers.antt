@@ -40,3 +40,42 @@ is_past-requires c = rw c.as_slice.ensures.value (rising_over c.args.below 0 c.r
 
 pub returns-in_default-clause-put : goal.returns-in_default-clause-put
 returns-in_default-clause-put c = grind (arith, common_steps)
+
+pub returns-then-below-ne1-clause-put : goal.returns-then-below-ne1-clause-put
+returns-then-below-ne1-clause-put c = grind (arith, common_steps)
+
+pub returns-in_ok-push-clause-same : goal.returns-in_ok-push-clause-same
+returns-in_ok-push-clause-same c = grind (arith, common_steps)
+
+pub returns-in_err-push-clause-kept : goal.returns-in_err-push-clause-kept
+returns-in_err-push-clause-kept c = grind (arith, common_steps)
+
+pub returns-in_err-push-clause-whole : goal.returns-in_err-push-clause-whole
+returns-in_err-push-clause-whole c = grind (arith, common_steps)
+
+pub returns-else-number-ne0-clause-whole : goal.returns-else-number-ne0-clause-whole
+returns-else-number-ne0-clause-whole c = grind (arith, common_steps)
+
+pub returns-in_default-clause-whole : goal.returns-in_default-clause-whole
+returns-in_default-clause-whole c = grind (arith, common_steps)
+
+pub returns-else-number-ne0-clause-same : goal.returns-else-number-ne0-clause-same
+returns-else-number-ne0-clause-same c = grind (arith, common_steps)
+
+pub returns-in_default-clause-same : goal.returns-in_default-clause-same
+returns-in_default-clause-same c = grind (arith, common_steps)
+
+pub returns-else-number-ne0-clause-kept : goal.returns-else-number-ne0-clause-kept
+returns-else-number-ne0-clause-kept c = grind (arith, common_steps)
+
+pub returns-in_default-clause-kept : goal.returns-in_default-clause-kept
+returns-in_default-clause-kept c = grind (arith, common_steps)
+
+pub returns-then-below-ne1-clause-whole : goal.returns-then-below-ne1-clause-whole
+returns-then-below-ne1-clause-whole c = grind (arith, common_steps)
+
+pub returns-then-below-ne1-clause-same : goal.returns-then-below-ne1-clause-same
+returns-then-below-ne1-clause-same c = grind (arith, common_steps)
+
+pub returns-then-below-ne1-clause-kept : goal.returns-then-below-ne1-clause-kept
+returns-then-below-ne1-clause-kept c = grind (arith, common_steps)

@@ -7,3 +7,6 @@ overflow_cast-result c = grind (arith, common_steps)
 
 pub returns : goal.returns
 returns c = grind (arith, common_steps)
+
+pub returns-then-denominator-ne1 : goal.returns-then-denominator-ne1
+returns-then-denominator-ne1 c = grind (arith, common_steps)

@@ -11,3 +11,12 @@ returns-then-vanishes c = sum_zero_right (value_place c.args.line) c.args.total 
 
 pub returns : goal.returns
 returns c = grind (arith, common_steps)
+
+pub fraction-requires-clause-positive : goal.fraction-requires-clause-positive
+fraction-requires-clause-positive c = grind (arith, common_steps)
+
+pub fraction-requires-clause-small : goal.fraction-requires-clause-small
+fraction-requires-clause-small c = grind (arith, common_steps)
+
+pub number_at-value-requires : goal.number_at-value-requires
+number_at-value-requires c = grind (arith, common_steps)

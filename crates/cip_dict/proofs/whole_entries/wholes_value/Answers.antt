@@ -70,3 +70,9 @@ places-smaller c = omega arith
 
 pub whole_step-requires-clause-there : goal.whole_step-requires-clause-there
 whole_step-requires-clause-there c = grind (arith, common_steps)
+
+pub whole_step-requires-clause-positive : goal.whole_step-requires-clause-positive
+whole_step-requires-clause-positive c = grind (arith, common_steps)
+
+pub whole_step-requires-clause-small : goal.whole_step-requires-clause-small
+whole_step-requires-clause-small c = grind (arith, common_steps)

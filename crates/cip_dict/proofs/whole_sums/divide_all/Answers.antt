@@ -35,3 +35,21 @@ returns c =
 
 pub returns-in-None-clause-divided : goal.returns-in-None-clause-divided
 returns-in-None-clause-divided c = grind (arith, common_steps)
+
+pub returns-in_err-push-in-Some-clause-small : goal.returns-in_err-push-in-Some-clause-small
+returns-in_err-push-in-Some-clause-small c = grind (arith, common_steps)
+
+pub returns-in-None-clause-small : goal.returns-in-None-clause-small
+returns-in-None-clause-small c = grind (arith, common_steps)
+
+pub offset_bounds-sums-at-in-Some : goal.offset_bounds-sums-at-in-Some
+offset_bounds-sums-at-in-Some c = grind (arith, common_steps)
+
+pub small_part-requires : goal.small_part-requires
+small_part-requires c = grind (arith, common_steps)
+
+pub bounds-sums-at : goal.bounds-sums-at
+bounds-sums-at c = grind (arith, common_steps)
+
+pub offset_bounds-sums-at : goal.offset_bounds-sums-at
+offset_bounds-sums-at c = grind (arith, common_steps)

@@ -1,3 +1,4 @@
+use Rattle.std.proofs.lemmas.Grind.{common_steps}
 use Rattle.std.proofs.Common.{◌≡◌, to_z, of_z, sym, ◌∙◌, ◌-◌, ◌^◌, length, arith, mul-pos}
 use Rattle.std.specs.Int.{w64}
 use Rattle.std.proofs.lemmas.Nat.{mul-le}
@@ -111,3 +112,9 @@ returns c =
         rw (c.from.ensures, c.from-2.ensures, c.as_slice.ensures.value, c.in_ok-sum_entries.ensures.kept) at told.3,
       ),
     ))
+
+pub overflow_cast-under : goal.overflow_cast-under
+overflow_cast-under c = grind (arith, common_steps)
+
+pub returns-in-Large : goal.returns-in-Large
+returns-in-Large c = grind (arith, common_steps)

@@ -30,3 +30,33 @@ returns-in-None-clause-parts c = (1, lit< tt, omega (arith, ints, c.requires.own
 
 pub returns-in-Some-clause-own_small : goal.returns-in-Some-clause-own_small
 returns-in-Some-clause-own_small c = grind (arith, common_steps)
+
+pub returns-in-None-clause-own_small : goal.returns-in-None-clause-own_small
+returns-in-None-clause-own_small c = grind (arith, common_steps)
+
+pub returns-then-below-g-ne0-clause-own_small : goal.returns-then-below-g-ne0-clause-own_small
+returns-then-below-g-ne0-clause-own_small c = grind (arith, common_steps)
+
+pub returns-in-None-clause-positive : goal.returns-in-None-clause-positive
+returns-in-None-clause-positive c = grind (arith, common_steps)
+
+pub returns-in-None-clause-below_small : goal.returns-in-None-clause-below_small
+returns-in-None-clause-below_small c = grind (arith, common_steps)
+
+pub nonzero_div-result : goal.nonzero_div-result
+nonzero_div-result c = grind (arith, common_steps)
+
+pub returns-then-below-g-ne0-clause-positive : goal.returns-then-below-g-ne0-clause-positive
+returns-then-below-g-ne0-clause-positive c = grind (arith, common_steps)
+
+pub small_part-requires : goal.small_part-requires
+small_part-requires c = grind (arith, common_steps)
+
+pub short_common-g-requires : goal.short_common-g-requires
+short_common-g-requires c = grind (arith, common_steps)
+
+pub nonzero_rem-below : goal.nonzero_rem-below
+nonzero_rem-below c = grind (arith, common_steps)
+
+pub returns-then-below-g-ne0-clause-below_small : goal.returns-then-below-g-ne0-clause-below_small
+returns-then-below-g-ne0-clause-below_small c = grind (arith, common_steps)

@@ -1,3 +1,4 @@
+use Rattle.std.proofs.lemmas.Grind.{common_steps}
 use Rattle.std.proofs.Common.{◌<◌, ◌^◌, ◌+ℤ◌, ◌*ℤ◌, pos, to_z, of_z, refl, arith, lit<}
 use Rattle.std.specs.Int.{w128}
 use Rattle.std.proofs.lemmas.Int.{ints, fits_signed_from_abs}
@@ -65,3 +66,6 @@ overflow_add-result c =
     let second = product_below c.product_of-else-is_absent_on-2.result c.product_of-else-is_absent_on-2.ensures.small in
     let small : magnitude (to_z w128 (of_z w128 c.product_of-else-is_absent_on.result) +ℤ to_z w128 (of_z w128 c.product_of-else-is_absent_on-2.result)) < 2 ^ 86 = omega (arith, ints, first, second) in
     fits_signed_from_abs w128 (to_z w128 (of_z w128 c.product_of-else-is_absent_on.result) +ℤ to_z w128 (of_z w128 c.product_of-else-is_absent_on-2.result)) (omega (arith, small))
+
+pub is_absent_on-requires : goal.is_absent_on-requires
+is_absent_on-requires c = grind (arith, common_steps)

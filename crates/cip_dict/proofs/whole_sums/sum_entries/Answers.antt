@@ -1,3 +1,4 @@
+use Rattle.std.proofs.lemmas.Grind.{common_steps}
 use Rattle.std.proofs.Common.{◌≡◌, ◌<◌, ◌∙◌, to_z, of_z, length, arith, suc, sym, subst, lit<, ◌^◌, ap, ◌≤◌}
 use Rattle.std.specs.Int.{w128}
 use Rattle.std.proofs.lemmas.Int.{ints}
@@ -69,3 +70,42 @@ loop-step-smaller c =
     c.next_step-step-in-loop-step.ensures.next (suc c.loop-step.step.k) (omega arith) (c.loop-step.invariant.row_past l) (c.loop-step.invariant.new_past l) in
     let o : suc c.loop-step.step.k ≤ c.next_step-step-in-loop-step.result.k = next.order in
     omega (arith, o, l)
+
+pub next_step-step-requires-in-loop-step-clause-row_kept : goal.next_step-step-requires-in-loop-step-clause-row_kept
+next_step-step-requires-in-loop-step-clause-row_kept c = grind (arith, common_steps)
+
+pub next_step-step-requires-in-loop-step-clause-row_small : goal.next_step-step-requires-in-loop-step-clause-row_small
+next_step-step-requires-in-loop-step-clause-row_small c = grind (arith, common_steps)
+
+pub next_step-step-requires-in-loop-step-clause-new_kept : goal.next_step-step-requires-in-loop-step-clause-new_kept
+next_step-step-requires-in-loop-step-clause-new_kept c = grind (arith, common_steps)
+
+pub next_step-step-requires-in-loop-step-clause-new_small : goal.next_step-step-requires-in-loop-step-clause-new_small
+next_step-step-requires-in-loop-step-clause-new_small c = grind (arith, common_steps)
+
+pub substituted_number-z-requires-clause-within : goal.substituted_number-z-requires-clause-within
+substituted_number-z-requires-clause-within c = grind (arith, common_steps)
+
+pub returns-clause-wide : goal.returns-clause-wide
+returns-clause-wide c = grind (arith, common_steps)
+
+pub substituted_number-z-requires-clause-own_small : goal.substituted_number-z-requires-clause-own_small
+substituted_number-z-requires-clause-own_small c = grind (arith, common_steps)
+
+pub substituted_number-z-requires-clause-factor_small : goal.substituted_number-z-requires-clause-factor_small
+substituted_number-z-requires-clause-factor_small c = grind (arith, common_steps)
+
+pub next_step-step-requires-clause-new_kept : goal.next_step-step-requires-clause-new_kept
+next_step-step-requires-clause-new_kept c = grind (arith, common_steps)
+
+pub next_step-step-requires-clause-row_kept : goal.next_step-step-requires-clause-row_kept
+next_step-step-requires-clause-row_kept c = grind (arith, common_steps)
+
+pub next_step-step-requires-clause-new_small : goal.next_step-step-requires-clause-new_small
+next_step-step-requires-clause-new_small c = grind (arith, common_steps)
+
+pub next_step-step-requires-clause-row_small : goal.next_step-step-requires-clause-row_small
+next_step-step-requires-clause-row_small c = grind (arith, common_steps)
+
+pub overflow_cast-len : goal.overflow_cast-len
+overflow_cast-len c = grind (arith, common_steps)

@@ -1,3 +1,4 @@
+use Rattle.std.proofs.lemmas.Grind.{common_steps}
 use Rattle.std.proofs.Common.{◌≡◌, ◌<◌, ◌≤◌, ◌^◌, List, [], ◌∷◌, ℕ, ℤ, ◌∙◌, to_z, of_z, length, arith, suc, sym, subst, lit<, ap}
 use Rattle.std.specs.Int.{w64}
 use Rattle.cip_rational.specs.Range.{magnitude}
@@ -75,3 +76,30 @@ returns-clause-kept c =
     let end : c.loop-step.step.k ≡ length c.args.pivot.now.standing.now = omega arith in
     let h = c.loop-step.invariant.written ∙ ap (λ k. wholes_of k (turned_number (basic_in c.args.pivot.now.standing.now) c.args.pivot.now.leaving c.args.pivot.now.entering c.args.positive (to_z w64 (of_z w64 c.args.d)) c.args.row.now)) end in
     rw (read_small c.args.d c.requires.own_small) at h
+
+pub next_step-step-requires-in-loop-step-clause-row_kept : goal.next_step-step-requires-in-loop-step-clause-row_kept
+next_step-step-requires-in-loop-step-clause-row_kept c = grind (arith, common_steps)
+
+pub next_step-step-requires-in-loop-step-clause-row_small : goal.next_step-step-requires-in-loop-step-clause-row_small
+next_step-step-requires-in-loop-step-clause-row_small c = grind (arith, common_steps)
+
+pub next_step-step-requires-in-loop-step-clause-new_kept : goal.next_step-step-requires-in-loop-step-clause-new_kept
+next_step-step-requires-in-loop-step-clause-new_kept c = grind (arith, common_steps)
+
+pub turned_number-z-requires-clause-within : goal.turned_number-z-requires-clause-within
+turned_number-z-requires-clause-within c = grind (arith, common_steps)
+
+pub returns-clause-small : goal.returns-clause-small
+returns-clause-small c = grind (arith, common_steps)
+
+pub next_step-step-requires-clause-new_kept : goal.next_step-step-requires-clause-new_kept
+next_step-step-requires-clause-new_kept c = grind (arith, common_steps)
+
+pub next_step-step-requires-clause-row_kept : goal.next_step-step-requires-clause-row_kept
+next_step-step-requires-clause-row_kept c = grind (arith, common_steps)
+
+pub next_step-step-requires-clause-row_small : goal.next_step-step-requires-clause-row_small
+next_step-step-requires-clause-row_small c = grind (arith, common_steps)
+
+pub overflow_cast-len : goal.overflow_cast-len
+overflow_cast-len c = grind (arith, common_steps)

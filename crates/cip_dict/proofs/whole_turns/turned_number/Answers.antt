@@ -10,3 +10,21 @@ returns-then-positive-clause-small c = grind (arith, common_steps)
 
 pub returns-then-positive-clause-value : goal.returns-then-positive-clause-value
 returns-then-positive-clause-value c = grind (arith, common_steps)
+
+pub returns-else-positive-clause-small : goal.returns-else-positive-clause-small
+returns-else-positive-clause-small c = grind (arith, common_steps)
+
+pub overflow_sub-result : goal.overflow_sub-result
+overflow_sub-result c = grind (arith, common_steps)
+
+pub returns-then-k-pivot-clause-value : goal.returns-then-k-pivot-clause-value
+returns-then-k-pivot-clause-value c = grind (arith, common_steps)
+
+pub returns-then-is_absent_on-clause-value : goal.returns-then-is_absent_on-clause-value
+returns-then-is_absent_on-clause-value c = grind (arith, common_steps)
+
+pub returns-then-k-pivot-clause-small : goal.returns-then-k-pivot-clause-small
+returns-then-k-pivot-clause-small c = grind (arith, common_steps)
+
+pub is_absent_on-requires : goal.is_absent_on-requires
+is_absent_on-requires c = grind (arith, common_steps)

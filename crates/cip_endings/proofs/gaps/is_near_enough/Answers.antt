@@ -1,4 +1,5 @@
-use Rattle.std.proofs.Common.{◌≡◌, ◌&&◌, ◌∙◌, refl, sym, ap}
+use Rattle.std.proofs.lemmas.Grind.{common_steps}
+use Rattle.std.proofs.Common.{◌≡◌, ◌&&◌, ◌∙◌, refl, sym, ap, arith}
 use Rattle.cip_rational.specs.Rational.{lt_test, le_test}
 use Rattle.cip_rational.proofs.Comparisons.{is_lt-compare, is_le-compare}
 use Rattle.cip_endings.proofs.GapLaws.{near_is}
@@ -17,3 +18,6 @@ returns-else-lt c =
     let le = le_test c.in-Ok.difference c.args.gap in
     c.if-lt.false ∙ (sym (ap (λ t. t && le) c.if-lt.false)
     ∙ sym (near_is c.args.gap c.args.cost c.args.bound c.in-Ok.difference c.lt.result le c.in-Ok.ensures.0 c.in-Ok.ensures.1 l refl))
+
+pub returns-in-Err : goal.returns-in-Err
+returns-in-Err c = grind (arith, common_steps)

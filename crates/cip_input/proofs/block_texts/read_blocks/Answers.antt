@@ -27,3 +27,6 @@ returns-in_err-buffer-clause-answer g c = grind (arith, common_steps)
 
 pub returns-in_err-choose-clause-holds : goal.returns-in_err-choose-clause-holds
 returns-in_err-choose-clause-holds g c = grind (arith, common_steps)
+
+pub returns-in_err-buffer-clause-holds : goal.returns-in_err-buffer-clause-holds
+returns-in_err-buffer-clause-holds g c = grind (arith, common_steps)

@@ -1,3 +1,4 @@
+use Rattle.std.proofs.lemmas.Grind.{common_steps}
 use Rattle.std.proofs.Common.{◌≡◌, ℕ, ◌+◌, ◌%◌, List, [], ◌∷◌, ◌++◌, map, sym, ap, ◌∙◌, zero-add, arith}
 use Rattle.std.specs.List.{range_with_len}
 use Rattle.std.proofs.lemmas.List.FromFn.{map-range_with_len_more}
@@ -29,3 +30,6 @@ pub returns-clause-state : goal.returns-clause-state
 returns-clause-state c =
     let all : c.loop-column._column ≡ c.args.columns = omega (arith, c.loop-column-test.false, c.loop-column.auto._column-end) in
     c.loop-column.invariant.state ∙ ap (λ (n : ℕ). state_after n c.args.draws.now.state) all
+
+pub loop-column-init : goal.loop-column-init
+loop-column-init c = grind (arith, common_steps)

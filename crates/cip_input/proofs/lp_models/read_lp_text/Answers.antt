@@ -38,3 +38,9 @@ returns-clause-holds g c = grind (arith, common_steps)
 
 pub returns-in-Err-clause-answer : goal.returns-in-Err-clause-answer
 returns-in-Err-clause-answer g c = grind (arith, common_steps)
+
+pub returns-in-Err-clause-holds : goal.returns-in-Err-clause-holds
+returns-in-Err-clause-holds g c = grind (arith, common_steps)
+
+pub read_pieces-requires : goal.read_pieces-requires
+read_pieces-requires g c = grind (arith, common_steps)

@@ -30,3 +30,6 @@ returns-in_err-choose-clause-holds g c = grind (arith, common_steps)
 
 pub returns-then-ends_in_lp-clause-holds : goal.returns-then-ends_in_lp-clause-holds
 returns-then-ends_in_lp-clause-holds g c = grind (arith, common_steps)
+
+pub returns-in_err-buffer-clause-holds : goal.returns-in_err-buffer-clause-holds
+returns-in_err-buffer-clause-holds g c = grind (arith, common_steps)

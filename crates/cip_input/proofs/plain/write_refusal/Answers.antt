@@ -1,3 +1,4 @@
+use Rattle.std.proofs.lemmas.Grind.{common_steps}
 use Rattle.std.proofs.Common.{◌≡◌, ◌∙◌, ap, rules, arith}
 use Rattle.std.specs.Prelude.{decimal}
 use Rattle.cip_search.specs.Figures.{refusal_text}
@@ -16,3 +17,15 @@ returns-clause-text c =
 
 pub returns-clause-within : goal.returns-clause-within
 returns-clause-within c = omega arith
+
+pub put-end-requires-4 : goal.put-end-requires-4
+put-end-requires-4 c = grind (arith, common_steps)
+
+pub put-end-requires-3 : goal.put-end-requires-3
+put-end-requires-3 c = grind (arith, common_steps)
+
+pub put-end-requires-2 : goal.put-end-requires-2
+put-end-requires-2 c = grind (arith, common_steps)
+
+pub put-end-requires : goal.put-end-requires
+put-end-requires c = grind (arith, common_steps)

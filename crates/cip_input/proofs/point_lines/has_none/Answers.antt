@@ -10,3 +10,6 @@ returns c = grind (arith, common_steps)
 
 pub returns-then-is_none : goal.returns-then-is_none
 returns-then-is_none c = grind (arith, common_steps)
+
+pub offset_bounds-values-value-index : goal.offset_bounds-values-value-index
+offset_bounds-values-value-index c = grind (arith, common_steps)

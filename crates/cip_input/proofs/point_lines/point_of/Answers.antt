@@ -1,4 +1,5 @@
-use Rattle.std.proofs.Common.{◌++◌, ◌∷◌, [], List, Option, map, take, ap, sym, ◌∙◌}
+use Rattle.std.proofs.lemmas.Grind.{common_steps}
+use Rattle.std.proofs.Common.{◌++◌, ◌∷◌, [], List, Option, map, take, ap, sym, ◌∙◌, arith}
 use Rattle.std.specs.Prelude.{unwrap_or}
 use Rattle.std.proofs.lemmas.List.{map_more, take_all}
 use Rattle.cip_rational.specs.Rational.{ℚ, zeroℚ}
@@ -20,3 +21,6 @@ loop-value-preserved c =
 
 pub returns : goal.returns
 returns c = c.loop-value.invariant ∙ ap (map or_zero) (take_all c.loop-value.value-index c.args.values.now c.loop-value-test.false)
+
+pub offset_bounds-values-value-index : goal.offset_bounds-values-value-index
+offset_bounds-values-value-index c = grind (arith, common_steps)

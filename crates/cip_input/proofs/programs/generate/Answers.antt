@@ -35,3 +35,9 @@ new-requires-2 c =
 
 pub returns : goal.returns
 returns c = grind (arith, common_steps)
+
+pub returns-in_default : goal.returns-in_default
+returns-in_default c = grind (arith, common_steps)
+
+pub drawn_figures-requires : goal.drawn_figures-requires
+drawn_figures-requires c = grind (arith, common_steps)

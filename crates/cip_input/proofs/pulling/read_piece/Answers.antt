@@ -39,3 +39,15 @@ returns-in_err-take_piece-clause-size g c = omega arith
 
 pub slice_bounds-take_piece-end-2 : goal.slice_bounds-take_piece-end-2
 slice_bounds-take_piece-end-2 g c = grind (arith, common_steps)
+
+pub returns-in_err-count-clause-holds : goal.returns-in_err-count-clause-holds
+returns-in_err-count-clause-holds g c = grind (arith, common_steps)
+
+pub slice_bounds-take_piece-end : goal.slice_bounds-take_piece-end
+slice_bounds-take_piece-end g c = grind (arith, common_steps)
+
+pub returns-in_err-count-clause-within : goal.returns-in_err-count-clause-within
+returns-in_err-count-clause-within g c = grind (arith, common_steps)
+
+pub pull-requires : goal.pull-requires
+pull-requires g c = grind (arith, common_steps)

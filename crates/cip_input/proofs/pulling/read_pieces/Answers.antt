@@ -68,3 +68,15 @@ returns-then-count-eq0-clause-holds g c = grind (arith, common_steps)
 
 pub slice_bounds-read_piece-end-in-loop-pulled : goal.slice_bounds-read_piece-end-in-loop-pulled
 slice_bounds-read_piece-end-in-loop-pulled g c = grind (arith, common_steps)
+
+pub returns-clause-holds : goal.returns-clause-holds
+returns-clause-holds g c = grind (arith, common_steps)
+
+pub slice_bounds-read_piece-end : goal.slice_bounds-read_piece-end
+slice_bounds-read_piece-end g c = grind (arith, common_steps)
+
+pub returns-clause-cause : goal.returns-clause-cause
+returns-clause-cause g c = grind (arith, common_steps)
+
+pub overflow_sub-pulled : goal.overflow_sub-pulled
+overflow_sub-pulled g c = grind (arith, common_steps)

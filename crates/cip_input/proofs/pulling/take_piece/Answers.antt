@@ -7,3 +7,6 @@ returns-in-Err-Faulty g c = grind (arith, common_steps)
 
 pub returns-in-Ok : goal.returns-in-Ok
 returns-in-Ok g c = grind (arith, common_steps)
+
+pub returns : goal.returns
+returns g c = grind (arith, common_steps)

@@ -40,3 +40,18 @@ overflow_add-total c = omega arith
 
 pub returns-clause-row : goal.returns-clause-row
 returns-clause-row c = grind (arith, common_steps)
+
+pub overflow_cast-column : goal.overflow_cast-column
+overflow_cast-column c = grind (arith, common_steps)
+
+pub loop-column-init : goal.loop-column-init
+loop-column-init c = grind (arith, common_steps)
+
+pub overflow_cast-total : goal.overflow_cast-total
+overflow_cast-total c = grind (arith, common_steps)
+
+pub put_term-requires-clause-small : goal.put_term-requires-clause-small
+put_term-requires-clause-small c = grind (arith, common_steps)
+
+pub same-row : goal.same-row
+same-row c = grind (arith, common_steps)

@@ -20,3 +20,15 @@ returns-then-coefficient-eq0 c = grind (arith, common_steps)
 
 pub unreachable-requires : goal.unreachable-requires
 unreachable-requires c = grind (arith, common_steps)
+
+pub overflow_cast-coefficient : goal.overflow_cast-coefficient
+overflow_cast-coefficient c = grind (arith, common_steps)
+
+pub unreachable-unreachable-in-Err-ZeroTerm : goal.unreachable-unreachable-in-Err-ZeroTerm
+unreachable-unreachable-in-Err-ZeroTerm c = grind (arith, common_steps)
+
+pub unreachable-unreachable : goal.unreachable-unreachable
+unreachable-unreachable c = grind (arith, common_steps)
+
+pub returns-in-Err-NoMemory : goal.returns-in-Err-NoMemory
+returns-in-Err-NoMemory c = grind (arith, common_steps)

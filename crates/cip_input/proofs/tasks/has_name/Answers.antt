@@ -1,9 +1,10 @@
+use Rattle.std.proofs.lemmas.Grind.{common_steps}
 use Rattle.std.proofs.lemmas.List.{take_all}
 use Rattle.std.specs.List.{list_any}
 use Rattle.std.specs.Str.{bytes_eq}
 use Rattle.std.proofs.lemmas.Bool.{or_from}
 use Rattle.std.proofs.lemmas.List.Folds.{list_any_more, list_any_at}
-use Rattle.std.proofs.Common.{ℕ, List, ap, sym, ◌∙◌}
+use Rattle.std.proofs.Common.{ℕ, List, ap, sym, ◌∙◌, arith}
 use Rattle.cip_input.proofs.tasks.has_name.Goals as goal
 
 pub loop-plugin-preserved : goal.loop-plugin-preserved
@@ -19,3 +20,6 @@ returns-then-eq g c =
 
 pub returns : goal.returns
 returns g c = sym c.loop-plugin.invariant ∙ ap (list_any {X = g.row.P.Denot} (λ plugin. bytes_eq (g.P.Tells.who plugin).label c.args.name.now)) (take_all c.loop-plugin.plugin-index c.args.plugins.now c.loop-plugin-test.false)
+
+pub offset_bounds-plugins-plugin-index : goal.offset_bounds-plugins-plugin-index
+offset_bounds-plugins-plugin-index g c = grind (arith, common_steps)

@@ -1,9 +1,10 @@
+use Rattle.std.proofs.lemmas.Grind.{common_steps}
 use Rattle.std.proofs.lemmas.List.{take_all}
 use Rattle.std.specs.List.{list_any, list_all}
 use Rattle.std.specs.Str.{bytes_eq}
 use Rattle.std.proofs.lemmas.Bool.{and_from}
 use Rattle.std.proofs.lemmas.List.Folds.{list_all_more, list_all_at}
-use Rattle.std.proofs.Common.{ℕ, List, Bor, ap, sym, ◌∙◌}
+use Rattle.std.proofs.Common.{ℕ, List, Bor, ap, sym, ◌∙◌, arith}
 use Rattle.cip_input.proofs.tasks.have_names.Goals as goal
 
 pub loop-name-preserved : goal.loop-name-preserved
@@ -17,3 +18,9 @@ returns-then-not-has_name g c =
 pub returns : goal.returns
 returns g c =
     sym c.loop-name.invariant ∙ ap (list_all (λ (name : Bor (List ℕ)). list_any {X = g.row.P.Denot} (λ plugin. bytes_eq (g.P.Tells.who plugin).label name.now) c.args.plugins.now)) (take_all c.loop-name.name-index c.args.names.now c.loop-name-test.false)
+
+pub has_name-requires-text-name : goal.has_name-requires-text-name
+has_name-requires-text-name g c = grind (arith, common_steps)
+
+pub offset_bounds-names-name-index : goal.offset_bounds-names-name-index
+offset_bounds-names-name-index g c = grind (arith, common_steps)

@@ -14,3 +14,6 @@ returns-in_err-job-clause-job g c = not_job _ _ _ _ (job_refused _ _ _ c.in_err-
 
 pub returns-then-are_there-clause-range : goal.returns-then-are_there-clause-range
 returns-then-are_there-clause-range g c = grind (arith, common_steps)
+
+pub returns-clause-range : goal.returns-clause-range
+returns-clause-range g c = grind (arith, common_steps)

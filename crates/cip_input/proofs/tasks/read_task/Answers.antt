@@ -29,3 +29,9 @@ read_solve-requires-text-model g c = grind (arith, common_steps)
 
 pub returns-in-Err : goal.returns-in-Err
 returns-in-Err g c = grind (arith, common_steps)
+
+pub read_check-requires-text-point : goal.read_check-requires-text-point
+read_check-requires-text-point g c = grind (arith, common_steps)
+
+pub read_check-requires-text-model : goal.read_check-requires-text-model
+read_check-requires-text-model g c = grind (arith, common_steps)

@@ -15,3 +15,6 @@ returns-in-Ok g c = grind (arith, common_steps)
 
 pub returns-in_default : goal.returns-in_default
 returns-in_default g c = grind (arith, common_steps)
+
+pub read_blocks-requires-text-name : goal.read_blocks-requires-text-name
+read_blocks-requires-text-name g c = grind (arith, common_steps)

@@ -19,3 +19,12 @@ returns-in-Some-Empty c point k =
 
 pub best_of-requires-clause-optimal : goal.best_of-requires-clause-optimal
 best_of-requires-clause-optimal c = grind (arith, common_steps)
+
+pub best_of-requires-clause-leaf : goal.best_of-requires-clause-leaf
+best_of-requires-clause-leaf c = grind (arith, common_steps)
+
+pub returns-in-Some-Optimal : goal.returns-in-Some-Optimal
+returns-in-Some-Optimal c = grind (arith, common_steps)
+
+pub returns-in-None : goal.returns-in-None
+returns-in-None c = grind (arith, common_steps)

@@ -20,3 +20,9 @@ returns c =
 
 pub show-found-requires-clause-room : goal.show-found-requires-clause-room
 show-found-requires-clause-room c = grind (arith, common_steps)
+
+pub show-found-requires-clause-ready : goal.show-found-requires-clause-ready
+show-found-requires-clause-ready c = grind (arith, common_steps)
+
+pub new-requires : goal.new-requires
+new-requires c = grind (arith, common_steps)

@@ -1,4 +1,5 @@
-use Rattle.std.proofs.Common.{Option, None, Some, IfSome}
+use Rattle.std.proofs.lemmas.Grind.{common_steps}
+use Rattle.std.proofs.Common.{Option, None, Some, IfSome, arith}
 use Rattle.cip_problem.specs.LinearProgram.{LinearProgram}
 use Rattle.cip_simplex.specs.Reached.{Holds, IsReached}
 use Rattle.cip_simplex.specs.Starts.{Stands}
@@ -11,3 +12,6 @@ holds program (Some found) last r = r.answered.right
 
 pub returns-in-Ok : goal.returns-in-Ok
 returns-in-Ok c = holds c.args.lp.now c.in-Ok.found c.in-Ok.last c.in-Ok.ensures
+
+pub solve_greedily-solved-requires : goal.solve_greedily-solved-requires
+solve_greedily-solved-requires c = grind (arith, common_steps)

@@ -25,3 +25,6 @@ returns-in-Feasible c =
 
 pub check-requires-clause-long : goal.check-requires-clause-long
 check-requires-clause-long c = grind (arith, common_steps)
+
+pub returns-in_default : goal.returns-in_default
+returns-in_default c = grind (arith, common_steps)

@@ -25,3 +25,6 @@ check_ray-requires-clause-point c = grind (arith, common_steps)
 
 pub check_ray-requires-clause-ray : goal.check_ray-requires-clause-ray
 check_ray-requires-clause-ray c = grind (arith, common_steps)
+
+pub returns : goal.returns
+returns c = grind (arith, common_steps)

@@ -19,3 +19,15 @@ best_of-requires-clause-optimal c = grind (arith, common_steps)
 
 pub ray_of-requires-clause-point : goal.ray_of-requires-clause-point
 ray_of-requires-clause-point c = grind (arith, common_steps)
+
+pub returns-in-Unbounded : goal.returns-in-Unbounded
+returns-in-Unbounded c = grind (arith, common_steps)
+
+pub best_of-requires-clause-leaf : goal.best_of-requires-clause-leaf
+best_of-requires-clause-leaf c = grind (arith, common_steps)
+
+pub returns-in-Optimal : goal.returns-in-Optimal
+returns-in-Optimal c = grind (arith, common_steps)
+
+pub ray_of-requires-clause-leaf : goal.ray_of-requires-clause-leaf
+ray_of-requires-clause-leaf c = grind (arith, common_steps)

@@ -7,3 +7,12 @@ loop-r-init c = grind (arith, common_steps)
 
 pub returns : goal.returns
 returns c = grind (arith, common_steps)
+
+pub bounds-rows-r : goal.bounds-rows-r
+bounds-rows-r c = grind (arith, common_steps)
+
+pub offset_bounds-rows-r : goal.offset_bounds-rows-r
+offset_bounds-rows-r c = grind (arith, common_steps)
+
+pub overflow_cast-r : goal.overflow_cast-r
+overflow_cast-r c = grind (arith, common_steps)

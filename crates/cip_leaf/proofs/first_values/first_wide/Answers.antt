@@ -61,3 +61,12 @@ first-first-requires-clause-costs_long c = grind (arith, common_steps)
 
 pub overflow_cast-len : goal.overflow_cast-len
 overflow_cast-len c = omega arith
+
+pub unreachable-unreachable : goal.unreachable-unreachable
+unreachable-unreachable c = grind (arith, common_steps)
+
+pub returns : goal.returns
+returns c = grind (arith, common_steps)
+
+pub entries_of-requires : goal.entries_of-requires
+entries_of-requires c = grind (arith, common_steps)

@@ -51,3 +51,15 @@ unreachable-requires c =
 
 pub returns-in-Wide : goal.returns-in-Wide
 returns-in-Wide c = grind (arith, common_steps)
+
+pub returns-in-Unbounded : goal.returns-in-Unbounded
+returns-in-Unbounded c = grind (arith, common_steps)
+
+pub optimum-requires-clause-leaf : goal.optimum-requires-clause-leaf
+optimum-requires-clause-leaf c = grind (arith, common_steps)
+
+pub returns-in-Optimal : goal.returns-in-Optimal
+returns-in-Optimal c = grind (arith, common_steps)
+
+pub endless-requires-clause-leaf : goal.endless-requires-clause-leaf
+endless-requires-clause-leaf c = grind (arith, common_steps)

@@ -31,3 +31,12 @@ returns-in-Ok c = grind (arith, common_steps)
 
 pub returns-in-Some : goal.returns-in-Some
 returns-in-Some c = grind (arith, common_steps)
+
+pub shown_by_few-requires-clause-leaf : goal.shown_by_few-requires-clause-leaf
+shown_by_few-requires-clause-leaf c = grind (arith, common_steps)
+
+pub shown_by_few-requires-clause-formed : goal.shown_by_few-requires-clause-formed
+shown_by_few-requires-clause-formed c = grind (arith, common_steps)
+
+pub returns-in-Err : goal.returns-in-Err
+returns-in-Err c = grind (arith, common_steps)

@@ -17,3 +17,9 @@ activity-requires c = grind (arith, common_steps)
 
 pub overflow_cast-result : goal.overflow_cast-result
 overflow_cast-result c = omega arith
+
+pub bounds-rows-at : goal.bounds-rows-at
+bounds-rows-at c = grind (arith, common_steps)
+
+pub offset_bounds-rows-at : goal.offset_bounds-rows-at
+offset_bounds-rows-at c = grind (arith, common_steps)

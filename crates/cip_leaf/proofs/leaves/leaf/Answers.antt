@@ -11,3 +11,6 @@ returns c =
 
 pub values_answer-requires : goal.values_answer-requires
 values_answer-requires c = grind (arith, common_steps)
+
+pub new-decided-requires : goal.new-decided-requires
+new-decided-requires c = grind (arith, common_steps)

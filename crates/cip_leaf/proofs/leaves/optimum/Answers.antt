@@ -40,3 +40,6 @@ returns-in-Wide c =
 
 pub check-requires-clause-long : goal.check-requires-clause-long
 check-requires-clause-long c = grind (arith, common_steps)
+
+pub unreachable-unreachable : goal.unreachable-unreachable
+unreachable-unreachable c = grind (arith, common_steps)

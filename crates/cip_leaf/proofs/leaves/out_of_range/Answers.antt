@@ -14,3 +14,6 @@ first_wide-requires-clause-solvable c = grind (arith, common_steps)
 
 pub returns : goal.returns
 returns c = grind (arith, common_steps)
+
+pub returns-then-moves-gt0 : goal.returns-then-moves-gt0
+returns-then-moves-gt0 c = grind (arith, common_steps)

@@ -10,3 +10,18 @@ returns-in-Err-Wide c =
 
 pub tested-requires-clause-whole : goal.tested-requires-clause-whole
 tested-requires-clause-whole c = grind (arith, common_steps)
+
+pub answer_on-answer-requires-clause-formed : goal.answer_on-answer-requires-clause-formed
+answer_on-answer-requires-clause-formed c = grind (arith, common_steps)
+
+pub returns-in-Ok : goal.returns-in-Ok
+returns-in-Ok c = grind (arith, common_steps)
+
+pub returns-then-are_all_whole : goal.returns-then-are_all_whole
+returns-then-are_all_whole c = grind (arith, common_steps)
+
+pub answer_on-answer-requires-clause-parts : goal.answer_on-answer-requires-clause-parts
+answer_on-answer-requires-clause-parts c = grind (arith, common_steps)
+
+pub returns-in-Err-NoMemory : goal.returns-in-Err-NoMemory
+returns-in-Err-NoMemory c = grind (arith, common_steps)

@@ -21,3 +21,9 @@ bounds-costs-at c = omega arith
 
 pub loop-at-init : goal.loop-at-init
 loop-at-init c = grind (arith, common_steps)
+
+pub offset_bounds-costs-at : goal.offset_bounds-costs-at
+offset_bounds-costs-at c = grind (arith, common_steps)
+
+pub bounds-whole-at : goal.bounds-whole-at
+bounds-whole-at c = grind (arith, common_steps)

@@ -21,3 +21,12 @@ bounds-sides-at c = omega arith
 
 pub loop-at-init : goal.loop-at-init
 loop-at-init c = grind (arith, common_steps)
+
+pub offset_bounds-sides-at : goal.offset_bounds-sides-at
+offset_bounds-sides-at c = grind (arith, common_steps)
+
+pub bounds-whole-at : goal.bounds-whole-at
+bounds-whole-at c = grind (arith, common_steps)
+
+pub same-bounds : goal.same-bounds
+same-bounds c = grind (arith, common_steps)

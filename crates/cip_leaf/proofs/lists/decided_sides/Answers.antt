@@ -37,3 +37,12 @@ loop-column-init c = grind (arith, common_steps)
 
 pub sides-requires : goal.sides-requires
 sides-requires c = omega arith
+
+pub taken_behind-taken-requires : goal.taken_behind-taken-requires
+taken_behind-taken-requires c = grind (arith, common_steps)
+
+pub overflow_cast-column-end : goal.overflow_cast-column-end
+overflow_cast-column-end c = grind (arith, common_steps)
+
+pub same-decided : goal.same-decided
+same-decided c = grind (arith, common_steps)

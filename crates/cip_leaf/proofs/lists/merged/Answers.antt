@@ -34,3 +34,9 @@ overflow_add-put c = omega arith
 
 pub overflow_add-taken : goal.overflow_add-taken
 overflow_add-taken c = omega arith
+
+pub returns-clause-long : goal.returns-clause-long
+returns-clause-long c = grind (arith, common_steps)
+
+pub bounds-whole-at : goal.bounds-whole-at
+bounds-whole-at c = grind (arith, common_steps)

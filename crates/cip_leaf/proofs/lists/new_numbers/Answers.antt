@@ -1,3 +1,4 @@
+use Rattle.std.proofs.lemmas.Grind.{common_steps}
 use Rattle.std.proofs.Common.{◌<◌, length, arith}
 use Rattle.cip_leaf.proofs.ListSteps.{numbered_whole, numbered_other, numbered_end}
 use Rattle.cip_leaf.proofs.lists.new_numbers.Goals as goal
@@ -23,3 +24,6 @@ returns c = numbered_end c.loop-at.count c.loop-at.at c.args.whole.now c.loop-at
 
 pub overflow_add-count : goal.overflow_add-count
 overflow_add-count c = omega arith
+
+pub loop-at-init : goal.loop-at-init
+loop-at-init c = grind (arith, common_steps)

@@ -13,3 +13,21 @@ put_terms-requires-clause-valid c = grind (arith, common_steps)
 
 pub returns : goal.returns
 returns c = grind (arith, common_steps)
+
+pub put_terms-requires-clause-empty : goal.put_terms-requires-clause-empty
+put_terms-requires-clause-empty c = grind (arith, common_steps)
+
+pub put_terms-requires-clause-numbers : goal.put_terms-requires-clause-numbers
+put_terms-requires-clause-numbers c = grind (arith, common_steps)
+
+pub returns-in_default-shifted-2 : goal.returns-in_default-shifted-2
+returns-in_default-shifted-2 c = grind (arith, common_steps)
+
+pub returns-in_default-shifted : goal.returns-in_default-shifted
+returns-in_default-shifted c = grind (arith, common_steps)
+
+pub returns-in_default : goal.returns-in_default
+returns-in_default c = grind (arith, common_steps)
+
+pub same-left : goal.same-left
+same-left c = grind (arith, common_steps)

@@ -7,3 +7,6 @@ returns-in-Ok c = grind (arith, common_steps)
 
 pub unreachable-requires : goal.unreachable-requires
 unreachable-requires c = grind (arith, common_steps)
+
+pub unreachable-unreachable : goal.unreachable-unreachable
+unreachable-unreachable c = grind (arith, common_steps)

@@ -59,3 +59,9 @@ loop-term-init c = grind (arith, common_steps)
 
 pub returns : goal.returns
 returns c = grind (arith, common_steps)
+
+pub offset_bounds-numbers-column : goal.offset_bounds-numbers-column
+offset_bounds-numbers-column c = grind (arith, common_steps)
+
+pub offset_bounds-terms-term-index : goal.offset_bounds-terms-term-index
+offset_bounds-terms-term-index c = grind (arith, common_steps)

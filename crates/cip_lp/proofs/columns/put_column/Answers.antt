@@ -28,3 +28,24 @@ returns-in_default-reserve-clause-err c = grind (arith, common_steps)
 
 pub returns-in_default-to_vec-clause-err : goal.returns-in_default-to_vec-clause-err
 returns-in_default-to_vec-clause-err c = grind (arith, common_steps)
+
+pub returns-in_default-clause-err : goal.returns-in_default-clause-err
+returns-in_default-clause-err c = grind (arith, common_steps)
+
+pub returns-in_default-add-clause-ok : goal.returns-in_default-add-clause-ok
+returns-in_default-add-clause-ok c = grind (arith, common_steps)
+
+pub returns-clause-err : goal.returns-clause-err
+returns-clause-err c = grind (arith, common_steps)
+
+pub returns-in_default-to_vec-clause-ok : goal.returns-in_default-to_vec-clause-ok
+returns-in_default-to_vec-clause-ok c = grind (arith, common_steps)
+
+pub returns-in_default-reserve-2-clause-ok : goal.returns-in_default-reserve-2-clause-ok
+returns-in_default-reserve-2-clause-ok c = grind (arith, common_steps)
+
+pub returns-in_default-reserve-clause-ok : goal.returns-in_default-reserve-clause-ok
+returns-in_default-reserve-clause-ok c = grind (arith, common_steps)
+
+pub returns-in_default-clause-ok : goal.returns-in_default-clause-ok
+returns-in_default-clause-ok c = grind (arith, common_steps)

@@ -19,3 +19,12 @@ returns-then-is_zero c = grind (arith, common_steps)
 
 pub unreachable-requires : goal.unreachable-requires
 unreachable-requires c = grind (arith, common_steps)
+
+pub unreachable-unreachable : goal.unreachable-unreachable
+unreachable-unreachable c = grind (arith, common_steps)
+
+pub unreachable-unreachable-in-Err-ZeroTerm : goal.unreachable-unreachable-in-Err-ZeroTerm
+unreachable-unreachable-in-Err-ZeroTerm c = grind (arith, common_steps)
+
+pub returns-in-Err-NoMemory : goal.returns-in-Err-NoMemory
+returns-in-Err-NoMemory c = grind (arith, common_steps)

@@ -22,3 +22,12 @@ loop-number-preserved c =
 
 pub returns : goal.returns
 returns c = grind (arith, common_steps)
+
+pub offset_bounds-form-number-index : goal.offset_bounds-form-number-index
+offset_bounds-form-number-index c = grind (arith, common_steps)
+
+pub loop-number-init : goal.loop-number-init
+loop-number-init c = grind (arith, common_steps)
+
+pub same-row : goal.same-row
+same-row c = grind (arith, common_steps)

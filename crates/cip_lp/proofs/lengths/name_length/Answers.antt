@@ -7,3 +7,9 @@ count-requires-clause-fits c = grind (arith, common_steps)
 
 pub returns-clause-within : goal.returns-clause-within
 returns-clause-within c = grind (arith, common_steps)
+
+pub count-requires-clause-can : goal.count-requires-clause-can
+count-requires-clause-can c = grind (arith, common_steps)
+
+pub count-requires-clause-finite : goal.count-requires-clause-finite
+count-requires-clause-finite c = grind (arith, common_steps)

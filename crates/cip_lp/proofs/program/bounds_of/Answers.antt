@@ -7,3 +7,9 @@ loop-own-preserved c = grind (arith, common_steps)
 
 pub returns : goal.returns
 returns c = grind (arith, common_steps)
+
+pub offset_bounds-sides-own-index : goal.offset_bounds-sides-own-index
+offset_bounds-sides-own-index c = grind (arith, common_steps)
+
+pub returns-in_default : goal.returns-in_default
+returns-in_default c = grind (arith, common_steps)

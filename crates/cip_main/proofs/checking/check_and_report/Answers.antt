@@ -13,3 +13,12 @@ returns-in-Ok-clause-holds g c = grind (arith, common_steps)
 
 pub returns-in-Ok-clause-says : goal.returns-in-Ok-clause-says
 returns-in-Ok-clause-says g c = grind (arith, common_steps)
+
+pub report_check-requires-clause-long : goal.report_check-requires-clause-long
+report_check-requires-clause-long g c = grind (arith, common_steps)
+
+pub check-verdict-requires : goal.check-verdict-requires
+check-verdict-requires g c = grind (arith, common_steps)
+
+pub report_check-requires-clause-meaning : goal.report_check-requires-clause-meaning
+report_check-requires-clause-meaning g c = grind (arith, common_steps)

@@ -20,3 +20,18 @@ returns-in-Ok-Generate g c =
 
 pub check_and_report-status-requires : goal.check_and_report-status-requires
 check_and_report-status-requires g c = grind (arith, common_steps)
+
+pub solve_drawn-status-requires-clause-limited : goal.solve_drawn-status-requires-clause-limited
+solve_drawn-status-requires-clause-limited g c = grind (arith, common_steps)
+
+pub solve_and_report-status-requires-clause-limited : goal.solve_and_report-status-requires-clause-limited
+solve_and_report-status-requires-clause-limited g c = grind (arith, common_steps)
+
+pub solve_and_report-status-requires-clause-some : goal.solve_and_report-status-requires-clause-some
+solve_and_report-status-requires-clause-some g c = grind (arith, common_steps)
+
+pub solve_drawn-status-requires-clause-few : goal.solve_drawn-status-requires-clause-few
+solve_drawn-status-requires-clause-few g c = grind (arith, common_steps)
+
+pub solve_and_report-status-requires-clause-few : goal.solve_and_report-status-requires-clause-few
+solve_and_report-status-requires-clause-few g c = grind (arith, common_steps)

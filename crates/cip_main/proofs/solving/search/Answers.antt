@@ -1,3 +1,4 @@
+use Rattle.std.proofs.lemmas.Grind.{common_steps}
 use Rattle.std.proofs.Common.{◌≡◌, ◌++◌, ◌∷◌, [], refl, rules, arith}
 use Rattle.cip_solve.proofs.PassedOn.{near_columns}
 use Rattle.cip_input.specs.WordsRead.{limits_of}
@@ -30,3 +31,6 @@ returns g c =
 
 pub lessen-requires : goal.lessen-requires
 lessen-requires g c = omega arith
+
+pub solve-answer-requires-clause-some : goal.solve-answer-requires-clause-some
+solve-answer-requires-clause-some g c = grind (arith, common_steps)

@@ -1,3 +1,4 @@
+use Rattle.std.proofs.lemmas.Grind.{common_steps}
 use Rattle.std.proofs.Common.{arith, ap, map}
 use Rattle.cip_input.specs.Jobs.{usual_limits}
 use Rattle.cip_report.specs.Drawn.{drawn_of}
@@ -9,3 +10,12 @@ pub returns : goal.returns
 returns g c =
     let searched = searched_usual c.args.program.now _ _ _ _ _ c.search-answer.result (ap (map (λ name. name.now)) c.new.ensures.items) c.search-answer.ensures.searched in
     works_of c.args.program.now usual_limits (self_told (drawn_of c.args.drawn)) _ _ _ _ c.search-answer.result _ _ _ c.requires.limited (omega arith) searched c.tell_drawn.ensures
+
+pub search-answer-requires-clause-few : goal.search-answer-requires-clause-few
+search-answer-requires-clause-few g c = grind (arith, common_steps)
+
+pub search-answer-requires-clause-limited : goal.search-answer-requires-clause-limited
+search-answer-requires-clause-limited g c = grind (arith, common_steps)
+
+pub search-answer-requires-clause-some : goal.search-answer-requires-clause-some
+search-answer-requires-clause-some g c = grind (arith, common_steps)

@@ -7,3 +7,6 @@ returns-in-Err g c = grind (arith, common_steps)
 
 pub returns-in-Ok : goal.returns-in-Ok
 returns-in-Ok g c = grind (arith, common_steps)
+
+pub report-requires : goal.report-requires
+report-requires g c = grind (arith, common_steps)

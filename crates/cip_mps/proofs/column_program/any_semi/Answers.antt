@@ -19,3 +19,6 @@ returns-then-is_semi c =
 
 pub returns : goal.returns
 returns c = grind (arith, common_steps)
+
+pub offset_bounds-columns-column-index : goal.offset_bounds-columns-column-index
+offset_bounds-columns-column-index c = grind (arith, common_steps)

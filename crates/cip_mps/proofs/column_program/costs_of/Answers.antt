@@ -1,3 +1,4 @@
+use Rattle.std.proofs.lemmas.Grind.{common_steps}
 use Rattle.std.proofs.lemmas.List.{append-nil}
 use Rattle.std.proofs.Common.{◌≡◌, arith, sym, ap, add-one, subst, true, ℕ, ◌++◌, ◌-◌, ◌∙◌}
 use Rattle.cip_text_rules.specs.MpsState.{costs_from}
@@ -29,3 +30,12 @@ returns c =
     let at = c.loop-column in
     let none : c.args.columns - at.column ≡ 0 = omega (arith, c.loop-column-test.false) in
     sym (append-nil at.costs.items) ∙ ap (λ (n : ℕ). at.costs.items ++ costs_from c.args.sense at.rest.now at.column n) (sym none) ∙ at.invariant.costs
+
+pub overflow_cast-column : goal.overflow_cast-column
+overflow_cast-column c = grind (arith, common_steps)
+
+pub value_at-cost-requires-clause-from : goal.value_at-cost-requires-clause-from
+value_at-cost-requires-clause-from c = grind (arith, common_steps)
+
+pub value_at-cost-requires-clause-rising : goal.value_at-cost-requires-clause-rising
+value_at-cost-requires-clause-rising c = grind (arith, common_steps)

@@ -23,3 +23,12 @@ returns-then-first-column-clause-rest c = grind (arith, common_steps)
 
 pub returns-then-first-column-clause-value : goal.returns-then-first-column-clause-value
 returns-then-first-column-clause-value c = grind (arith, common_steps)
+
+pub bounds-held-0 : goal.bounds-held-0
+bounds-held-0 c = grind (arith, common_steps)
+
+pub slice_bounds-rest-count : goal.slice_bounds-rest-count
+slice_bounds-rest-count c = grind (arith, common_steps)
+
+pub slice_bounds-rest-start : goal.slice_bounds-rest-start
+slice_bounds-rest-start c = grind (arith, common_steps)

@@ -1,3 +1,5 @@
+use Rattle.std.proofs.lemmas.Grind.{common_steps}
+use Rattle.std.proofs.Common.{arith}
 use Rattle.cip_text_rules.specs.MpsBounds.{Bounded, settled}
 use Rattle.cip_mps.proofs.ListLaws.{mapped_more, mapped_all}
 use Rattle.cip_mps.proofs.column_program.wholes_of.Goals as goal
@@ -12,3 +14,6 @@ loop-column-preserved c =
 
 pub returns : goal.returns
 returns c = mapped_all (λ (column : Bounded). (settled column).whole) c.args.columns.now c.loop-column.column-index c.loop-column.wholes.items c.loop-column-test.false c.loop-column.invariant
+
+pub offset_bounds-columns-column-index : goal.offset_bounds-columns-column-index
+offset_bounds-columns-column-index c = grind (arith, common_steps)

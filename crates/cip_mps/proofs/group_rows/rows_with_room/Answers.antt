@@ -1,3 +1,4 @@
+use Rattle.std.proofs.lemmas.Grind.{common_steps}
 use Rattle.cip_problem.specs.Program.{Sides}
 use Rattle.cip_text_rules.specs.MpsProgram.{row_with}
 use Rattle.cip_mps.specs.GroupedRows.{empty_row}
@@ -23,3 +24,15 @@ bounds-counts-place c = omega arith
 
 pub offset_bounds-counts-place : goal.offset_bounds-counts-place
 offset_bounds-counts-place c = omega arith
+
+pub bounds-heads-place : goal.bounds-heads-place
+bounds-heads-place c = grind (arith, common_steps)
+
+pub offset_bounds-heads-place : goal.offset_bounds-heads-place
+offset_bounds-heads-place c = grind (arith, common_steps)
+
+pub returns-in_default : goal.returns-in_default
+returns-in_default c = grind (arith, common_steps)
+
+pub loop-place-init : goal.loop-place-init
+loop-place-init c = grind (arith, common_steps)

@@ -1,4 +1,5 @@
-use Rattle.std.proofs.Common.{◌+◌, ◌++◌, ◌∷◌, [], List, drop, drop-cons, map, suc, refl, ap, sym, ◌∙◌}
+use Rattle.std.proofs.lemmas.Grind.{common_steps}
+use Rattle.std.proofs.Common.{◌+◌, ◌++◌, ◌∷◌, [], List, drop, drop-cons, map, suc, refl, ap, sym, ◌∙◌, arith}
 use Rattle.std.proofs.lemmas.Bool.{eq-eqb, ne_eqb}
 use Rattle.std.proofs.lemmas.List.{append-nil, drop_all}
 use Rattle.cip_text_rules.specs.MpsState.{Held}
@@ -36,3 +37,6 @@ returns c =
     let numbers = c.loop-number.numbers.items in
     sym (ap (λ (xs : List Far). numbers ++ numbers_of c.args.row (map far_entry xs)) (drop_all c.loop-number.number-index c.args.far.now c.loop-number-test.false) ∙ append-nil numbers)
     ∙ c.loop-number.invariant
+
+pub offset_bounds-far-number-index : goal.offset_bounds-far-number-index
+offset_bounds-far-number-index c = grind (arith, common_steps)

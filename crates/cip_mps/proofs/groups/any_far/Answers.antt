@@ -10,3 +10,6 @@ returns c = grind (arith, common_steps)
 
 pub returns-then-other-row : goal.returns-then-other-row
 returns-then-other-row c = grind (arith, common_steps)
+
+pub offset_bounds-far-other-index : goal.offset_bounds-far-other-index
+offset_bounds-far-other-index c = grind (arith, common_steps)

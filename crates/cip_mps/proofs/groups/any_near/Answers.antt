@@ -10,3 +10,6 @@ returns c = grind (arith, common_steps)
 
 pub returns-then-number-row : goal.returns-then-number-row
 returns-then-number-row c = grind (arith, common_steps)
+
+pub offset_bounds-near-number-index : goal.offset_bounds-near-number-index
+offset_bounds-near-number-index c = grind (arith, common_steps)

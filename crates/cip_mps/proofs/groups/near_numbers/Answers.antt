@@ -1,4 +1,5 @@
-use Rattle.std.proofs.Common.{◌+◌, ◌++◌, ◌∷◌, [], List, drop, drop-cons, map, pos, ap, sym, ◌∙◌}
+use Rattle.std.proofs.lemmas.Grind.{common_steps}
+use Rattle.std.proofs.Common.{◌+◌, ◌++◌, ◌∷◌, [], List, drop, drop-cons, map, pos, ap, sym, ◌∙◌, arith}
 use Rattle.std.specs.Prelude.{slice_index_or}
 use Rattle.std.proofs.lemmas.Bool.{eq-eqb, ne_eqb}
 use Rattle.std.proofs.lemmas.List.{append-nil, drop_all}
@@ -37,3 +38,6 @@ returns c =
     let numbers = c.loop-number.numbers.items in
     sym (ap (λ (xs : List Near). numbers ++ numbers_of c.args.row (map near_entry xs)) (drop_all c.loop-number.number-index c.args.near.now c.loop-number-test.false) ∙ append-nil numbers)
     ∙ c.loop-number.invariant
+
+pub offset_bounds-near-number-index : goal.offset_bounds-near-number-index
+offset_bounds-near-number-index c = grind (arith, common_steps)

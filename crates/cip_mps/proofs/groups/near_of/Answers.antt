@@ -18,3 +18,9 @@ returns-then-value-2 c =
 
 pub overflow_cast-result : goal.overflow_cast-result
 overflow_cast-result c = grind (arith, common_steps)
+
+pub returns-else-value : goal.returns-else-value
+returns-else-value c = grind (arith, common_steps)
+
+pub returns-then-not-is_whole : goal.returns-then-not-is_whole
+returns-then-not-is_whole c = grind (arith, common_steps)

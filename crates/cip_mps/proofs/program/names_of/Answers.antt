@@ -1,3 +1,4 @@
+use Rattle.std.proofs.lemmas.Grind.{common_steps}
 use Rattle.std.proofs.lemmas.List.{take_all}
 use Rattle.std.proofs.Common.{◌++◌, ◌∷◌, [], cond, refl, ap, sym, ◌∙◌, take, add-one, arith, length, ◌≤◌, ap₂}
 use Rattle.std.specs.Prelude.{slice_index_or}
@@ -28,3 +29,15 @@ returns c =
     let here : length c.args.rows.now ≤ n = rw c.len-number-end.ensures at c.loop-number-test.false in
     let there : length c.args.names.now ≤ n = omega (arith, here, c.requires) in
     c.loop-number.invariant ∙ ap₂ kept_names (take_all n c.args.names.now there) (take_all n c.args.rows.now here)
+
+pub name-requires : goal.name-requires
+name-requires c = grind (arith, common_steps)
+
+pub head-requires : goal.head-requires
+head-requires c = grind (arith, common_steps)
+
+pub loop-number-init : goal.loop-number-init
+loop-number-init c = grind (arith, common_steps)
+
+pub same-kept : goal.same-kept
+same-kept c = grind (arith, common_steps)

@@ -14,3 +14,6 @@ loop-number-preserved c = grind (arith, common_steps)
 
 pub returns : goal.returns
 returns c = grind (arith, common_steps)
+
+pub head-requires : goal.head-requires
+head-requires c = grind (arith, common_steps)

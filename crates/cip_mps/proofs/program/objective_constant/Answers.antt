@@ -7,3 +7,6 @@ returns-in-None c = grind (arith, common_steps)
 
 pub returns-in-Some : goal.returns-in-Some
 returns-in-Some c = grind (arith, common_steps)
+
+pub head-requires : goal.head-requires
+head-requires c = grind (arith, common_steps)

@@ -4,3 +4,18 @@ use Rattle.cip_mps.proofs.row_table.make_group.Goals as goal
 
 pub returns-in_ok-push-clause-same : goal.returns-in_ok-push-clause-same
 returns-in_ok-push-clause-same c = grind (arith, common_steps)
+
+pub returns-in_ok-push-clause-room : goal.returns-in_ok-push-clause-room
+returns-in_ok-push-clause-room c = grind (arith, common_steps)
+
+pub returns-in_ok-push-clause-enough : goal.returns-in_ok-push-clause-enough
+returns-in_ok-push-clause-enough c = grind (arith, common_steps)
+
+pub returns-in_err-push-clause-enough : goal.returns-in_err-push-clause-enough
+returns-in_err-push-clause-enough c = grind (arith, common_steps)
+
+pub returns-else-len-number-clause-room : goal.returns-else-len-number-clause-room
+returns-else-len-number-clause-room c = grind (arith, common_steps)
+
+pub returns-else-len-number-clause-enough : goal.returns-else-len-number-clause-enough
+returns-else-len-number-clause-enough c = grind (arith, common_steps)

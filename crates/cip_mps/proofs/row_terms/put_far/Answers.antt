@@ -1,4 +1,5 @@
-use Rattle.std.proofs.Common.{◌+◌, List, ◌∷◌, drop, drop-cons, map, suc, refl, ap, sym, ◌∙◌}
+use Rattle.std.proofs.lemmas.Grind.{common_steps}
+use Rattle.std.proofs.Common.{◌+◌, List, ◌∷◌, drop, drop-cons, map, suc, refl, ap, sym, ◌∙◌, arith}
 use Rattle.std.specs.Prelude.{nat_lt, slice_index_or}
 use Rattle.std.specs.List.{list_all}
 use Rattle.std.proofs.lemmas.List.{drop_all}
@@ -44,3 +45,6 @@ returns c =
     let rows = c.loop-number.rows.items in
     sym (ap (λ (xs : List Far). put_numbers rows (map far_entry xs)) (drop_all c.loop-number.number-index c.args.far.now c.loop-number-test.false))
     ∙ c.loop-number.invariant.put
+
+pub offset_bounds-far-number-index : goal.offset_bounds-far-number-index
+offset_bounds-far-number-index c = grind (arith, common_steps)

@@ -1,4 +1,5 @@
-use Rattle.std.proofs.Common.{◌+◌, List, drop, drop-cons, map, pos, refl, ap, sym, ◌∙◌}
+use Rattle.std.proofs.lemmas.Grind.{common_steps}
+use Rattle.std.proofs.Common.{◌+◌, List, drop, drop-cons, map, pos, refl, ap, sym, ◌∙◌, arith}
 use Rattle.std.specs.Prelude.{nat_lt, slice_index_or}
 use Rattle.std.specs.List.{list_all}
 use Rattle.std.proofs.lemmas.List.{drop_all}
@@ -44,3 +45,6 @@ returns c =
     let rows = c.loop-number.rows.items in
     sym (ap (λ (xs : List Near). put_numbers rows (map near_entry xs)) (drop_all c.loop-number.number-index c.args.near.now c.loop-number-test.false))
     ∙ c.loop-number.invariant.put
+
+pub offset_bounds-near-number-index : goal.offset_bounds-near-number-index
+offset_bounds-near-number-index c = grind (arith, common_steps)

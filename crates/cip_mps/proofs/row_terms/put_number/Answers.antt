@@ -7,3 +7,6 @@ returns-else-place-len c = grind (arith, common_steps)
 
 pub returns-in_ok-append : goal.returns-in_ok-append
 returns-in_ok-append c = grind (arith, common_steps)
+
+pub index_mut-row-requires : goal.index_mut-row-requires
+index_mut-row-requires c = grind (arith, common_steps)

@@ -26,3 +26,15 @@ returns c = grind (arith, common_steps)
 
 pub returns-in_default : goal.returns-in_default
 returns-in_default c = grind (arith, common_steps)
+
+pub loop-row-init : goal.loop-row-init
+loop-row-init c = grind (arith, common_steps)
+
+pub loop-row-init-derived : goal.loop-row-init-derived
+loop-row-init-derived c = grind (arith, common_steps)
+
+pub loop-row-preserved-in_ok-push-derived : goal.loop-row-preserved-in_ok-push-derived
+loop-row-preserved-in_ok-push-derived c = grind (arith, common_steps)
+
+pub loop-row-preserved-derived : goal.loop-row-preserved-derived
+loop-row-preserved-derived c = grind (arith, common_steps)

@@ -1,4 +1,5 @@
-use Rattle.std.proofs.Common.{◌≡◌, ◌∙◌, Option, IfSome, length, sym, ap, subst}
+use Rattle.std.proofs.lemmas.Grind.{common_steps}
+use Rattle.std.proofs.Common.{◌≡◌, ◌∙◌, Option, IfSome, length, sym, ap, subst, arith}
 use Rattle.cip_problem.specs.WellFormed.{columns}
 use Rattle.cip_domain.specs.Changes.{Region}
 use Rattle.cip_problem.specs.Improving.{IsBoundIn, HasNoImproving}
@@ -56,3 +57,30 @@ returns-in-Ok-clause-bounded c =
     let told = subst (λ (o : Option Told). IfSome o (λ t. IfSome t.bound (λ b. IsRaisedTo core b last.bound) → IfSome t.found.point (λ v. IsTriedBack (offered_core core new.tree new.incumbent) v.items) → IsFound (offered_core core new.tree new.incumbent) (box_of new.tree last) last.bound t.found)) (sym c.in-Some.ensures)
     (told_found core new.tree new.incumbent node last c.requires.at_work c.is_sound.ensures.sound c.is_sound.ensures.pool c.is_sound.ensures.reduced (c.offer_if.ensures.region ∙ ap (region_of core.tree) c.raise_if.ensures.node) c.args.relaxed c.requires.relaxed) in
     subst (λ (k : CoreState). IsFound k (box_of k.tree last) last.bound found) (sym c.offer_if.ensures.frame) (told c.raise_if.ensures.raised tried)
+
+pub returns-in-Err-clause-region : goal.returns-in-Err-clause-region
+returns-in-Err-clause-region c = grind (arith, common_steps)
+
+pub returns-in-Ok-clause-region : goal.returns-in-Ok-clause-region
+returns-in-Ok-clause-region c = grind (arith, common_steps)
+
+pub returns-in-Ok-clause-frame : goal.returns-in-Ok-clause-frame
+returns-in-Ok-clause-frame c = grind (arith, common_steps)
+
+pub returns-in-Err-clause-frame : goal.returns-in-Err-clause-frame
+returns-in-Err-clause-frame c = grind (arith, common_steps)
+
+pub offer_if-requires-clause-at_work : goal.offer_if-requires-clause-at_work
+offer_if-requires-clause-at_work c = grind (arith, common_steps)
+
+pub raise_if-requires-clause-at_work : goal.raise_if-requires-clause-at_work
+raise_if-requires-clause-at_work c = grind (arith, common_steps)
+
+pub returns-in-None-clause-region : goal.returns-in-None-clause-region
+returns-in-None-clause-region c = grind (arith, common_steps)
+
+pub returns-in-None-clause-frame : goal.returns-in-None-clause-frame
+returns-in-None-clause-frame c = grind (arith, common_steps)
+
+pub returns-in-Err-clause-bounded : goal.returns-in-Err-clause-bounded
+returns-in-Err-clause-bounded c = grind (arith, common_steps)

@@ -8,3 +8,24 @@ returns-in-None-clause-later c = later_at_itself c.args.core.now c.args.node.now
 
 pub offer_whole-requires-clause-values : goal.offer_whole-requires-clause-values
 offer_whole-requires-clause-values c = grind (arith, common_steps)
+
+pub returns-in-None-clause-tried : goal.returns-in-None-clause-tried
+returns-in-None-clause-tried c = grind (arith, common_steps)
+
+pub returns-in-Some-clause-region : goal.returns-in-Some-clause-region
+returns-in-Some-clause-region c = grind (arith, common_steps)
+
+pub returns-in-Some-clause-frame : goal.returns-in-Some-clause-frame
+returns-in-Some-clause-frame c = grind (arith, common_steps)
+
+pub returns-in-Some-clause-later : goal.returns-in-Some-clause-later
+returns-in-Some-clause-later c = grind (arith, common_steps)
+
+pub offer_whole-requires-clause-at_work : goal.offer_whole-requires-clause-at_work
+offer_whole-requires-clause-at_work c = grind (arith, common_steps)
+
+pub returns-in-None-clause-frame : goal.returns-in-None-clause-frame
+returns-in-None-clause-frame c = grind (arith, common_steps)
+
+pub returns-in-None-clause-region : goal.returns-in-None-clause-region
+returns-in-None-clause-region c = grind (arith, common_steps)

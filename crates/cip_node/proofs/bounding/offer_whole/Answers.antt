@@ -40,3 +40,9 @@ offer_back-requires-clause-at_work c = grind (arith, common_steps)
 
 pub offer_back-requires-clause-values : goal.offer_back-requires-clause-values
 offer_back-requires-clause-values c = omega arith
+
+pub returns-then-not-are_whole-clause-frame : goal.returns-then-not-are_whole-clause-frame
+returns-then-not-are_whole-clause-frame c = grind (arith, common_steps)
+
+pub returns-then-not-are_whole-clause-region : goal.returns-then-not-are_whole-clause-region
+returns-then-not-are_whole-clause-region c = grind (arith, common_steps)

@@ -55,3 +55,18 @@ go_back-requires-clause-given c = grind (arith, common_steps)
 
 pub go_back-requires-clause-up : goal.go_back-requires-clause-up
 go_back-requires-clause-up c = grind (arith, common_steps)
+
+pub returns-in-Err-clause-rows : goal.returns-in-Err-clause-rows
+returns-in-Err-clause-rows c = grind (arith, common_steps)
+
+pub returns-in-Err-clause-ended : goal.returns-in-Err-clause-ended
+returns-in-Err-clause-ended c = grind (arith, common_steps)
+
+pub returns-in-Ok-clause-kind : goal.returns-in-Ok-clause-kind
+returns-in-Ok-clause-kind c = grind (arith, common_steps)
+
+pub returns-in-Ok-clause-ended : goal.returns-in-Ok-clause-ended
+returns-in-Ok-clause-ended c = grind (arith, common_steps)
+
+pub returns-in-Ok-clause-rows : goal.returns-in-Ok-clause-rows
+returns-in-Ok-clause-rows c = grind (arith, common_steps)

@@ -16,3 +16,12 @@ loop-at-preserved c =
 
 pub returns : goal.returns
 returns c = grind (arith, common_steps)
+
+pub bounds-own-at : goal.bounds-own-at
+bounds-own-at c = grind (arith, common_steps)
+
+pub offset_bounds-own-at : goal.offset_bounds-own-at
+offset_bounds-own-at c = grind (arith, common_steps)
+
+pub loop-at-init : goal.loop-at-init
+loop-at-init c = grind (arith, common_steps)

@@ -1,4 +1,5 @@
-use Rattle.std.proofs.Common.{◌≡◌, List, length, ◌∙◌, ap, sym, subst}
+use Rattle.std.proofs.lemmas.Grind.{common_steps}
+use Rattle.std.proofs.Common.{◌≡◌, List, length, ◌∙◌, ap, sym, subst, arith}
 use Rattle.cip_problem.specs.Program.{Sides}
 use Rattle.cip_problem.specs.Choices.{made_on}
 use Rattle.cip_problem.specs.WellFormed.{columns}
@@ -44,3 +45,9 @@ returns c =
       answer = subst (λ on. IsLeafAnswer program (the_leaf values on) c.in_ok-answer.answer) c.as_slice-5.ensures.value
           (subst (λ values. IsLeafAnswer program (the_leaf values c.as_slice-5.result.now) c.in_ok-answer.answer) c.as_slice-4.ensures.value c.in_ok-answer.ensures);
     }
+
+pub values_back-requires-clause-fits : goal.values_back-requires-clause-fits
+values_back-requires-clause-fits c = grind (arith, common_steps)
+
+pub values_back-requires-clause-left : goal.values_back-requires-clause-left
+values_back-requires-clause-left c = grind (arith, common_steps)

@@ -42,3 +42,12 @@ returns-clause-in_range c = c.loop-at.invariant.in_range
 
 pub loop-at-init : goal.loop-at-init
 loop-at-init c = grind (arith, common_steps)
+
+pub bounds-sides-at : goal.bounds-sides-at
+bounds-sides-at c = grind (arith, common_steps)
+
+pub bounds-whole-at : goal.bounds-whole-at
+bounds-whole-at c = grind (arith, common_steps)
+
+pub offset_bounds-sides-at : goal.offset_bounds-sides-at
+offset_bounds-sides-at c = grind (arith, common_steps)

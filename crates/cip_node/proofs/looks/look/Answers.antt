@@ -35,3 +35,18 @@ returns-clause-look c =
 
 pub look_at-requires-clause-columns : goal.look_at-requires-clause-columns
 look_at-requires-clause-columns c = grind (arith, common_steps)
+
+pub returns-clause-up : goal.returns-clause-up
+returns-clause-up c = grind (arith, common_steps)
+
+pub returns-clause-frame : goal.returns-clause-frame
+returns-clause-frame c = grind (arith, common_steps)
+
+pub returns-then-not-branch-clause-up : goal.returns-then-not-branch-clause-up
+returns-then-not-branch-clause-up c = grind (arith, common_steps)
+
+pub returns-then-not-branch-clause-frame : goal.returns-then-not-branch-clause-frame
+returns-then-not-branch-clause-frame c = grind (arith, common_steps)
+
+pub returns-in_err-enter-clause-frame : goal.returns-in_err-enter-clause-frame
+returns-in_err-enter-clause-frame c = grind (arith, common_steps)

@@ -114,3 +114,33 @@ offer_at-answer-requires-clause-at_work c = grind (arith, common_steps)
 
 pub park-requires-clause-up : goal.park-requires-clause-up
 park-requires-clause-up c = grind (arith, common_steps)
+
+pub returns-in-Best-clause-rows : goal.returns-in-Best-clause-rows
+returns-in-Best-clause-rows c = grind (arith, common_steps)
+
+pub returns-in-Unbounded-clause-rows : goal.returns-in-Unbounded-clause-rows
+returns-in-Unbounded-clause-rows c = grind (arith, common_steps)
+
+pub returns-in-Wide-clause-rows : goal.returns-in-Wide-clause-rows
+returns-in-Wide-clause-rows c = grind (arith, common_steps)
+
+pub returns-in-NoPoint-clause-rows : goal.returns-in-NoPoint-clause-rows
+returns-in-NoPoint-clause-rows c = grind (arith, common_steps)
+
+pub close_empty-requires-clause-up : goal.close_empty-requires-clause-up
+close_empty-requires-clause-up c = grind (arith, common_steps)
+
+pub park_endless-requires : goal.park_endless-requires
+park_endless-requires c = grind (arith, common_steps)
+
+pub returns-in-Best-clause-kind : goal.returns-in-Best-clause-kind
+returns-in-Best-clause-kind c = grind (arith, common_steps)
+
+pub returns-in-Unbounded-clause-kind : goal.returns-in-Unbounded-clause-kind
+returns-in-Unbounded-clause-kind c = grind (arith, common_steps)
+
+pub returns-in-NoPoint-clause-kind : goal.returns-in-NoPoint-clause-kind
+returns-in-NoPoint-clause-kind c = grind (arith, common_steps)
+
+pub returns-in-Wide-clause-kind : goal.returns-in-Wide-clause-kind
+returns-in-Wide-clause-kind c = grind (arith, common_steps)

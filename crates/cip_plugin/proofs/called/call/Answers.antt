@@ -19,3 +19,12 @@ returns-in-Ok-ask-clause-heard g c = grind (arith, common_steps)
 
 pub returns-in-Ok-clause-heard : goal.returns-in-Ok-clause-heard
 returns-in-Ok-clause-heard g c = grind (arith, common_steps)
+
+pub returns-in-Err-clause-given : goal.returns-in-Err-clause-given
+returns-in-Err-clause-given g c = grind (arith, common_steps)
+
+pub returns-in-Ok-clause-given : goal.returns-in-Ok-clause-given
+returns-in-Ok-clause-given g c = grind (arith, common_steps)
+
+pub ask-requires : goal.ask-requires
+ask-requires g c = grind (arith, common_steps)

@@ -11,3 +11,9 @@ form_out-requires c = omega arith
 
 pub index_mut-requires : goal.index_mut-requires
 index_mut-requires c = grind (arith, common_steps)
+
+pub returns-in-None : goal.returns-in-None
+returns-in-None c = grind (arith, common_steps)
+
+pub returns-then-not-is_lone : goal.returns-then-not-is_lone
+returns-then-not-is_lone c = grind (arith, common_steps)

@@ -30,3 +30,9 @@ sides-outer-requires c = subst (λ (box : List Sides). c.args.column < length bo
 
 pub is_free-requires : goal.is_free-requires
 is_free-requires c = grind (arith, common_steps)
+
+pub same-form : goal.same-form
+same-form c = grind (arith, common_steps)
+
+pub returns-then-not-is_free : goal.returns-then-not-is_free
+returns-then-not-is_free c = grind (arith, common_steps)

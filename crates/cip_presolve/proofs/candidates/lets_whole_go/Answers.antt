@@ -36,3 +36,6 @@ returns-then-not-is_whole c = grind (arith, common_steps)
 
 pub sides-requires : goal.sides-requires
 sides-requires c = grind (arith, common_steps)
+
+pub is_whole-requires : goal.is_whole-requires
+is_whole-requires c = grind (arith, common_steps)

@@ -19,3 +19,6 @@ loop-column-init c = subst (λ (fs : List (Option Form)). FirstMayGo c.args.draf
 
 pub value_out-requires : goal.value_out-requires
 value_out-requires c = grind (arith, common_steps)
+
+pub overflow_cast-column-end : goal.overflow_cast-column-end
+overflow_cast-column-end c = grind (arith, common_steps)

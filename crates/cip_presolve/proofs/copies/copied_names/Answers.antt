@@ -1,5 +1,6 @@
+use Rattle.std.proofs.lemmas.Grind.{common_steps}
 use Rattle.cip_presolve.proofs.CopiedParts.{one_copied, all_copied}
-use Rattle.std.proofs.Common.{◌≤◌, length, rules}
+use Rattle.std.proofs.Common.{◌≤◌, length, rules, arith}
 use Rattle.cip_presolve.proofs.copies.copied_names.Goals as goal
 
 pub loop-number-preserved : goal.loop-number-preserved
@@ -10,3 +11,12 @@ pub returns : goal.returns
 returns c =
     let past : length c.args.names.now ≤ c.loop-number.number = search rules in
     all_copied c.args.names.now c.loop-number.copy c.loop-number.number c.loop-number.invariant past
+
+pub name-requires : goal.name-requires
+name-requires c = grind (arith, common_steps)
+
+pub loop-number-init : goal.loop-number-init
+loop-number-init c = grind (arith, common_steps)
+
+pub same-copy : goal.same-copy
+same-copy c = grind (arith, common_steps)

@@ -1,3 +1,4 @@
+use Rattle.std.proofs.lemmas.Grind.{common_steps}
 use Rattle.std.proofs.Common.{◌<◌, length, rules, arith}
 use Rattle.cip_presolve.proofs.CopiedParts.{names_skip, names_take, all_names}
 use Rattle.cip_presolve.proofs.copies.names_left.Goals as goal
@@ -15,3 +16,12 @@ returns c = all_names c.args.gone.now c.args.names.now c.loop-at.left c.loop-at.
 
 pub name-requires : goal.name-requires
 name-requires c = omega arith
+
+pub bounds-gone-at : goal.bounds-gone-at
+bounds-gone-at c = grind (arith, common_steps)
+
+pub loop-at-init : goal.loop-at-init
+loop-at-init c = grind (arith, common_steps)
+
+pub same-left : goal.same-left
+same-left c = grind (arith, common_steps)

@@ -16,3 +16,6 @@ returns-in_default c = grind (arith, common_steps)
 
 pub sides-requires : goal.sides-requires
 sides-requires c = grind (arith, common_steps)
+
+pub offset_bounds-terms-term-index : goal.offset_bounds-terms-term-index
+offset_bounds-terms-term-index c = grind (arith, common_steps)

@@ -10,3 +10,12 @@ returns c = grind (arith, common_steps)
 
 pub sides-requires : goal.sides-requires
 sides-requires c = grind (arith, common_steps)
+
+pub bounds-terms-term-index : goal.bounds-terms-term-index
+bounds-terms-term-index c = grind (arith, common_steps)
+
+pub offset_bounds-terms-term-index : goal.offset_bounds-terms-term-index
+offset_bounds-terms-term-index c = grind (arith, common_steps)
+
+pub returns-then-not-branch : goal.returns-then-not-branch
+returns-then-not-branch c = grind (arith, common_steps)

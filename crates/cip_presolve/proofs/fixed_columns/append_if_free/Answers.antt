@@ -7,3 +7,9 @@ returns-in-Ok c = grind (arith, common_steps)
 
 pub returns-then-is_some : goal.returns-then-is_some
 returns-then-is_some c = grind (arith, common_steps)
+
+pub returns-in-Err-NoMemory : goal.returns-in-Err-NoMemory
+returns-in-Err-NoMemory c = grind (arith, common_steps)
+
+pub returns-in-Err : goal.returns-in-Err
+returns-in-Err c = grind (arith, common_steps)

@@ -24,3 +24,9 @@ append_free-requires c = grind (arith, common_steps)
 
 pub fixed_sum-requires : goal.fixed_sum-requires
 fixed_sum-requires c = grind (arith, common_steps)
+
+pub returns-else-branch : goal.returns-else-branch
+returns-else-branch c = grind (arith, common_steps)
+
+pub same-left : goal.same-left
+same-left c = grind (arith, common_steps)

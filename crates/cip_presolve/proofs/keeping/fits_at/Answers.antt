@@ -1,4 +1,5 @@
-use Rattle.std.proofs.Common.{◌≡◌, Ok, sym, ap, ◌∙◌}
+use Rattle.std.proofs.lemmas.Grind.{common_steps}
+use Rattle.std.proofs.Common.{◌≡◌, Ok, sym, ap, ◌∙◌, arith}
 use Rattle.std.proofs.lemmas.Bool.{OnTrue_from}
 use Rattle.cip_frac.specs.Outcomes.{product_added}
 use Rattle.cip_presolve.specs.Forms.{Form}
@@ -18,3 +19,12 @@ returns-in-Ok-clause-product c =
 
 pub returns-in-Ok-clause-whole : goal.returns-in-Ok-clause-whole
 returns-in-Ok-clause-whole c = OnTrue_from c.is_whole.result _ (λ t. c.is_whole.ensures.0 t)
+
+pub returns-in-Err-clause-fits : goal.returns-in-Err-clause-fits
+returns-in-Err-clause-fits c = grind (arith, common_steps)
+
+pub returns-in-Err-clause-product : goal.returns-in-Err-clause-product
+returns-in-Err-clause-product c = grind (arith, common_steps)
+
+pub returns-in-Err-clause-whole : goal.returns-in-Err-clause-whole
+returns-in-Err-clause-whole c = grind (arith, common_steps)

@@ -1,4 +1,5 @@
-use Rattle.std.proofs.Common.{List, length, sym, subst}
+use Rattle.std.proofs.lemmas.Grind.{common_steps}
+use Rattle.std.proofs.Common.{List, length, sym, subst, arith}
 use Rattle.std.specs.Prelude.{All}
 use Rattle.cip_problem.specs.Program.{Row}
 use Rattle.cip_problem.specs.Activity.{StandsBelow}
@@ -21,3 +22,12 @@ returns-clause-sources c = sources_later _ _ c.keep_rows.ensures.fewer c.keep_so
 pub returns-clause-rows : goal.returns-clause-rows
 returns-clause-rows c =
     subst (λ (rs : List Row). RowsGo c.keep_rows.new.forms.items rs) c.rows.ensures (rows_go _ _ c.keep_rows.ensures.rows)
+
+pub returns-in_default-add_forms-clause-may : goal.returns-in_default-add_forms-clause-may
+returns-in_default-add_forms-clause-may c = grind (arith, common_steps)
+
+pub returns-in_default-add_forms-clause-rows : goal.returns-in_default-add_forms-clause-rows
+returns-in_default-add_forms-clause-rows c = grind (arith, common_steps)
+
+pub returns-in_default-add_forms-clause-sources : goal.returns-in_default-add_forms-clause-sources
+returns-in_default-add_forms-clause-sources c = grind (arith, common_steps)

@@ -23,3 +23,12 @@ bounds-sides-at c = omega arith
 
 pub loop-at-init : goal.loop-at-init
 loop-at-init c = grind (arith, common_steps)
+
+pub offset_bounds-sides-at : goal.offset_bounds-sides-at
+offset_bounds-sides-at c = grind (arith, common_steps)
+
+pub bounds-gone-at : goal.bounds-gone-at
+bounds-gone-at c = grind (arith, common_steps)
+
+pub same-left : goal.same-left
+same-left c = grind (arith, common_steps)

@@ -20,3 +20,9 @@ loop-at-init c = grind (arith, common_steps)
 
 pub loop-at-preserved : goal.loop-at-preserved
 loop-at-preserved c = grind (arith, common_steps)
+
+pub offset_bounds-choices-at : goal.offset_bounds-choices-at
+offset_bounds-choices-at c = grind (arith, common_steps)
+
+pub bounds-gone-at : goal.bounds-gone-at
+bounds-gone-at c = grind (arith, common_steps)

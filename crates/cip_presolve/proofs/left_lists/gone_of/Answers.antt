@@ -1,3 +1,4 @@
+use Rattle.std.proofs.lemmas.Grind.{common_steps}
 use Rattle.std.proofs.Common.{ap, ◌∙◌, arith}
 use Rattle.std.specs.Prelude.{is_some}
 use Rattle.cip_presolve.proofs.Leftovers.{map_more, map_end}
@@ -9,3 +10,9 @@ loop-form-preserved c =
 
 pub returns : goal.returns
 returns c = map_end is_some c.loop-form.form-index c.args.forms.now c.loop-form.gone.items _ (omega arith) c.loop-form.invariant
+
+pub offset_bounds-forms-form-index : goal.offset_bounds-forms-form-index
+offset_bounds-forms-form-index c = grind (arith, common_steps)
+
+pub loop-form-init : goal.loop-form-init
+loop-form-init c = grind (arith, common_steps)

@@ -1,3 +1,4 @@
+use Rattle.std.proofs.lemmas.Grind.{common_steps}
 use Rattle.std.proofs.Common.{◌<◌, length, arith}
 use Rattle.cip_presolve.proofs.Leftovers.{old_skipped, old_taken, old_end}
 use Rattle.cip_presolve.proofs.left_lists.numbers_kept.Goals as goal
@@ -14,3 +15,12 @@ loop-at-preserved c =
 
 pub returns : goal.returns
 returns c = old_end c.loop-at.at c.loop-at.at c.args.gone.now c.loop-at.kept.items _ (omega arith) c.loop-at.invariant
+
+pub overflow_cast-at : goal.overflow_cast-at
+overflow_cast-at c = grind (arith, common_steps)
+
+pub bounds-gone-at : goal.bounds-gone-at
+bounds-gone-at c = grind (arith, common_steps)
+
+pub loop-at-init : goal.loop-at-init
+loop-at-init c = grind (arith, common_steps)

@@ -1,3 +1,4 @@
+use Rattle.std.proofs.lemmas.Grind.{common_steps}
 use Rattle.std.proofs.Common.{◌<◌, length, arith}
 use Rattle.cip_presolve.proofs.Leftovers.{new_skipped, new_taken, new_end}
 use Rattle.cip_presolve.proofs.left_lists.numbers_left.Goals as goal
@@ -23,3 +24,6 @@ returns c = new_end c.loop-at.count c.loop-at.at c.args.gone.now c.loop-at.numbe
 
 pub overflow_add-count : goal.overflow_add-count
 overflow_add-count c = omega arith
+
+pub loop-at-init : goal.loop-at-init
+loop-at-init c = grind (arith, common_steps)

@@ -1,3 +1,4 @@
+use Rattle.std.proofs.lemmas.Grind.{common_steps}
 use Rattle.std.proofs.Common.{◌<◌, ◌≤◌, min, length, arith}
 use Rattle.cip_presolve.proofs.Leftovers.{skipped, taken, left_end}
 use Rattle.cip_presolve.proofs.left_lists.whole_left.Goals as goal
@@ -19,3 +20,9 @@ returns c =
 
 pub bounds-whole-at : goal.bounds-whole-at
 bounds-whole-at c = omega arith
+
+pub bounds-gone-at : goal.bounds-gone-at
+bounds-gone-at c = grind (arith, common_steps)
+
+pub loop-at-init : goal.loop-at-init
+loop-at-init c = grind (arith, common_steps)

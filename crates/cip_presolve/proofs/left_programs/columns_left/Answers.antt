@@ -43,3 +43,9 @@ row_names_left-requires c = omega arith
 
 pub whole_left-requires : goal.whole_left-requires
 whole_left-requires c = grind (arith, common_steps)
+
+pub same-bounds : goal.same-bounds
+same-bounds c = grind (arith, common_steps)
+
+pub same-choices : goal.same-choices
+same-choices c = grind (arith, common_steps)

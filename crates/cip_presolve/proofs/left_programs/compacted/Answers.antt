@@ -1,4 +1,5 @@
-use Rattle.std.proofs.Common.{◌≡◌, sym, ap, ◌∙◌, subst}
+use Rattle.std.proofs.lemmas.Grind.{common_steps}
+use Rattle.std.proofs.Common.{◌≡◌, sym, ap, ◌∙◌, subst, arith}
 use Rattle.cip_presolve.specs.EntriesLeft.{gone_of}
 use Rattle.cip_presolve.specs.LeftProgram.{left_program}
 use Rattle.cip_presolve.specs.PresolvedPrograms.{IsPresolved, IsExactlyPresolved}
@@ -42,3 +43,12 @@ pub left-requires : goal.left-requires
 left-requires c =
     can_leave c.args.program.now c.args.draft c.in-Ok.out.forms.items c.as_slice.result.now c.columns-columns.ensures.formed c.bounds-bounds.ensures.formed c.requires.step c.requires.rows
     c.in-Ok.ensures.may c.in-Ok.ensures.sources c.in-Ok.ensures.rows (c.as_slice.ensures.value ∙ c.in-Ok.ensures.gone)
+
+pub left_out-requires : goal.left_out-requires
+left_out-requires c = grind (arith, common_steps)
+
+pub returns-in_default-clause-pair : goal.returns-in_default-clause-pair
+returns-in_default-clause-pair c = grind (arith, common_steps)
+
+pub returns-in_default-clause-exact : goal.returns-in_default-clause-exact
+returns-in_default-clause-exact c = grind (arith, common_steps)

@@ -1,4 +1,5 @@
-use Rattle.std.proofs.Common.{◌≡◌, ◌∙◌, rules, sym, subst}
+use Rattle.std.proofs.lemmas.Grind.{common_steps}
+use Rattle.std.proofs.Common.{◌≡◌, ◌∙◌, rules, sym, subst, arith}
 use Rattle.cip_problem.specs.Program.{Program}
 use Rattle.cip_problem.specs.WellFormed.{IsWellFormed}
 use Rattle.cip_presolve.proofs.left_programs.copied.Goals as goal
@@ -50,3 +51,15 @@ returns c =
       bounds = bounds i;
       choices = choices i;
     })
+
+pub same-bounds : goal.same-bounds
+same-bounds c = grind (arith, common_steps)
+
+pub same-choices : goal.same-choices
+same-choices c = grind (arith, common_steps)
+
+pub returns-in_default-copied_names-2 : goal.returns-in_default-copied_names-2
+returns-in_default-copied_names-2 c = grind (arith, common_steps)
+
+pub returns-in_default-to_vec : goal.returns-in_default-to_vec
+returns-in_default-to_vec c = grind (arith, common_steps)

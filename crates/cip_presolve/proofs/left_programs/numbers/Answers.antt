@@ -1,3 +1,4 @@
+use Rattle.std.proofs.lemmas.Grind.{common_steps}
 use Rattle.std.proofs.Common.{◌+◌, ◌++◌, ◌∷◌, [], ◌-◌, ◌<◌, ap, sym, ◌∙◌, append_assoc, arith}
 use Rattle.cip_presolve.specs.PresolvedPrograms.{counted}
 use Rattle.cip_presolve.proofs.Unchanged.{one_counted}
@@ -10,3 +11,9 @@ loop-column-preserved c =
     ∙ append_assoc c.loop-column.numbers.items (c.loop-column.column ∷ []) (counted (c.loop-column.column + 1) (c.args.columns - (c.loop-column.column + 1)))
     ∙ ap (λ t. c.loop-column.numbers.items ++ t) (sym (one_counted c.loop-column.column c.args.columns below))
     ∙ c.loop-column.invariant
+
+pub overflow_cast-column : goal.overflow_cast-column
+overflow_cast-column c = grind (arith, common_steps)
+
+pub loop-column-init : goal.loop-column-init
+loop-column-init c = grind (arith, common_steps)

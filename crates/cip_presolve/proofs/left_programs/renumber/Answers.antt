@@ -7,3 +7,6 @@ move_all-requires c = grind (arith, common_steps)
 
 pub returns : goal.returns
 returns c = grind (arith, common_steps)
+
+pub numbers_left-requires : goal.numbers_left-requires
+numbers_left-requires c = grind (arith, common_steps)

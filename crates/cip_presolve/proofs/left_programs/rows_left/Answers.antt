@@ -7,3 +7,6 @@ renumber-requires-clause-moves c = grind (arith, common_steps)
 
 pub returns-in-Ok : goal.returns-in-Ok
 returns-in-Ok c = grind (arith, common_steps)
+
+pub renumber-requires-clause-few : goal.renumber-requires-clause-few
+renumber-requires-clause-few c = grind (arith, common_steps)

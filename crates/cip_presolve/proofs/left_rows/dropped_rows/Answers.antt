@@ -1,4 +1,5 @@
-use Rattle.std.proofs.Common.{ap, ◌∙◌}
+use Rattle.std.proofs.lemmas.Grind.{common_steps}
+use Rattle.std.proofs.Common.{ap, ◌∙◌, arith}
 use Rattle.cip_presolve.specs.LeftProgram.{is_dropped}
 use Rattle.cip_presolve.proofs.Leftovers.{map_more, map_end}
 use Rattle.cip_presolve.proofs.left_rows.dropped_rows.Goals as goal
@@ -10,3 +11,9 @@ loop-row-preserved c =
 
 pub returns : goal.returns
 returns c = map_end (is_dropped c.args.gone.now) c.loop-row.row-index c.args.rows.now c.loop-row.dropped.items _ c.loop-row-test.false c.loop-row.invariant
+
+pub offset_bounds-rows-row-index : goal.offset_bounds-rows-row-index
+offset_bounds-rows-row-index c = grind (arith, common_steps)
+
+pub loop-row-init : goal.loop-row-init
+loop-row-init c = grind (arith, common_steps)

@@ -15,3 +15,12 @@ moved-requires c =
 
 pub returns : goal.returns
 returns c = grind (arith, common_steps)
+
+pub index_mut-requires : goal.index_mut-requires
+index_mut-requires c = grind (arith, common_steps)
+
+pub index-requires : goal.index-requires
+index-requires c = grind (arith, common_steps)
+
+pub loop-at-init : goal.loop-at-init
+loop-at-init c = grind (arith, common_steps)

@@ -19,3 +19,9 @@ returns c = map_end (moved_term c.args.numbers.now) c.loop-term.term-index c.arg
 
 pub bounds-numbers-term-inside : goal.bounds-numbers-term-inside
 bounds-numbers-term-inside c = grind (arith, common_steps)
+
+pub offset_bounds-numbers-term-inside : goal.offset_bounds-numbers-term-inside
+offset_bounds-numbers-term-inside c = grind (arith, common_steps)
+
+pub offset_bounds-terms-term-index : goal.offset_bounds-terms-term-index
+offset_bounds-terms-term-index c = grind (arith, common_steps)

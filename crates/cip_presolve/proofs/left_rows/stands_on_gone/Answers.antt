@@ -10,3 +10,6 @@ returns c = grind (arith, common_steps)
 
 pub returns-then-is_gone : goal.returns-then-is_gone
 returns-then-is_gone c = grind (arith, common_steps)
+
+pub offset_bounds-terms-term-index : goal.offset_bounds-terms-term-index
+offset_bounds-terms-term-index c = grind (arith, common_steps)

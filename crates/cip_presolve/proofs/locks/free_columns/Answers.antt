@@ -22,3 +22,9 @@ lock_terms-requires c =
 
 pub returns : goal.returns
 returns c = grind (arith, common_steps)
+
+pub offset_bounds-rows-row-index : goal.offset_bounds-rows-row-index
+offset_bounds-rows-row-index c = grind (arith, common_steps)
+
+pub loop-row-init : goal.loop-row-init
+loop-row-init c = grind (arith, common_steps)

@@ -22,3 +22,12 @@ index_mut-requires c = grind (arith, common_steps)
 
 pub returns-clause-terms : goal.returns-clause-terms
 returns-clause-terms c = grind (arith, common_steps)
+
+pub offset_bounds-terms-term-index : goal.offset_bounds-terms-term-index
+offset_bounds-terms-term-index c = grind (arith, common_steps)
+
+pub returns-clause-fewer : goal.returns-clause-fewer
+returns-clause-fewer c = grind (arith, common_steps)
+
+pub loop-term-init : goal.loop-term-init
+loop-term-init c = grind (arith, common_steps)

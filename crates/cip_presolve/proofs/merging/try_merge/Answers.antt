@@ -77,3 +77,21 @@ set_row-requires-2-clause-stands c = grind (arith, common_steps)
 
 pub set_row-requires-clause-inside : goal.set_row-requires-clause-inside
 set_row-requires-clause-inside c = omega arith
+
+pub returns-in_err-row-clause-rows : goal.returns-in_err-row-clause-rows
+returns-in_err-row-clause-rows c = grind (arith, common_steps)
+
+pub row-requires-else-first-second : goal.row-requires-else-first-second
+row-requires-else-first-second c = grind (arith, common_steps)
+
+pub row-requires : goal.row-requires
+row-requires c = grind (arith, common_steps)
+
+pub returns-then-cross-clause-rows : goal.returns-then-cross-clause-rows
+returns-then-cross-clause-rows c = grind (arith, common_steps)
+
+pub returns-clause-end : goal.returns-clause-end
+returns-clause-end c = grind (arith, common_steps)
+
+pub returns-then-first-second-clause-end : goal.returns-then-first-second-clause-end
+returns-then-first-second-clause-end c = grind (arith, common_steps)

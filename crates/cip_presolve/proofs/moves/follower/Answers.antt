@@ -7,3 +7,6 @@ returns-in_default c = grind (arith, common_steps)
 
 pub returns-then-is_zero : goal.returns-then-is_zero
 returns-then-is_zero c = grind (arith, common_steps)
+
+pub returns-in-Err : goal.returns-in-Err
+returns-in-Err c = grind (arith, common_steps)

@@ -13,3 +13,6 @@ loop-column-init c = grind (arith, common_steps)
 
 pub take_one-requires-clause-inside : goal.take_one-requires-clause-inside
 take_one-requires-clause-inside c = grind (arith, common_steps)
+
+pub overflow_cast-column-end : goal.overflow_cast-column-end
+overflow_cast-column-end c = grind (arith, common_steps)

@@ -18,3 +18,6 @@ loop-column-init c = grind (arith, common_steps)
 
 pub moved-requires : goal.moved-requires
 moved-requires c = grind (arith, common_steps)
+
+pub overflow_cast-column-end : goal.overflow_cast-column-end
+overflow_cast-column-end c = grind (arith, common_steps)

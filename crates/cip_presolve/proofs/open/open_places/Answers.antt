@@ -4,3 +4,9 @@ use Rattle.cip_presolve.proofs.open.open_places.Goals as goal
 
 pub sides-sides-requires : goal.sides-sides-requires
 sides-sides-requires c = grind (arith, common_steps)
+
+pub offset_bounds-terms-at : goal.offset_bounds-terms-at
+offset_bounds-terms-at c = grind (arith, common_steps)
+
+pub bounds-terms-at : goal.bounds-terms-at
+bounds-terms-at c = grind (arith, common_steps)

@@ -1,4 +1,5 @@
-use Rattle.std.proofs.Common.{◌++◌, ◌∷◌, [], ap, sym, ◌∙◌}
+use Rattle.std.proofs.lemmas.Grind.{common_steps}
+use Rattle.std.proofs.Common.{◌++◌, ◌∷◌, [], ap, sym, ◌∙◌, arith}
 use Rattle.std.specs.Prelude.{map, is_none}
 use Rattle.cip_presolve.proofs.Placed.{not_some, one_left, all_left}
 use Rattle.cip_presolve.proofs.places.columns_left.Goals as goal
@@ -13,3 +14,6 @@ loop-form-preserved c =
 
 pub returns : goal.returns
 returns c = all_left c.args.forms.now c.loop-form.left.items _ c.loop-form.form-index c.loop-form-test.false c.loop-form.invariant
+
+pub offset_bounds-forms-form-index : goal.offset_bounds-forms-form-index
+offset_bounds-forms-form-index c = grind (arith, common_steps)

@@ -7,3 +7,9 @@ returns-in-None c = grind (arith, common_steps)
 
 pub returns-then-is_none : goal.returns-then-is_none
 returns-then-is_none c = grind (arith, common_steps)
+
+pub returns-else-is_none : goal.returns-else-is_none
+returns-else-is_none c = grind (arith, common_steps)
+
+pub get-requires : goal.get-requires
+get-requires c = grind (arith, common_steps)

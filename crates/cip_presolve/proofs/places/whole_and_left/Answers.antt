@@ -1,4 +1,5 @@
-use Rattle.std.proofs.Common.{◌<◌, ◌++◌, ◌∷◌, [], length, rules, sym, ap, ◌∙◌}
+use Rattle.std.proofs.lemmas.Grind.{common_steps}
+use Rattle.std.proofs.Common.{◌<◌, ◌++◌, ◌∷◌, [], length, rules, sym, ap, ◌∙◌, arith}
 use Rattle.cip_presolve.proofs.Placed.{one_flagged, all_flagged}
 use Rattle.cip_presolve.proofs.places.whole_and_left.Goals as goal
 
@@ -10,3 +11,12 @@ loop-column-preserved c =
 
 pub returns : goal.returns
 returns c = all_flagged c.args.forms.now c.args.whole.now c.loop-column.left.items _ c.loop-column.column c.loop-column-test.false c.loop-column.invariant
+
+pub bounds-forms-column : goal.bounds-forms-column
+bounds-forms-column c = grind (arith, common_steps)
+
+pub offset_bounds-forms-column : goal.offset_bounds-forms-column
+offset_bounds-forms-column c = grind (arith, common_steps)
+
+pub loop-column-init : goal.loop-column-init
+loop-column-init c = grind (arith, common_steps)

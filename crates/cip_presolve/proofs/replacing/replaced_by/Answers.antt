@@ -1,4 +1,5 @@
-use Rattle.std.proofs.Common.{◌≡◌, List, refl, ap, ◌∙◌, subst}
+use Rattle.std.proofs.lemmas.Grind.{common_steps}
+use Rattle.std.proofs.Common.{◌≡◌, List, refl, ap, ◌∙◌, subst, arith}
 use Rattle.cip_rational.specs.Rational.{◌*ℚ◌}
 use Rattle.cip_problem.specs.Program.{Term, Row}
 use Rattle.cip_presolve.specs.Forms.{Form}
@@ -20,3 +21,9 @@ returns-then-branch c =
     (ap (λ (r : Row). r.low) c.empty-new.ensures ∙ c.in-Some-less.ensures ∙ ap (λ o. side_less o c.in-Some.shift) c.low.ensures)
     (ap (λ (r : Row). r.high) c.empty-new.ensures ∙ c.in-Some-less-2.ensures ∙ ap (λ o. side_less o c.in-Some.shift) c.high.ensures)
     (subst (λ (ts : List Term). HasAll c.empty-new.result own other ts c.put_both.new.new) c.terms.ensures.terms all)
+
+pub returns-else-branch : goal.returns-else-branch
+returns-else-branch c = grind (arith, common_steps)
+
+pub same-new : goal.same-new
+same-new c = grind (arith, common_steps)

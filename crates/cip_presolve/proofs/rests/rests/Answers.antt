@@ -1,3 +1,4 @@
+use Rattle.std.proofs.lemmas.Grind.{common_steps}
 use Rattle.std.proofs.Common.{◌≡◌, ◌∙◌, IfSome, ap, subst, ◌<◌, length, sym, arith}
 use Rattle.cip_rational.specs.Rational.{negate, zeroℚ}
 use Rattle.cip_problem.specs.Program.{Term, Sides}
@@ -31,3 +32,12 @@ sides-sides-requires c =
 
 pub rests_summed-requires-clause-stands : goal.rests_summed-requires-clause-stands
 rests_summed-requires-clause-stands c = omega arith
+
+pub term_at-term-requires : goal.term_at-term-requires
+term_at-term-requires c = grind (arith, common_steps)
+
+pub rests_summed-requires-clause-inside : goal.rests_summed-requires-clause-inside
+rests_summed-requires-clause-inside c = grind (arith, common_steps)
+
+pub returns-then-anew : goal.returns-then-anew
+returns-then-anew c = grind (arith, common_steps)

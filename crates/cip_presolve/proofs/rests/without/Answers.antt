@@ -11,3 +11,9 @@ returns-in-Ok c =
 
 pub remove-own-requires : goal.remove-own-requires
 remove-own-requires c = grind (arith, common_steps)
+
+pub returns : goal.returns
+returns c = grind (arith, common_steps)
+
+pub returns-in-Err-NoMemory : goal.returns-in-Err-NoMemory
+returns-in-Err-NoMemory c = grind (arith, common_steps)

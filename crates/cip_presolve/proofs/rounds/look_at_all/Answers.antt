@@ -1,3 +1,4 @@
+use Rattle.std.proofs.lemmas.Grind.{common_steps}
 use Rattle.std.proofs.Common.{◌∙◌, arith}
 use Rattle.cip_presolve.proofs.rounds.look_at_all.Goals as goal
 use Rattle.cip_search.proofs.Pairing.{exact_after}
@@ -16,3 +17,27 @@ returns-in_default-look_at-2-clause-step c = exact_after _ _ _ c.loop.invariant.
 
 pub returns-in_default-look_at-clause-rows : goal.returns-in_default-look_at-clause-rows
 returns-in_default-look_at-clause-rows c = omega arith
+
+pub returns-in_default-look_at-2-clause-rows : goal.returns-in_default-look_at-2-clause-rows
+returns-in_default-look_at-2-clause-rows c = grind (arith, common_steps)
+
+pub returns-in_default-look_at-clause-end : goal.returns-in_default-look_at-clause-end
+returns-in_default-look_at-clause-end c = grind (arith, common_steps)
+
+pub returns-in_default-look_at-2-clause-end : goal.returns-in_default-look_at-2-clause-end
+returns-in_default-look_at-2-clause-end c = grind (arith, common_steps)
+
+pub returns-in_default-clause-rows : goal.returns-in_default-clause-rows
+returns-in_default-clause-rows c = grind (arith, common_steps)
+
+pub returns-in_default-clause-step : goal.returns-in_default-clause-step
+returns-in_default-clause-step c = grind (arith, common_steps)
+
+pub returns-clause-rows : goal.returns-clause-rows
+returns-clause-rows c = grind (arith, common_steps)
+
+pub returns-clause-step : goal.returns-clause-step
+returns-clause-step c = grind (arith, common_steps)
+
+pub returns-clause-end : goal.returns-clause-end
+returns-clause-end c = grind (arith, common_steps)

@@ -23,3 +23,21 @@ returns-in_default-merge_pair-clause-end c = grind (arith, common_steps)
 
 pub returns-in_default-merge_pair-clause-rows : goal.returns-in_default-merge_pair-clause-rows
 returns-in_default-merge_pair-clause-rows c = omega arith
+
+pub returns-clause-rows : goal.returns-clause-rows
+returns-clause-rows c = grind (arith, common_steps)
+
+pub index-requires-in-loop-at : goal.index-requires-in-loop-at
+index-requires-in-loop-at c = grind (arith, common_steps)
+
+pub sorted_keys-requires : goal.sorted_keys-requires
+sorted_keys-requires c = grind (arith, common_steps)
+
+pub returns-clause-step : goal.returns-clause-step
+returns-clause-step c = grind (arith, common_steps)
+
+pub index-requires : goal.index-requires
+index-requires c = grind (arith, common_steps)
+
+pub overflow_sub-at : goal.overflow_sub-at
+overflow_sub-at c = grind (arith, common_steps)

@@ -16,3 +16,9 @@ try_moves-requires-clause-rows c = grind (arith, common_steps)
 
 pub try_moves-requires-clause-sources : goal.try_moves-requires-clause-sources
 try_moves-requires-clause-sources c = grind (arith, common_steps)
+
+pub returns-clause-rows : goal.returns-clause-rows
+returns-clause-rows c = grind (arith, common_steps)
+
+pub returns-clause-step : goal.returns-clause-step
+returns-clause-step c = grind (arith, common_steps)

@@ -1,3 +1,4 @@
+use Rattle.std.proofs.lemmas.Grind.{common_steps}
 use Rattle.std.proofs.Common.{◌∙◌, arith}
 use Rattle.cip_presolve.proofs.rounds.settle.Goals as goal
 use Rattle.cip_search.proofs.Pairing.{exact_after}
@@ -40,3 +41,30 @@ returns-in_default-merge_rows-clause-rows c = omega arith
 
 pub returns-then-is_done-clause-rows : goal.returns-then-is_done-clause-rows
 returns-then-is_done-clause-rows c = omega arith
+
+pub returns-then-is_done-clause-end : goal.returns-then-is_done-clause-end
+returns-then-is_done-clause-end c = grind (arith, common_steps)
+
+pub returns-in_default-merge_rows-clause-end : goal.returns-in_default-merge_rows-clause-end
+returns-in_default-merge_rows-clause-end c = grind (arith, common_steps)
+
+pub returns-in_default-merge_rows-2-clause-end : goal.returns-in_default-merge_rows-2-clause-end
+returns-in_default-merge_rows-2-clause-end c = grind (arith, common_steps)
+
+pub returns-in_default-2-clause-rows : goal.returns-in_default-2-clause-rows
+returns-in_default-2-clause-rows c = grind (arith, common_steps)
+
+pub returns-in_default-clause-end : goal.returns-in_default-clause-end
+returns-in_default-clause-end c = grind (arith, common_steps)
+
+pub returns-in_default-2-clause-end : goal.returns-in_default-2-clause-end
+returns-in_default-2-clause-end c = grind (arith, common_steps)
+
+pub returns-clause-rows : goal.returns-clause-rows
+returns-clause-rows c = grind (arith, common_steps)
+
+pub merge_rows-requires : goal.merge_rows-requires
+merge_rows-requires c = grind (arith, common_steps)
+
+pub returns-clause-end : goal.returns-clause-end
+returns-clause-end c = grind (arith, common_steps)

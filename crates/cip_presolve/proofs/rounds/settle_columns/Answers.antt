@@ -16,3 +16,21 @@ loop-column-preserved c = record {
 
 pub try_fixed-requires : goal.try_fixed-requires
 try_fixed-requires c = grind (arith, common_steps)
+
+pub returns-in-NoPoint-clause-end : goal.returns-in-NoPoint-clause-end
+returns-in-NoPoint-clause-end c = grind (arith, common_steps)
+
+pub overflow_cast-number : goal.overflow_cast-number
+overflow_cast-number c = grind (arith, common_steps)
+
+pub returns-in-NoPoint-clause-rows : goal.returns-in-NoPoint-clause-rows
+returns-in-NoPoint-clause-rows c = grind (arith, common_steps)
+
+pub returns-clause-rows : goal.returns-clause-rows
+returns-clause-rows c = grind (arith, common_steps)
+
+pub returns-clause-step : goal.returns-clause-step
+returns-clause-step c = grind (arith, common_steps)
+
+pub returns-clause-end : goal.returns-clause-end
+returns-clause-end c = grind (arith, common_steps)

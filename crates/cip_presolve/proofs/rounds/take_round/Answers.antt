@@ -31,3 +31,27 @@ returns-clause-rows c = grind (arith, common_steps)
 
 pub returns-in_default-substitute_all-clause-rows : goal.returns-in_default-substitute_all-clause-rows
 returns-in_default-substitute_all-clause-rows c = omega arith
+
+pub returns-in_default-substitute_all-2-clause-rows : goal.returns-in_default-substitute_all-2-clause-rows
+returns-in_default-substitute_all-2-clause-rows c = grind (arith, common_steps)
+
+pub returns-in_default-clause-rows : goal.returns-in_default-clause-rows
+returns-in_default-clause-rows c = grind (arith, common_steps)
+
+pub returns-in_default-substitute_all-clause-end : goal.returns-in_default-substitute_all-clause-end
+returns-in_default-substitute_all-clause-end c = grind (arith, common_steps)
+
+pub returns-in_default-2-clause-rows : goal.returns-in_default-2-clause-rows
+returns-in_default-2-clause-rows c = grind (arith, common_steps)
+
+pub returns-in_default-substitute_all-2-clause-end : goal.returns-in_default-substitute_all-2-clause-end
+returns-in_default-substitute_all-2-clause-end c = grind (arith, common_steps)
+
+pub returns-in_default-clause-end : goal.returns-in_default-clause-end
+returns-in_default-clause-end c = grind (arith, common_steps)
+
+pub returns-in_default-2-clause-end : goal.returns-in_default-2-clause-end
+returns-in_default-2-clause-end c = grind (arith, common_steps)
+
+pub substitute_all-requires : goal.substitute_all-requires
+substitute_all-requires c = grind (arith, common_steps)

@@ -23,3 +23,6 @@ returns c = c.loop-row.invariant ∙ take_all c.loop-row.row-index c.args.rows.n
 
 pub row_of_terms-requires : goal.row_of_terms-requires
 row_of_terms-requires c = grind (arith, common_steps)
+
+pub offset_bounds-rows-row-index : goal.offset_bounds-rows-row-index
+offset_bounds-rows-row-index c = grind (arith, common_steps)

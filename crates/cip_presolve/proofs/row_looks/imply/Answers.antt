@@ -40,3 +40,15 @@ returns-in_err-tell-in-Ok-clause-rows c = grind (arith, common_steps)
 
 pub try_implied-requires-clause-inside : goal.try_implied-requires-clause-inside
 try_implied-requires-clause-inside c = grind (arith, common_steps)
+
+pub try_implied-requires-clause-encloses : goal.try_implied-requires-clause-encloses
+try_implied-requires-clause-encloses c = grind (arith, common_steps)
+
+pub returns-clause-step : goal.returns-clause-step
+returns-clause-step c = grind (arith, common_steps)
+
+pub returns-in-Err-clause-end : goal.returns-in-Err-clause-end
+returns-in-Err-clause-end c = grind (arith, common_steps)
+
+pub returns-clause-end : goal.returns-clause-end
+returns-clause-end c = grind (arith, common_steps)

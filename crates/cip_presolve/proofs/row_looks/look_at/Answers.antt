@@ -29,3 +29,24 @@ returns-in-Ok-clause-end c = grind (arith, common_steps)
 
 pub returns-in-Ok-clause-rows : goal.returns-in-Ok-clause-rows
 returns-in-Ok-clause-rows c = omega arith
+
+pub returns-in-Ok-Kept-clause-end : goal.returns-in-Ok-Kept-clause-end
+returns-in-Ok-Kept-clause-end c = grind (arith, common_steps)
+
+pub returns-in-Ok-clause-step : goal.returns-in-Ok-clause-step
+returns-in-Ok-clause-step c = grind (arith, common_steps)
+
+pub returns-in-Ok-NoPoint-clause-step : goal.returns-in-Ok-NoPoint-clause-step
+returns-in-Ok-NoPoint-clause-step c = grind (arith, common_steps)
+
+pub returns-in-Err-clause-step : goal.returns-in-Err-clause-step
+returns-in-Err-clause-step c = grind (arith, common_steps)
+
+pub row-requires : goal.row-requires
+row-requires c = grind (arith, common_steps)
+
+pub returns-in-Err-clause-end : goal.returns-in-Err-clause-end
+returns-in-Err-clause-end c = grind (arith, common_steps)
+
+pub returns-then-number-count-clause-end : goal.returns-then-number-count-clause-end
+returns-then-number-count-clause-end c = grind (arith, common_steps)

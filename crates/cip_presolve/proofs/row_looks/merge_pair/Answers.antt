@@ -40,3 +40,12 @@ try_merge-requires-clause-first c = omega arith
 
 pub try_merge-requires-clause-second : goal.try_merge-requires-clause-second
 try_merge-requires-clause-second c = omega arith
+
+pub overflow_cast-stays : goal.overflow_cast-stays
+overflow_cast-stays c = grind (arith, common_steps)
+
+pub overflow_cast-gone : goal.overflow_cast-gone
+overflow_cast-gone c = grind (arith, common_steps)
+
+pub returns-then-not-are_alike-clause-end : goal.returns-then-not-are_alike-clause-end
+returns-then-not-are_alike-clause-end c = grind (arith, common_steps)

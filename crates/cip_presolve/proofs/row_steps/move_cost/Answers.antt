@@ -37,3 +37,18 @@ cost-more-requires c = grind (arith, common_steps)
 
 pub set_cost-requires : goal.set_cost-requires
 set_cost-requires c = omega arith
+
+pub returns-clause-bounds : goal.returns-clause-bounds
+returns-clause-bounds c = grind (arith, common_steps)
+
+pub returns-clause-rows : goal.returns-clause-rows
+returns-clause-rows c = grind (arith, common_steps)
+
+pub cost-cost-requires : goal.cost-cost-requires
+cost-cost-requires c = grind (arith, common_steps)
+
+pub returns-then-is_zero-clause-rows : goal.returns-then-is_zero-clause-rows
+returns-then-is_zero-clause-rows c = grind (arith, common_steps)
+
+pub returns-then-is_zero-clause-bounds : goal.returns-then-is_zero-clause-bounds
+returns-then-is_zero-clause-bounds c = grind (arith, common_steps)

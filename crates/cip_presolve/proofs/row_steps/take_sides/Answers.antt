@@ -41,3 +41,36 @@ is_whole-requires c = grind (arith, common_steps)
 
 pub returns-then-cross-clause-end : goal.returns-then-cross-clause-end
 returns-then-cross-clause-end c = grind (arith, common_steps)
+
+pub returns-clause-rows : goal.returns-clause-rows
+returns-clause-rows c = grind (arith, common_steps)
+
+pub returns-then-is_inside-clause-substitute : goal.returns-then-is_inside-clause-substitute
+returns-then-is_inside-clause-substitute c = grind (arith, common_steps)
+
+pub returns-then-is_far-clause-substitute : goal.returns-then-is_far-clause-substitute
+returns-then-is_far-clause-substitute c = grind (arith, common_steps)
+
+pub returns-then-cross-clause-substitute : goal.returns-then-cross-clause-substitute
+returns-then-cross-clause-substitute c = grind (arith, common_steps)
+
+pub source_sides-requires-clause-there : goal.source_sides-requires-clause-there
+source_sides-requires-clause-there c = grind (arith, common_steps)
+
+pub returns-then-is_inside-clause-rows : goal.returns-then-is_inside-clause-rows
+returns-then-is_inside-clause-rows c = grind (arith, common_steps)
+
+pub returns-in_default-clause-substitute : goal.returns-in_default-clause-substitute
+returns-in_default-clause-substitute c = grind (arith, common_steps)
+
+pub returns-clause-end : goal.returns-clause-end
+returns-clause-end c = grind (arith, common_steps)
+
+pub returns-then-is_far-clause-rows : goal.returns-then-is_far-clause-rows
+returns-then-is_far-clause-rows c = grind (arith, common_steps)
+
+pub returns-then-is_inside-clause-end : goal.returns-then-is_inside-clause-end
+returns-then-is_inside-clause-end c = grind (arith, common_steps)
+
+pub source_sides-requires-clause-substitute : goal.source_sides-requires-clause-substitute
+source_sides-requires-clause-substitute c = grind (arith, common_steps)

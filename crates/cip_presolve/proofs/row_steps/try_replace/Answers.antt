@@ -19,3 +19,21 @@ returns-in_default-clause-step c = exact_self c.args.draft.now
 
 pub returns-clause-rows : goal.returns-clause-rows
 returns-clause-rows c = grind (arith, common_steps)
+
+pub set_row-requires-clause-inside : goal.set_row-requires-clause-inside
+set_row-requires-clause-inside c = grind (arith, common_steps)
+
+pub returns-in_default-clause-substitute : goal.returns-in_default-clause-substitute
+returns-in_default-clause-substitute c = grind (arith, common_steps)
+
+pub row-requires : goal.row-requires
+row-requires c = grind (arith, common_steps)
+
+pub returns-in_default-clause-rows : goal.returns-in_default-clause-rows
+returns-in_default-clause-rows c = grind (arith, common_steps)
+
+pub returns-then-number-place-clause-substitute : goal.returns-then-number-place-clause-substitute
+returns-then-number-place-clause-substitute c = grind (arith, common_steps)
+
+pub returns-in_err-row-clause-rows : goal.returns-in_err-row-clause-rows
+returns-in_err-row-clause-rows c = grind (arith, common_steps)

@@ -1,4 +1,5 @@
-use Rattle.std.proofs.Common.{List, Option, IfSome, length, sym, subst}
+use Rattle.std.proofs.lemmas.Grind.{common_steps}
+use Rattle.std.proofs.Common.{List, Option, IfSome, length, sym, subst, arith}
 use Rattle.cip_problem.specs.Program.{Term}
 use Rattle.cip_problem.specs.Activity.{StandsBelow}
 use Rattle.cip_presolve.specs.Forms.{Form}
@@ -27,3 +28,6 @@ returns-clause-fewer c = rows_fewer _ _ _ _ c.loop-row.invariant
 
 pub returns-clause-rows : goal.returns-clause-rows
 returns-clause-rows c = all_rows_kept _ _ _ _ c.loop-row.invariant c.loop-row-test.false
+
+pub offset_bounds-rows-row-index : goal.offset_bounds-rows-row-index
+offset_bounds-rows-row-index c = grind (arith, common_steps)

@@ -10,3 +10,15 @@ overflow_cast-source c = omega arith
 
 pub returns-else-source-len-clause-source : goal.returns-else-source-len-clause-source
 returns-else-source-len-clause-source c = grind (arith, common_steps)
+
+pub returns-then-is_zero-clause-fewer : goal.returns-then-is_zero-clause-fewer
+returns-then-is_zero-clause-fewer c = grind (arith, common_steps)
+
+pub returns-then-source-len-clause-fewer : goal.returns-then-source-len-clause-fewer
+returns-then-source-len-clause-fewer c = grind (arith, common_steps)
+
+pub returns-else-source-len-clause-fewer : goal.returns-else-source-len-clause-fewer
+returns-else-source-len-clause-fewer c = grind (arith, common_steps)
+
+pub returns-in_default-clause-fewer : goal.returns-in_default-clause-fewer
+returns-in_default-clause-fewer c = grind (arith, common_steps)

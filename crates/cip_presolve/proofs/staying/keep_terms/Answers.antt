@@ -19,3 +19,12 @@ returns-clause-terms c = all_kept c.args.forms.now.items c.loop-term.forms.items
 
 pub keep_column-requires : goal.keep_column-requires
 keep_column-requires c = grind (arith, common_steps)
+
+pub offset_bounds-terms-term-index : goal.offset_bounds-terms-term-index
+offset_bounds-terms-term-index c = grind (arith, common_steps)
+
+pub returns-clause-fewer : goal.returns-clause-fewer
+returns-clause-fewer c = grind (arith, common_steps)
+
+pub loop-term-init : goal.loop-term-init
+loop-term-init c = grind (arith, common_steps)

@@ -1,4 +1,5 @@
-use Rattle.std.proofs.Common.{◌≡◌, Bool, List, Option, length, sym, ap, ◌∙◌, subst}
+use Rattle.std.proofs.lemmas.Grind.{common_steps}
+use Rattle.std.proofs.Common.{◌≡◌, Bool, List, Option, length, sym, ap, ◌∙◌, subst, arith}
 use Rattle.cip_rational.specs.Rational.{ℚ}
 use Rattle.cip_presolve.specs.Forms.{Form}
 use Rattle.cip_presolve.specs.WholeParts.{with_wholes}
@@ -29,3 +30,6 @@ returns-in-Some c =
     let is : IsFilled c.as_slice-forms.result.now c.as_slice-3.result.now c.in-Some.field-0.items = rw c.in-Some.is at c.in_ok-filled.ensures in
     leaf_filled c.args.steps.now c.in_ok-left.left.items c.args.wholes.now c.in_ok-at.at.items c.in-Some.field-0.items left at
     (subst (λ (fs : List (Option Form)). IsFilled fs c.in_ok-at.at.items c.in-Some.field-0.items) forms (subst (λ (vs : List ℚ). IsFilled c.as_slice-forms.result.now vs c.in-Some.field-0.items) c.as_slice-3.ensures.value is))
+
+pub returns : goal.returns
+returns c = grind (arith, common_steps)

@@ -29,3 +29,24 @@ try_replace-requires-clause-inside c = omega arith
 
 pub try_replace-requires-clause-there : goal.try_replace-requires-clause-there
 try_replace-requires-clause-there c = omega arith
+
+pub try_replace-requires-clause-substitute : goal.try_replace-requires-clause-substitute
+try_replace-requires-clause-substitute c = grind (arith, common_steps)
+
+pub returns-then-number-count-clause-found : goal.returns-then-number-count-clause-found
+returns-then-number-count-clause-found c = grind (arith, common_steps)
+
+pub overflow_cast-number-2 : goal.overflow_cast-number-2
+overflow_cast-number-2 c = grind (arith, common_steps)
+
+pub returns-in_err-try_replace-clause-rows : goal.returns-in_err-try_replace-clause-rows
+returns-in_err-try_replace-clause-rows c = grind (arith, common_steps)
+
+pub returns-in_default-clause-found : goal.returns-in_default-clause-found
+returns-in_default-clause-found c = grind (arith, common_steps)
+
+pub overflow_cast-number : goal.overflow_cast-number
+overflow_cast-number c = grind (arith, common_steps)
+
+pub returns-then-number-count-clause-rows : goal.returns-then-number-count-clause-rows
+returns-then-number-count-clause-rows c = grind (arith, common_steps)

@@ -45,3 +45,9 @@ returns-in_default-clause-end c = grind (arith, common_steps)
 
 pub returns-in_default-clause-rows : goal.returns-in_default-clause-rows
 returns-in_default-clause-rows c = grind (arith, common_steps)
+
+pub move_cost-requires-clause-substitute : goal.move_cost-requires-clause-substitute
+move_cost-requires-clause-substitute c = grind (arith, common_steps)
+
+pub returns-in_err-replace_all-clause-rows : goal.returns-in_err-replace_all-clause-rows
+returns-in_err-replace_all-clause-rows c = grind (arith, common_steps)

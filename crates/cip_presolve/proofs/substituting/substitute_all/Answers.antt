@@ -1,3 +1,4 @@
+use Rattle.std.proofs.lemmas.Grind.{common_steps}
 use Rattle.std.proofs.Common.{◌∙◌, arith}
 use Rattle.cip_presolve.proofs.substituting.substitute_all.Goals as goal
 use Rattle.cip_search.proofs.Pairing.{exact_after}
@@ -16,3 +17,27 @@ returns-in_default-2-clause-step c = exact_after _ _ _ c.loop-row.invariant.step
 
 pub returns-in_default-clause-rows : goal.returns-in_default-clause-rows
 returns-in_default-clause-rows c = omega arith
+
+pub returns-in_default-2-clause-rows : goal.returns-in_default-2-clause-rows
+returns-in_default-2-clause-rows c = grind (arith, common_steps)
+
+pub returns-in_default-clause-end : goal.returns-in_default-clause-end
+returns-in_default-clause-end c = grind (arith, common_steps)
+
+pub returns-in_default-2-clause-end : goal.returns-in_default-2-clause-end
+returns-in_default-2-clause-end c = grind (arith, common_steps)
+
+pub substitute_by-requires : goal.substitute_by-requires
+substitute_by-requires c = grind (arith, common_steps)
+
+pub returns-clause-rows : goal.returns-clause-rows
+returns-clause-rows c = grind (arith, common_steps)
+
+pub returns-clause-step : goal.returns-clause-step
+returns-clause-step c = grind (arith, common_steps)
+
+pub overflow_cast-row : goal.overflow_cast-row
+overflow_cast-row c = grind (arith, common_steps)
+
+pub returns-clause-end : goal.returns-clause-end
+returns-clause-end c = grind (arith, common_steps)

@@ -56,3 +56,6 @@ rests-requires-clause-inside c = grind (arith, common_steps)
 
 pub term_at-term-requires : goal.term_at-term-requires
 term_at-term-requires c = grind (arith, common_steps)
+
+pub row-row-requires : goal.row-row-requires
+row-row-requires c = grind (arith, common_steps)

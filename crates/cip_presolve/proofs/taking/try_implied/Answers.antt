@@ -46,3 +46,45 @@ returns-clause-columns c = ap (λ (p : Program). length p.bounds) c.set_sides.en
 
 pub returns-then-cross-clause-end : goal.returns-then-cross-clause-end
 returns-then-cross-clause-end c = grind (arith, common_steps)
+
+pub returns-clause-rows : goal.returns-clause-rows
+returns-clause-rows c = grind (arith, common_steps)
+
+pub returns-then-is_inside-clause-columns : goal.returns-then-is_inside-clause-columns
+returns-then-is_inside-clause-columns c = grind (arith, common_steps)
+
+pub returns-then-is_inside-clause-rows : goal.returns-then-is_inside-clause-rows
+returns-then-is_inside-clause-rows c = grind (arith, common_steps)
+
+pub returns-then-is_far-clause-columns : goal.returns-then-is_far-clause-columns
+returns-then-is_far-clause-columns c = grind (arith, common_steps)
+
+pub returns-then-is_far-clause-rows : goal.returns-then-is_far-clause-rows
+returns-then-is_far-clause-rows c = grind (arith, common_steps)
+
+pub returns-then-cross-clause-columns : goal.returns-then-cross-clause-columns
+returns-then-cross-clause-columns c = grind (arith, common_steps)
+
+pub returns-then-cross-clause-rows : goal.returns-then-cross-clause-rows
+returns-then-cross-clause-rows c = grind (arith, common_steps)
+
+pub implied-requires-clause-inside : goal.implied-requires-clause-inside
+implied-requires-clause-inside c = grind (arith, common_steps)
+
+pub returns-in_default-clause-columns : goal.returns-in_default-clause-columns
+returns-in_default-clause-columns c = grind (arith, common_steps)
+
+pub returns-in_default-clause-rows : goal.returns-in_default-clause-rows
+returns-in_default-clause-rows c = grind (arith, common_steps)
+
+pub returns-in_default-clause-end : goal.returns-in_default-clause-end
+returns-in_default-clause-end c = grind (arith, common_steps)
+
+pub implied-requires-clause-encloses : goal.implied-requires-clause-encloses
+implied-requires-clause-encloses c = grind (arith, common_steps)
+
+pub returns-in_err-found-clause-columns : goal.returns-in_err-found-clause-columns
+returns-in_err-found-clause-columns c = grind (arith, common_steps)
+
+pub returns-in_err-found-clause-rows : goal.returns-in_err-found-clause-rows
+returns-in_err-found-clause-rows c = grind (arith, common_steps)

@@ -28,3 +28,21 @@ returns c =
 
 pub same-term-2 : goal.same-term-2
 same-term-2 c = grind (arith, common_steps)
+
+pub returns-then-term-waiting : goal.returns-then-term-waiting
+returns-then-term-waiting c = grind (arith, common_steps)
+
+pub same-waiting-then-not-branch : goal.same-waiting-then-not-branch
+same-waiting-then-not-branch c = grind (arith, common_steps)
+
+pub same-waiting-in_err-put : goal.same-waiting-in_err-put
+same-waiting-in_err-put c = grind (arith, common_steps)
+
+pub same-waiting-in_default : goal.same-waiting-in_default
+same-waiting-in_default c = grind (arith, common_steps)
+
+pub returns-then-not-branch : goal.returns-then-not-branch
+returns-then-not-branch c = grind (arith, common_steps)
+
+pub same-term : goal.same-term
+same-term c = grind (arith, common_steps)

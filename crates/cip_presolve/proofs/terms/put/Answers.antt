@@ -1,4 +1,5 @@
-use Rattle.std.proofs.Common.{◌≡◌, refl, sym, ap, ◌∙◌}
+use Rattle.std.proofs.lemmas.Grind.{common_steps}
+use Rattle.std.proofs.Common.{◌≡◌, refl, sym, ap, ◌∙◌, arith}
 use Rattle.cip_rational.specs.Rational.{zeroℚ}
 use Rattle.cip_problem.specs.Program.{Term}
 use Rattle.cip_presolve.proofs.TermsPut.{put_nothing, put_one}
@@ -11,3 +12,9 @@ returns-then-is_zero c =
 
 pub returns-in-Ok : goal.returns-in-Ok
 returns-in-Ok c = put_one c.args.row.now c.append.new.self c.args.term c.in-Ok.ensures.0
+
+pub returns-in-Err-NoMemory : goal.returns-in-Err-NoMemory
+returns-in-Err-NoMemory c = grind (arith, common_steps)
+
+pub returns-in-Err : goal.returns-in-Err
+returns-in-Err c = grind (arith, common_steps)

@@ -1,3 +1,4 @@
+use Rattle.std.proofs.lemmas.Grind.{common_steps}
 use Rattle.std.proofs.Common.{◌<◌, ◌≤◌, length, rules, arith}
 use Rattle.cip_presolve.specs.PutTerms.{HasBoth}
 use Rattle.cip_presolve.proofs.TermsPut.{none_put, next_put, all_there, under_ok}
@@ -20,3 +21,9 @@ returns c =
 
 pub bounds-terms-term-index : goal.bounds-terms-term-index
 bounds-terms-term-index c = omega arith
+
+pub offset_bounds-terms-term-index : goal.offset_bounds-terms-term-index
+offset_bounds-terms-term-index c = grind (arith, common_steps)
+
+pub returns-then-not-branch : goal.returns-then-not-branch
+returns-then-not-branch c = grind (arith, common_steps)

@@ -19,3 +19,12 @@ returns c = all_filled c.args.forms.now c.args.point.now c.loop-column.whole.ite
 
 pub loop-column-init : goal.loop-column-init
 loop-column-init c = grind (arith, common_steps)
+
+pub value_outcome-requires : goal.value_outcome-requires
+value_outcome-requires c = grind (arith, common_steps)
+
+pub bounds-forms-column : goal.bounds-forms-column
+bounds-forms-column c = grind (arith, common_steps)
+
+pub offset_bounds-forms-column : goal.offset_bounds-forms-column
+offset_bounds-forms-column c = grind (arith, common_steps)

@@ -4,3 +4,9 @@ use Rattle.cip_presolve.proofs.values.fitting_value.Goals as goal
 
 pub returns : goal.returns
 returns c = grind (arith, common_steps)
+
+pub value_outcome-requires : goal.value_outcome-requires
+value_outcome-requires c = grind (arith, common_steps)
+
+pub unreachable-requires : goal.unreachable-requires
+unreachable-requires c = grind (arith, common_steps)

@@ -4,3 +4,12 @@ use Rattle.cip_presolve.proofs.values.value_outcome.Goals as goal
 
 pub returns-in-Some : goal.returns-in-Some
 returns-in-Some c = grind (arith, common_steps)
+
+pub returns-in-None : goal.returns-in-None
+returns-in-None c = grind (arith, common_steps)
+
+pub bounds-point-column : goal.bounds-point-column
+bounds-point-column c = grind (arith, common_steps)
+
+pub offset_bounds-point-column : goal.offset_bounds-point-column
+offset_bounds-point-column c = grind (arith, common_steps)

@@ -1,4 +1,5 @@
-use Rattle.std.proofs.Common.{◌<◌, ◌≤◌, ◌++◌, sym, ap, subst}
+use Rattle.std.proofs.lemmas.Grind.{common_steps}
+use Rattle.std.proofs.Common.{◌<◌, ◌≤◌, ◌++◌, sym, ap, subst, arith}
 use Rattle.cip_presolve.specs.Leaf.{at_wholes}
 use Rattle.cip_presolve.specs.Forms.{filled}
 use Rattle.cip_presolve.proofs.FilledPoints.{below_both, whole_skipped, whole_taken, all_taken, fits_at}
@@ -35,3 +36,6 @@ loop-column-preserved c =
 pub returns : goal.returns
 returns c =
     all_taken c.args.forms.now c.args.whole.now c.args.point.now c.loop-column.all.items _ c.loop-column.column (subst (λ n. n ≤ c.loop-column.column) c.min-column-end.ensures c.loop-column-test.false) c.loop-column.invariant
+
+pub offset_bounds-forms-column : goal.offset_bounds-forms-column
+offset_bounds-forms-column c = grind (arith, common_steps)

@@ -10,3 +10,9 @@ returns c =
       | in-Ok-None w ↦ rw w.asked-is w.asked_afresh-asked.ensures
       | in-Err w ↦ rw w.asked-is tt
     ]
+
+pub asked_greedily-requires : goal.asked_greedily-requires
+asked_greedily-requires c = grind (arith, common_steps)
+
+pub returns-in_default : goal.returns-in_default
+returns-in_default c = grind (arith, common_steps)

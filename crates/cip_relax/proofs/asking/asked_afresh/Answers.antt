@@ -14,3 +14,9 @@ returns c =
           w.solve_from-asked.ensures.answer)
       | in-Err w ↦ rw w.asked-is tt
     ]
+
+pub solve_from-asked-requires : goal.solve_from-asked-requires
+solve_from-asked-requires c = grind (arith, common_steps)
+
+pub asked_greedily-requires : goal.asked_greedily-requires
+asked_greedily-requires c = grind (arith, common_steps)

@@ -1,4 +1,5 @@
-use Rattle.std.proofs.Common.{map, length, None, ap, ◌∙◌}
+use Rattle.std.proofs.lemmas.Grind.{common_steps}
+use Rattle.std.proofs.Common.{map, length, None, ap, ◌∙◌, arith}
 use Rattle.std.specs.Borrow.{Bor}
 use Rattle.cip_problem.specs.Program.{Row}
 use Rattle.cip_cert.specs.Lent.{Lent}
@@ -24,3 +25,15 @@ returns-in-Shown-clause-guessed c =
     let others = ap (λ rows. map (λ (row : Bor Row). row.now) rows) c.as_slice.ensures.value ∙ c.requires.others in
     let same = same_program program lent box c.rows.result.now c.as_slice.result.now c.costs.result.now c.rows.ensures.rows others c.costs.ensures.costs in
     rw c.in-Shown.is at (c.in_ok-beside.ensures.guessed lent box (length c.args.scratch.now.row.entries) same)
+
+pub show-requires-clause-ready : goal.show-requires-clause-ready
+show-requires-clause-ready c = grind (arith, common_steps)
+
+pub returns-in-Shown-clause-room : goal.returns-in-Shown-clause-room
+returns-in-Shown-clause-room c = grind (arith, common_steps)
+
+pub weighed_or_rounded-requires-clause-shown : goal.weighed_or_rounded-requires-clause-shown
+weighed_or_rounded-requires-clause-shown c = grind (arith, common_steps)
+
+pub show-requires-clause-room : goal.show-requires-clause-room
+show-requires-clause-room c = grind (arith, common_steps)

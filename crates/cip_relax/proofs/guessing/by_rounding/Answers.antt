@@ -1,4 +1,5 @@
-use Rattle.std.proofs.Common.{subst}
+use Rattle.std.proofs.lemmas.Grind.{common_steps}
+use Rattle.std.proofs.Common.{subst, arith}
 use Rattle.cip_problem.specs.LinearProgram.{LinearProgram, HasNoPoint, CostsAtLeast}
 use Rattle.cip_relax.proofs.Rounding.{shown_bound}
 use Rattle.cip_relax.proofs.guessing.by_rounding.Goals as goal
@@ -16,3 +17,24 @@ returns-in-Empty-clause-guessed c = λ lent box columns same.
 pub returns-in-None-clause-guessed : goal.returns-in-None-clause-guessed
 returns-in-None-clause-guessed c = λ lent box columns same.
     c.beside_point-in-None.ensures lent box columns same tt
+
+pub returns-in-Bound-clause-room : goal.returns-in-Bound-clause-room
+returns-in-Bound-clause-room c = grind (arith, common_steps)
+
+pub returns-in-None-clause-room : goal.returns-in-None-clause-room
+returns-in-None-clause-room c = grind (arith, common_steps)
+
+pub returns-in-Empty-clause-room : goal.returns-in-Empty-clause-room
+returns-in-Empty-clause-room c = grind (arith, common_steps)
+
+pub beside_point-requires : goal.beside_point-requires
+beside_point-requires c = grind (arith, common_steps)
+
+pub beside_point-requires-in-None : goal.beside_point-requires-in-None
+beside_point-requires-in-None c = grind (arith, common_steps)
+
+pub safe_bound-requires-clause-ready : goal.safe_bound-requires-clause-ready
+safe_bound-requires-clause-ready c = grind (arith, common_steps)
+
+pub safe_bound-requires-clause-room : goal.safe_bound-requires-clause-room
+safe_bound-requires-clause-room c = grind (arith, common_steps)

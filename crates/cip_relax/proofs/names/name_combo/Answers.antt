@@ -1,3 +1,4 @@
+use Rattle.std.proofs.lemmas.Grind.{common_steps}
 use Rattle.std.proofs.Common.{ap, length, arith}
 use Rattle.cip_relax.specs.NodeRows.{named_multiple}
 use Rattle.cip_relax.proofs.Lists.{one_more, all_mapped, mapped_long}
@@ -18,3 +19,12 @@ index-multiple-requires c = omega (arith, ap length c.loop-at.invariant.rows, ma
 
 pub index_mut-requires : goal.index_mut-requires
 index_mut-requires c = omega (arith, ap length c.loop-at.invariant.rows, mapped_long (named_multiple c.args.own c.args.ids.now) c.loop-at.at c.args.combo.now.rows.items)
+
+pub returns-clause-highs : goal.returns-clause-highs
+returns-clause-highs c = grind (arith, common_steps)
+
+pub returns-clause-lows : goal.returns-clause-lows
+returns-clause-lows c = grind (arith, common_steps)
+
+pub loop-at-init : goal.loop-at-init
+loop-at-init c = grind (arith, common_steps)

@@ -1,4 +1,5 @@
-use Rattle.std.proofs.Common.{◌≡◌, ◌++◌, List, map, subst, sym, ap, ◌∙◌}
+use Rattle.std.proofs.lemmas.Grind.{common_steps}
+use Rattle.std.proofs.Common.{◌≡◌, ◌++◌, List, map, subst, sym, ap, ◌∙◌, arith}
 use Rattle.std.specs.Borrow.{Bor}
 use Rattle.cip_rational.specs.Rational.{ℚ}
 use Rattle.cip_problem.specs.Program.{Row}
@@ -16,3 +17,6 @@ with_others-lp-requires c =
     let same : joined c.rows.result.now c.as_slice-others.result.now ≡ own ++ usable_rows box pool.rows = ap (λ (rows : List Row). joined rows c.as_slice-others.result.now) c.rows.ensures.rows ∙ ap (λ (more : List Row). own ++ more) others in
     subst (λ (costs : List ℚ). IsSolvable (record { rows = joined c.rows.result.now c.as_slice-others.result.now; bounds = box; costs = costs })) (sym c.costs.ensures.costs)
     (solvable c.args.program.now box pool (joined c.rows.result.now c.as_slice-others.result.now) c.columns-columns.ensures.formed c.requires.columns c.requires.pool c.rows-rows.ensures.kept same)
+
+pub returns : goal.returns
+returns c = grind (arith, common_steps)

@@ -42,3 +42,9 @@ returns-clause-taken g c =
 
 pub returns-clause-faults : goal.returns-clause-faults
 returns-clause-faults g c = grind (arith, common_steps)
+
+pub write_verdict-requires-clause-long : goal.write_verdict-requires-clause-long
+write_verdict-requires-clause-long g c = grind (arith, common_steps)
+
+pub write_verdict-requires-clause-meaning : goal.write_verdict-requires-clause-meaning
+write_verdict-requires-clause-meaning g c = grind (arith, common_steps)

@@ -8,3 +8,12 @@ returns-then-le c = grind (arith, common_steps, is_le-compare)
 
 pub returns-else-le : goal.returns-else-le
 returns-else-le c = grind (arith, common_steps, is_le-compare)
+
+pub unreachable-requires : goal.unreachable-requires
+unreachable-requires c = grind (arith, common_steps)
+
+pub returns-in-None-Some : goal.returns-in-None-Some
+returns-in-None-Some c = grind (arith, common_steps)
+
+pub unreachable-unreachable : goal.unreachable-unreachable
+unreachable-unreachable c = grind (arith, common_steps)

@@ -1,4 +1,5 @@
-use Rattle.std.proofs.Common.{◌≡◌, ◌∙◌, ◌++◌, [], ◌∷◌, append_assoc, List, ℕ, ap, sym, subst}
+use Rattle.std.proofs.lemmas.Grind.{common_steps}
+use Rattle.std.proofs.Common.{◌≡◌, ◌∙◌, ◌++◌, [], ◌∷◌, append_assoc, List, ℕ, ap, sym, subst, arith}
 use Rattle.cip_rational.specs.NumberText.{fraction_text}
 use Rattle.cip_search.specs.Figures.{line}
 use Rattle.cip_search.specs.Checks.{broken_text}
@@ -36,3 +37,21 @@ returns-clause-taken g c =
     (second_of_two c.write_all-2.result _ _ _ c.args.buffer.now (word ++ (name ++ 32 ∷ [])) (value ++ (32 ∷ (broken ++ 10 ∷ []))) _ _ c.in_ok-write_all.ensures.taken
     (subst (λ t. Writes c.write_all-2.result (g.K.Sink.tells c.write_all.new.out) (g.K.Sink.tells c.write_all-2.new.out) (c.write_all.new.self ++ (value ++ t)) c.write_all-2.new.self) end
     (rw (c.write_into-length.ensures.text, c.write_into-end_length.ensures.text) at c.write_all-2.ensures.taken)))
+
+pub returns-clause-faults : goal.returns-clause-faults
+returns-clause-faults g c = grind (arith, common_steps)
+
+pub slice_bounds-figure-end-2 : goal.slice_bounds-figure-end-2
+slice_bounds-figure-end-2 g c = grind (arith, common_steps)
+
+pub slice_bounds-end-end-2 : goal.slice_bounds-end-end-2
+slice_bounds-end-end-2 g c = grind (arith, common_steps)
+
+pub slice_bounds-figure-end : goal.slice_bounds-figure-end
+slice_bounds-figure-end g c = grind (arith, common_steps)
+
+pub side_broken-side-requires : goal.side_broken-side-requires
+side_broken-side-requires g c = grind (arith, common_steps)
+
+pub slice_bounds-end-end : goal.slice_bounds-end-end
+slice_bounds-end-end g c = grind (arith, common_steps)

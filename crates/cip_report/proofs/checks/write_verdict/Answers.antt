@@ -99,3 +99,42 @@ returns-in-Row-clause-taken g c =
 
 pub returns-in-Feasible-clause-taken : goal.returns-in-Feasible-clause-taken
 returns-in-Feasible-clause-taken g c = grind (arith, common_steps)
+
+pub bounds-point-number : goal.bounds-point-number
+bounds-point-number g c = grind (arith, common_steps)
+
+pub returns-in-Cost-clause-taken : goal.returns-in-Cost-clause-taken
+returns-in-Cost-clause-taken g c = grind (arith, common_steps)
+
+pub told_sides-sides-requires : goal.told_sides-sides-requires
+told_sides-sides-requires g c = grind (arith, common_steps)
+
+pub returns-in-Row-clause-faults : goal.returns-in-Row-clause-faults
+returns-in-Row-clause-faults g c = grind (arith, common_steps)
+
+pub returns-in-BreaksRow-clause-faults : goal.returns-in-BreaksRow-clause-faults
+returns-in-BreaksRow-clause-faults g c = grind (arith, common_steps)
+
+pub name-name-requires : goal.name-name-requires
+name-name-requires g c = grind (arith, common_steps)
+
+pub returns-in-BreaksBound-clause-faults : goal.returns-in-BreaksBound-clause-faults
+returns-in-BreaksBound-clause-faults g c = grind (arith, common_steps)
+
+pub returns-in-BreaksWhole-clause-faults : goal.returns-in-BreaksWhole-clause-faults
+returns-in-BreaksWhole-clause-faults g c = grind (arith, common_steps)
+
+pub returns-in-Cost-clause-faults : goal.returns-in-Cost-clause-faults
+returns-in-Cost-clause-faults g c = grind (arith, common_steps)
+
+pub returns-in-Feasible-clause-faults : goal.returns-in-Feasible-clause-faults
+returns-in-Feasible-clause-faults g c = grind (arith, common_steps)
+
+pub offset_bounds-rows-number : goal.offset_bounds-rows-number
+offset_bounds-rows-number g c = grind (arith, common_steps)
+
+pub offset_bounds-point-number : goal.offset_bounds-point-number
+offset_bounds-point-number g c = grind (arith, common_steps)
+
+pub offset_bounds-point-number-in-BreaksWhole : goal.offset_bounds-point-number-in-BreaksWhole
+offset_bounds-point-number-in-BreaksWhole g c = grind (arith, common_steps)

@@ -113,3 +113,9 @@ returns-clause-taken g c =
 
 pub returns-clause-faults : goal.returns-clause-faults
 returns-clause-faults g c = grind (arith, common_steps)
+
+pub overflow_cast-drawn-2 : goal.overflow_cast-drawn-2
+overflow_cast-drawn-2 g c = grind (arith, common_steps)
+
+pub overflow_cast-drawn : goal.overflow_cast-drawn
+overflow_cast-drawn g c = grind (arith, common_steps)

@@ -40,3 +40,18 @@ loop-place-init g c = grind (arith, common_steps)
 
 pub returns-clause-taken : goal.returns-clause-taken
 returns-clause-taken g c = grind (arith, common_steps)
+
+pub returns-in_default-clause-taken : goal.returns-in_default-clause-taken
+returns-in_default-clause-taken g c = grind (arith, common_steps)
+
+pub bounds-lines-place : goal.bounds-lines-place
+bounds-lines-place g c = grind (arith, common_steps)
+
+pub offset_bounds-lines-place : goal.offset_bounds-lines-place
+offset_bounds-lines-place g c = grind (arith, common_steps)
+
+pub overflow_add-place : goal.overflow_add-place
+overflow_add-place g c = grind (arith, common_steps)
+
+pub returns-clause-faults : goal.returns-clause-faults
+returns-clause-faults g c = grind (arith, common_steps)

@@ -46,3 +46,6 @@ returns-clause-taken g c =
 
 pub returns-clause-faults : goal.returns-clause-faults
 returns-clause-faults g c = grind (arith, common_steps)
+
+pub overflow_cast-traced : goal.overflow_cast-traced
+overflow_cast-traced g c = grind (arith, common_steps)

@@ -1,4 +1,5 @@
-use Rattle.std.proofs.Common.{◌≡◌, ◌∙◌, ◌∷◌, ◌++◌, [], ℕ, List, Bor, refl, ap, sym, subst, append-nil}
+use Rattle.std.proofs.lemmas.Grind.{common_steps}
+use Rattle.std.proofs.Common.{◌≡◌, ◌∙◌, ◌∷◌, ◌++◌, [], ℕ, List, Bor, refl, ap, sym, subst, append-nil, arith}
 use Rattle.cip_events.specs.Words.{text_of_word}
 use Rattle.cip_events.specs.declared.words.Word.{Word}
 use Rattle.cip_events.specs.declared.words.Word.TheVariants.{Dropped, Refused}
@@ -28,3 +29,15 @@ returns-in_default-clause-taken g c =
     let none = none_behind c.args.word c.in_default.not-Dropped c.in_default.not-Refused in
     let word : c.as_bytes-text.result.now ≡ word_text c.args.word = c.as_bytes-text.ensures.value ∙ c.text.ensures ∙ sym (append-nil text) ∙ ap (λ t. text ++ t) (sym none) in
     subst (λ t. Writes c.write_all.result (g.K.Sink.tells c.args.out.now) (g.K.Sink.tells c.write_all.new.out) (c.args.buffer.now ++ (32 ∷ (t ++ 10 ∷ []))) c.write_all.new.self) word c.write_all.ensures.taken
+
+pub returns-in_default-clause-faults : goal.returns-in_default-clause-faults
+returns-in_default-clause-faults g c = grind (arith, common_steps)
+
+pub returns-in-Refused-clause-faults : goal.returns-in-Refused-clause-faults
+returns-in-Refused-clause-faults g c = grind (arith, common_steps)
+
+pub returns-in-Dropped-clause-faults : goal.returns-in-Dropped-clause-faults
+returns-in-Dropped-clause-faults g c = grind (arith, common_steps)
+
+pub as_bytes-requires-text-self : goal.as_bytes-requires-text-self
+as_bytes-requires-text-self g c = grind (arith, common_steps)

@@ -65,3 +65,6 @@ returns-clause-taken g c =
 
 pub returns-clause-faults : goal.returns-clause-faults
 returns-clause-faults g c = grind (arith, common_steps)
+
+pub write_figures-requires : goal.write_figures-requires
+write_figures-requires g c = grind (arith, common_steps)

@@ -7,3 +7,9 @@ returns-in-None-clause-taken g c = grind (arith, common_steps)
 
 pub returns-in-Some-clause-taken : goal.returns-in-Some-clause-taken
 returns-in-Some-clause-taken g c = grind (arith, common_steps)
+
+pub returns-in-Some-clause-faults : goal.returns-in-Some-clause-faults
+returns-in-Some-clause-faults g c = grind (arith, common_steps)
+
+pub returns-in-None-clause-faults : goal.returns-in-None-clause-faults
+returns-in-None-clause-faults g c = grind (arith, common_steps)

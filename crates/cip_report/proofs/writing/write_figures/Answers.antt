@@ -47,3 +47,6 @@ write_shown-requires g c = grind (arith, common_steps)
 
 pub returns-in-Infeasible-clause-taken : goal.returns-in-Infeasible-clause-taken
 returns-in-Infeasible-clause-taken g c = grind (arith, common_steps)
+
+pub write_held-requires : goal.write_held-requires
+write_held-requires g c = grind (arith, common_steps)

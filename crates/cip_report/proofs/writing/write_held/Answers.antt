@@ -17,3 +17,6 @@ returns-in-Some-clause-taken g c =
 
 pub write_point-requires : goal.write_point-requires
 write_point-requires g c = grind (arith, common_steps)
+
+pub returns-in-Some-clause-faults : goal.returns-in-Some-clause-faults
+returns-in-Some-clause-faults g c = grind (arith, common_steps)

@@ -69,3 +69,12 @@ returns-clause-taken g c =
 
 pub loop-column-init : goal.loop-column-init
 loop-column-init g c = grind (arith, common_steps)
+
+pub bounds-choices-column : goal.bounds-choices-column
+bounds-choices-column g c = grind (arith, common_steps)
+
+pub offset_bounds-choices-column : goal.offset_bounds-choices-column
+offset_bounds-choices-column g c = grind (arith, common_steps)
+
+pub returns-clause-faults : goal.returns-clause-faults
+returns-clause-faults g c = grind (arith, common_steps)

@@ -59,3 +59,9 @@ name-requires g c = omega arith
 
 pub returns-clause-taken : goal.returns-clause-taken
 returns-clause-taken g c = grind (arith, common_steps)
+
+pub bounds-whole-column : goal.bounds-whole-column
+bounds-whole-column g c = grind (arith, common_steps)
+
+pub returns-clause-faults : goal.returns-clause-faults
+returns-clause-faults g c = grind (arith, common_steps)

@@ -29,3 +29,15 @@ loop-number-init g c = grind (arith, common_steps)
 
 pub returns-clause-taken : goal.returns-clause-taken
 returns-clause-taken g c = grind (arith, common_steps)
+
+pub name-requires : goal.name-requires
+name-requires g c = grind (arith, common_steps)
+
+pub bounds-point-number : goal.bounds-point-number
+bounds-point-number g c = grind (arith, common_steps)
+
+pub offset_bounds-point-number : goal.offset_bounds-point-number
+offset_bounds-point-number g c = grind (arith, common_steps)
+
+pub returns-clause-faults : goal.returns-clause-faults
+returns-clause-faults g c = grind (arith, common_steps)

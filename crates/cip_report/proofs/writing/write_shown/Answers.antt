@@ -54,3 +54,6 @@ write_point-requires g c = grind (arith, common_steps)
 
 pub returns-in_ok-write_leaf_choices-in-Wide-clause-faults : goal.returns-in_ok-write_leaf_choices-in-Wide-clause-faults
 returns-in_ok-write_leaf_choices-in-Wide-clause-faults g c = grind (arith, common_steps)
+
+pub returns-in-Unbounded-clause-faults : goal.returns-in-Unbounded-clause-faults
+returns-in-Unbounded-clause-faults g c = grind (arith, common_steps)

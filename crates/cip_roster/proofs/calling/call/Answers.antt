@@ -1,3 +1,4 @@
+use Rattle.std.proofs.lemmas.Grind.{common_steps}
 use Rattle.std.proofs.Common.{ℕ, List, pos, arith, refl, subst, sym, ◌∙◌, get_or, take_all}
 use Rattle.cip_plugin.specs.Asking.{ask_of}
 use Rattle.cip_plugin.specs.declared.keys.Key.{Key}
@@ -69,3 +70,6 @@ returns-clause-room g c = omega (arith, c.loop-key.invariant.lines)
 
 pub returns-clause-rankings : goal.returns-clause-rankings
 returns-clause-rankings g c = c.loop-key.invariant.rankings
+
+pub offset_bounds-keys-key-index : goal.offset_bounds-keys-key-index
+offset_bounds-keys-key-index g c = grind (arith, common_steps)

@@ -1,4 +1,5 @@
-use Rattle.std.proofs.Common.{List, subst, sym, ◌∙◌}
+use Rattle.std.proofs.lemmas.Grind.{common_steps}
+use Rattle.std.proofs.Common.{List, subst, sym, ◌∙◌, arith}
 use Rattle.cip_plugin.specs.declared.keys.Key.{Key}
 use Rattle.cip_plugin.specs.Seats.{State}
 use Rattle.cip_roster.specs.KeptRankings.{IsRanking}
@@ -40,3 +41,6 @@ returns-in_default-from_slice-clause-state g c = c.ranked.ensures.state
 
 pub returns-clause-state : goal.returns-clause-state
 returns-clause-state g c = c.keep_ranking.ensures.state ∙ c.ranked.ensures.state
+
+pub ranked-requires : goal.ranked-requires
+ranked-requires g c = grind (arith, common_steps)

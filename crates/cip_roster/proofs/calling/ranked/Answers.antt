@@ -27,3 +27,9 @@ returns-in-None-clause-ranking g c =
 
 pub ranking-requires : goal.ranking-requires
 ranking-requires g c = grind (arith, common_steps)
+
+pub returns-in-Some-clause-state : goal.returns-in-Some-clause-state
+returns-in-Some-clause-state g c = grind (arith, common_steps)
+
+pub returns-in-None-clause-state : goal.returns-in-None-clause-state
+returns-in-None-clause-state g c = grind (arith, common_steps)

@@ -1,4 +1,5 @@
-use Rattle.std.proofs.Common.{ℕ, List, ◌≤◌, ◌∙◌, ap, length, subst, sym}
+use Rattle.std.proofs.lemmas.Grind.{common_steps}
+use Rattle.std.proofs.Common.{ℕ, List, ◌≤◌, ◌∙◌, ap, length, subst, sym, arith}
 use Rattle.std.specs.List.Sorted.{IsPermutation, IsSorted}
 use Rattle.cip_plugin.specs.declared.keys.Key.{Key}
 use Rattle.cip_plugin.specs.Calling.{is_ready, keys_from}
@@ -39,3 +40,6 @@ returns-clause-sorted g c =
     (sym (sorted_all c.loop-id.keys.items c.sort_unstable.new.self c.loop-id.keys.len c.loop-id.keys.ok.0
     (c.sort_unstable.ensures.len ∙ ap (λ (keys : List Key). length keys) c.as_mut_slice.ensures.value)))
     c.sort_unstable.ensures.sorted
+
+pub overflow_cast-id : goal.overflow_cast-id
+overflow_cast-id g c = grind (arith, common_steps)

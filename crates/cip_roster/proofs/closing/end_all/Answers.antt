@@ -1,3 +1,4 @@
+use Rattle.std.proofs.lemmas.Grind.{common_steps}
 use Rattle.std.proofs.Common.{arith}
 use Rattle.cip_roster.proofs.Ending.{ended_all, ended_gone, ended_none, ended_one}
 use Rattle.cip_roster.proofs.closing.end_all.Goals as goal
@@ -30,3 +31,15 @@ returns-clause-gone g c =
     ended_gone c.loop-place.place (g.R.Seated.state c.args.roster.now) (g.R.Seated.state c.loop-place.roster)
     (g.R.Seated.room c.loop-place.roster).lines (omega (arith, c.loop-place-test.false, c.count-place-end.ensures))
     c.loop-place.invariant.so_far
+
+pub returns-clause-places : goal.returns-clause-places
+returns-clause-places g c = grind (arith, common_steps)
+
+pub end_one-requires : goal.end_one-requires
+end_one-requires g c = grind (arith, common_steps)
+
+pub returns-clause-seats : goal.returns-clause-seats
+returns-clause-seats g c = grind (arith, common_steps)
+
+pub overflow_cast-place : goal.overflow_cast-place
+overflow_cast-place g c = grind (arith, common_steps)

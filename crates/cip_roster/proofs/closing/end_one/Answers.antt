@@ -1,4 +1,5 @@
-use Rattle.std.proofs.Common.{[], Bool, cond, refl, subst}
+use Rattle.std.proofs.lemmas.Grind.{common_steps}
+use Rattle.std.proofs.Common.{[], Bool, cond, refl, subst, arith}
 use Rattle.cip_plugin.specs.Steps.{Runs}
 use Rattle.cip_plugin.specs.Wishing.{ends}
 use Rattle.cip_roster.proofs.Ending.{closed_there}
@@ -34,3 +35,9 @@ returns-clause-run g c =
 
 pub returns-clause-gone : goal.returns-clause-gone
 returns-clause-gone g c = closed_there (g.R.Seated.state c.end.new.roster) c.args.id c.end.ensures.at
+
+pub returns-then-not-is_live-clause-gone : goal.returns-then-not-is_live-clause-gone
+returns-then-not-is_live-clause-gone g c = grind (arith, common_steps)
+
+pub returns-then-not-is_live-clause-sound : goal.returns-then-not-is_live-clause-sound
+returns-then-not-is_live-clause-sound g c = grind (arith, common_steps)

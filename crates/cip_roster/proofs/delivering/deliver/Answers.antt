@@ -40,3 +40,21 @@ loop-event-init g c = grind (arith, common_steps)
 
 pub returns-clause-told : goal.returns-clause-told
 returns-clause-told g c = grind (arith, common_steps)
+
+pub returns-in_default-tell-clause-sound : goal.returns-in_default-tell-clause-sound
+returns-in_default-tell-clause-sound g c = grind (arith, common_steps)
+
+pub returns-clause-empty : goal.returns-clause-empty
+returns-clause-empty g c = grind (arith, common_steps)
+
+pub returns-clause-sound : goal.returns-clause-sound
+returns-clause-sound g c = grind (arith, common_steps)
+
+pub returns-in_default-tell-clause-told : goal.returns-in_default-tell-clause-told
+returns-in_default-tell-clause-told g c = grind (arith, common_steps)
+
+pub returns-in_default-tell-clause-empty : goal.returns-in_default-tell-clause-empty
+returns-in_default-tell-clause-empty g c = grind (arith, common_steps)
+
+pub returns-clause-err : goal.returns-clause-err
+returns-clause-err g c = grind (arith, common_steps)

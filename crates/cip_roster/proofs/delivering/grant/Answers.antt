@@ -1,4 +1,5 @@
-use Rattle.std.proofs.Common.{List, [], ◌∷◌, get_or, subst, sym, take}
+use Rattle.std.proofs.lemmas.Grind.{common_steps}
+use Rattle.std.proofs.Common.{List, [], ◌∷◌, get_or, subst, sym, take, arith}
 use Rattle.std.proofs.lemmas.List.{take_all}
 use Rattle.cip_plugin.specs.declared.proposals.Wish.{Wish}
 use Rattle.cip_plugin.specs.declared.proposals.Wish.TheVariants.{Include}
@@ -49,3 +50,21 @@ returns-clause-took g c =
     subst (λ (wishes : List Wish). TookQuietly c.args.id c.args.view.now.node wishes
     (g.R.Seated.state c.args.roster.now) (g.R.Seated.state c.loop-wish.roster) c.args.queue.now c.loop-wish.queue)
     (take_all c.loop-wish.wish-index c.args.wishes.now c.loop-wish-test.false) c.loop-wish.invariant.took
+
+pub returns-in_default-clause-sound : goal.returns-in_default-clause-sound
+returns-in_default-clause-sound g c = grind (arith, common_steps)
+
+pub returns-in_default-clause-took : goal.returns-in_default-clause-took
+returns-in_default-clause-took g c = grind (arith, common_steps)
+
+pub returns-clause-sound : goal.returns-clause-sound
+returns-clause-sound g c = grind (arith, common_steps)
+
+pub grant_one-requires-clause-sound : goal.grant_one-requires-clause-sound
+grant_one-requires-clause-sound g c = grind (arith, common_steps)
+
+pub offset_bounds-wishes-wish-index : goal.offset_bounds-wishes-wish-index
+offset_bounds-wishes-wish-index g c = grind (arith, common_steps)
+
+pub returns-clause-err : goal.returns-clause-err
+returns-clause-err g c = grind (arith, common_steps)

@@ -33,3 +33,15 @@ returns-in_default-clause-err g c = grind (arith, common_steps)
 
 pub returns-in_default-clause-sound : goal.returns-in_default-clause-sound
 returns-in_default-clause-sound g c = grind (arith, common_steps)
+
+pub returns-in-Ok-clause-sound : goal.returns-in-Ok-clause-sound
+returns-in-Ok-clause-sound g c = grind (arith, common_steps)
+
+pub wish-requires : goal.wish-requires
+wish-requires g c = grind (arith, common_steps)
+
+pub returns-in-NoMemory-clause-took : goal.returns-in-NoMemory-clause-took
+returns-in-NoMemory-clause-took g c = grind (arith, common_steps)
+
+pub returns-in-Ok-clause-err : goal.returns-in-Ok-clause-err
+returns-in-Ok-clause-err g c = grind (arith, common_steps)

@@ -33,3 +33,15 @@ returns-clause-err g c =
 
 pub returns-clause-sound : goal.returns-clause-sound
 returns-clause-sound g c = grind (arith, common_steps)
+
+pub returns-in_default-clause-sound : goal.returns-in_default-clause-sound
+returns-in_default-clause-sound g c = grind (arith, common_steps)
+
+pub tell_each-requires-clause-sound : goal.tell_each-requires-clause-sound
+tell_each-requires-clause-sound g c = grind (arith, common_steps)
+
+pub order_of-requires : goal.order_of-requires
+order_of-requires g c = grind (arith, common_steps)
+
+pub returns-in_default-clause-told : goal.returns-in_default-clause-told
+returns-in_default-clause-told g c = grind (arith, common_steps)

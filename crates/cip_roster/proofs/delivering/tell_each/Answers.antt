@@ -1,4 +1,5 @@
-use Rattle.std.proofs.Common.{ℕ, List, pos, subst, sym, get_or}
+use Rattle.std.proofs.lemmas.Grind.{common_steps}
+use Rattle.std.proofs.Common.{ℕ, List, pos, subst, sym, get_or, arith}
 use Rattle.std.proofs.lemmas.List.{take_all}
 use Rattle.cip_plugin.specs.declared.kinds.Kind.TheVariants as kinds
 use Rattle.cip_plugin.specs.declared.keys.Key.{Key}
@@ -57,3 +58,21 @@ returns-clause-told g c =
     (g.R.Seated.state c.args.roster.now) (g.R.Seated.state c.loop-key.roster) c.args.queue.now c.loop-key.queue)
     (take_all c.loop-key.key-index c.args.keys.now c.loop-key-test.false)
     c.loop-key.invariant.told)
+
+pub returns-in_default-clause-sound : goal.returns-in_default-clause-sound
+returns-in_default-clause-sound g c = grind (arith, common_steps)
+
+pub tell_one-requires-clause-sound : goal.tell_one-requires-clause-sound
+tell_one-requires-clause-sound g c = grind (arith, common_steps)
+
+pub returns-clause-sound : goal.returns-clause-sound
+returns-clause-sound g c = grind (arith, common_steps)
+
+pub returns-in_default-clause-told : goal.returns-in_default-clause-told
+returns-in_default-clause-told g c = grind (arith, common_steps)
+
+pub offset_bounds-keys-key-index : goal.offset_bounds-keys-key-index
+offset_bounds-keys-key-index g c = grind (arith, common_steps)
+
+pub returns-clause-err : goal.returns-clause-err
+returns-clause-err g c = grind (arith, common_steps)

@@ -1,3 +1,4 @@
+use Rattle.std.proofs.lemmas.Grind.{common_steps}
 use Rattle.std.proofs.Common.{◌≡◌, ◌∷◌, ◌∙◌, ◌≤◌, [], ◌++◌, ap, arith, length, refl, sym, vec_len}
 use Rattle.std.proofs.lemmas.List.{drop_all}
 use Rattle.std.specs.Vec.Iter.{drain_items, drain_kept, drain_lender}
@@ -87,3 +88,18 @@ returns-clause-none g c =
     ∙ drop_all _ c.args.seated.now.items fits in
     let lent = ap (λ it. drain_lender it) last ∙ stays.0 ∙ drained.same_reference in
     ap (λ v. v.items) (c.seated-1.given.1 (sym lent)) ∙ left
+
+pub loop-seat-init-derived : goal.loop-seat-init-derived
+loop-seat-init-derived g c = grind (arith, common_steps)
+
+pub loop-seat-preserved-derived : goal.loop-seat-preserved-derived
+loop-seat-preserved-derived g c = grind (arith, common_steps)
+
+pub drain-seat-items-requires-clause-not_exhausted : goal.drain-seat-items-requires-clause-not_exhausted
+drain-seat-items-requires-clause-not_exhausted g c = grind (arith, common_steps)
+
+pub drain-seat-items-requires-clause-in_bounds : goal.drain-seat-items-requires-clause-in_bounds
+drain-seat-items-requires-clause-in_bounds g c = grind (arith, common_steps)
+
+pub drain-seat-items-requires-clause-start_le_end : goal.drain-seat-items-requires-clause-start_le_end
+drain-seat-items-requires-clause-start_le_end g c = grind (arith, common_steps)

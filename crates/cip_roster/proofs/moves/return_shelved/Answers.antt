@@ -1,3 +1,4 @@
+use Rattle.std.proofs.lemmas.Grind.{common_steps}
 use Rattle.std.proofs.Common.{◌≡◌, ◌∷◌, ◌∙◌, ◌≤◌, [], ◌++◌, Some, None, ap, arith, length, refl, sym, vec_len}
 use Rattle.std.proofs.lemmas.List.{drop_all}
 use Rattle.std.specs.Vec.Iter.{drain_items, drain_kept, drain_lender}
@@ -72,3 +73,21 @@ returns-clause-none g c =
     ∙ drop_all _ c.args.shelf.now.items fits in
     let lent = ap (λ it. drain_lender it) last ∙ stays.0 ∙ drained.same_reference in
     ap (λ v. v.items) (c.shelf-1.given.1 (sym lent)) ∙ left
+
+pub loop-held-init-derived : goal.loop-held-init-derived
+loop-held-init-derived g c = grind (arith, common_steps)
+
+pub loop-held-preserved-in-Some-held-derived : goal.loop-held-preserved-in-Some-held-derived
+loop-held-preserved-in-Some-held-derived g c = grind (arith, common_steps)
+
+pub loop-held-preserved-derived : goal.loop-held-preserved-derived
+loop-held-preserved-derived g c = grind (arith, common_steps)
+
+pub drain-held-items-requires-clause-not_exhausted : goal.drain-held-items-requires-clause-not_exhausted
+drain-held-items-requires-clause-not_exhausted g c = grind (arith, common_steps)
+
+pub drain-held-items-requires-clause-in_bounds : goal.drain-held-items-requires-clause-in_bounds
+drain-held-items-requires-clause-in_bounds g c = grind (arith, common_steps)
+
+pub drain-held-items-requires-clause-start_le_end : goal.drain-held-items-requires-clause-start_le_end
+drain-held-items-requires-clause-start_le_end g c = grind (arith, common_steps)

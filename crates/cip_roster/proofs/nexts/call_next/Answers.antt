@@ -45,3 +45,15 @@ returns-in_default-reserve_turns-clause-err g c = grind (arith, common_steps)
 
 pub returns-in_default-reserve_turns-clause-sound : goal.returns-in_default-reserve_turns-clause-sound
 returns-in_default-reserve_turns-clause-sound g c = grind (arith, common_steps)
+
+pub next-requires : goal.next-requires
+next-requires g c = grind (arith, common_steps)
+
+pub returns-in_default-reserve_turns-clause-called : goal.returns-in_default-reserve_turns-clause-called
+returns-in_default-reserve_turns-clause-called g c = grind (arith, common_steps)
+
+pub returns-in_default-found-clause-err : goal.returns-in_default-found-clause-err
+returns-in_default-found-clause-err g c = grind (arith, common_steps)
+
+pub returns-in_default-clause-called : goal.returns-in_default-clause-called
+returns-in_default-clause-called g c = grind (arith, common_steps)

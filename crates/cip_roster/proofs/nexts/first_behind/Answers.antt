@@ -1,4 +1,5 @@
-use Rattle.std.proofs.Common.{◌+◌, pos, refl, sym, ap, ◌∙◌, Bool, Some, cond, drop, get_or}
+use Rattle.std.proofs.lemmas.Grind.{common_steps}
+use Rattle.std.proofs.Common.{◌+◌, pos, refl, sym, ap, ◌∙◌, Bool, Some, cond, drop, get_or, arith}
 use Rattle.std.proofs.lemmas.List.{drop_all}
 use Rattle.std.specs.List.{find}
 use Rattle.cip_plugin.specs.declared.keys.Key.{Key}
@@ -31,3 +32,6 @@ pub returns : goal.returns
 returns c =
     sym (ap (find (is_behind c.args.after)) (drop_all c.loop-key.key-index c.args.keys.now c.loop-key-test.false))
     ∙ c.loop-key.invariant
+
+pub offset_bounds-keys-key-index : goal.offset_bounds-keys-key-index
+offset_bounds-keys-key-index c = grind (arith, common_steps)

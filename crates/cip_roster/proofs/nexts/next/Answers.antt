@@ -1,4 +1,5 @@
-use Rattle.std.proofs.Common.{subst, sym, ◌∙◌}
+use Rattle.std.proofs.lemmas.Grind.{common_steps}
+use Rattle.std.proofs.Common.{subst, sym, ◌∙◌, arith}
 use Rattle.cip_plugin.specs.Seats.{State}
 use Rattle.cip_roster.specs.KeptRankings.{IsRanking}
 use Rattle.cip_roster.proofs.Ranking.{is_next}
@@ -32,3 +33,6 @@ returns-in_default-clause-sound g c = c.ranked.ensures.sound
 
 pub returns-in_default-clause-next : goal.returns-in_default-clause-next
 returns-in_default-clause-next g c = tt
+
+pub ranked-requires : goal.ranked-requires
+ranked-requires g c = grind (arith, common_steps)

@@ -54,3 +54,12 @@ returns-clause-none g c = grind (arith, common_steps)
 
 pub returns-clause-places : goal.returns-clause-places
 returns-clause-places g c = grind (arith, common_steps)
+
+pub seat_all-requires-clause-unnamed : goal.seat_all-requires-clause-unnamed
+seat_all-requires-clause-unnamed g c = grind (arith, common_steps)
+
+pub seat_all-requires-clause-first : goal.seat_all-requires-clause-first
+seat_all-requires-clause-first g c = grind (arith, common_steps)
+
+pub seat_all-requires-clause-spare : goal.seat_all-requires-clause-spare
+seat_all-requires-clause-spare g c = grind (arith, common_steps)

@@ -24,3 +24,21 @@ loop-id-init g c = grind (arith, common_steps)
 
 pub returns-clause-run : goal.returns-clause-run
 returns-clause-run g c = grind (arith, common_steps)
+
+pub returns-clause-rankings : goal.returns-clause-rankings
+returns-clause-rankings g c = grind (arith, common_steps)
+
+pub returns-clause-places : goal.returns-clause-places
+returns-clause-places g c = grind (arith, common_steps)
+
+pub begin-requires-clause-room : goal.begin-requires-clause-room
+begin-requires-clause-room g c = grind (arith, common_steps)
+
+pub returns-clause-room : goal.returns-clause-room
+returns-clause-room g c = grind (arith, common_steps)
+
+pub returns-clause-seats : goal.returns-clause-seats
+returns-clause-seats g c = grind (arith, common_steps)
+
+pub overflow_cast-id : goal.overflow_cast-id
+overflow_cast-id g c = grind (arith, common_steps)

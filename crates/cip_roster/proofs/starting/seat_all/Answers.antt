@@ -1,3 +1,4 @@
+use Rattle.std.proofs.lemmas.Grind.{common_steps}
 use Rattle.std.proofs.Common.{◌≡◌, ◌∷◌, ◌∙◌, ◌≤◌, List, arith, ap, length, map, refl, rules, subst, sym, vec_len}
 use Rattle.std.proofs.lemmas.List.{drop_all}
 use Rattle.std.specs.Vec.Iter.{drain_items, drain_kept, drain_lender}
@@ -79,3 +80,18 @@ returns-clause-none g c =
     ∙ drop_all _ c.args.plugins.now.items fits in
     let lent = ap (λ it. drain_lender it) last ∙ stays.0 ∙ drained.same_reference in
     ap (λ v. v.items) (c.plugins-1.given.1 (sym lent)) ∙ left
+
+pub loop-plugin-init-derived : goal.loop-plugin-init-derived
+loop-plugin-init-derived g c = grind (arith, common_steps)
+
+pub loop-plugin-preserved-derived : goal.loop-plugin-preserved-derived
+loop-plugin-preserved-derived g c = grind (arith, common_steps)
+
+pub drain-plugin-items-requires-clause-not_exhausted : goal.drain-plugin-items-requires-clause-not_exhausted
+drain-plugin-items-requires-clause-not_exhausted g c = grind (arith, common_steps)
+
+pub drain-plugin-items-requires-clause-in_bounds : goal.drain-plugin-items-requires-clause-in_bounds
+drain-plugin-items-requires-clause-in_bounds g c = grind (arith, common_steps)
+
+pub drain-plugin-items-requires-clause-start_le_end : goal.drain-plugin-items-requires-clause-start_le_end
+drain-plugin-items-requires-clause-start_le_end g c = grind (arith, common_steps)

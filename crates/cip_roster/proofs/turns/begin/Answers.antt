@@ -1,3 +1,4 @@
+use Rattle.std.proofs.lemmas.Grind.{common_steps}
 use Rattle.std.proofs.Common.{◌∙◌, arith}
 use Rattle.cip_plugin.specs.declared.stages.Stage.TheVariants as stages
 use Rattle.cip_roster.proofs.Turning.{begun, stands_same, stands_some}
@@ -46,3 +47,18 @@ pub returns-clause-rankings : goal.returns-clause-rankings
 returns-clause-rankings g c =
     c.note_unless-2.ensures.rankings ∙ c.init_solve-second.ensures.rankings ∙ c.note_unless.ensures.rankings
     ∙ c.init-first.ensures.rankings
+
+pub note_unless-requires-2-clause-room : goal.note_unless-requires-2-clause-room
+note_unless-requires-2-clause-room g c = grind (arith, common_steps)
+
+pub init_solve-second-requires-clause-room : goal.init_solve-second-requires-clause-room
+init_solve-second-requires-clause-room g c = grind (arith, common_steps)
+
+pub note_unless-requires-clause-room : goal.note_unless-requires-clause-room
+note_unless-requires-clause-room g c = grind (arith, common_steps)
+
+pub init-first-requires-clause-at : goal.init-first-requires-clause-at
+init-first-requires-clause-at g c = grind (arith, common_steps)
+
+pub init-first-requires-clause-room : goal.init-first-requires-clause-room
+init-first-requires-clause-room g c = grind (arith, common_steps)

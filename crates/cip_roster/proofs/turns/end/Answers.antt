@@ -8,3 +8,21 @@ returns-clause-run g c = ended _ _ _ c.args.id c.exit_solve.ensures.run c.exit.e
 
 pub returns-clause-rankings : goal.returns-clause-rankings
 returns-clause-rankings g c = grind (arith, common_steps)
+
+pub returns-clause-at : goal.returns-clause-at
+returns-clause-at g c = grind (arith, common_steps)
+
+pub exit-requires-clause-at : goal.exit-requires-clause-at
+exit-requires-clause-at g c = grind (arith, common_steps)
+
+pub exit_solve-requires-clause-at : goal.exit_solve-requires-clause-at
+exit_solve-requires-clause-at g c = grind (arith, common_steps)
+
+pub returns-clause-room : goal.returns-clause-room
+returns-clause-room g c = grind (arith, common_steps)
+
+pub exit-requires-clause-room : goal.exit-requires-clause-room
+exit-requires-clause-room g c = grind (arith, common_steps)
+
+pub exit_solve-requires-clause-room : goal.exit_solve-requires-clause-room
+exit_solve-requires-clause-room g c = grind (arith, common_steps)

@@ -1,3 +1,4 @@
+use Rattle.std.proofs.lemmas.Grind.{common_steps}
 use Rattle.std.proofs.Common.{[], ◌∷◌, arith, ◌∙◌}
 use Rattle.cip_plugin.specs.Answers.{answer}
 use Rattle.cip_plugin.specs.Asking.{answer_of, ask_of}
@@ -48,3 +49,9 @@ returns-in-Err-clause-room g c = omega (arith, c.ask.ensures.room, c.note_unless
 
 pub returns-in-Err-clause-rankings : goal.returns-in-Err-clause-rankings
 returns-in-Err-clause-rankings g c = c.note_unless-in-Err.ensures.rankings ∙ c.ask.ensures.rankings
+
+pub ask-requires-clause-ready : goal.ask-requires-clause-ready
+ask-requires-clause-ready g c = grind (arith, common_steps)
+
+pub ask-requires-clause-room : goal.ask-requires-clause-room
+ask-requires-clause-room g c = grind (arith, common_steps)

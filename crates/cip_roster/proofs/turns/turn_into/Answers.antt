@@ -1,3 +1,4 @@
+use Rattle.std.proofs.lemmas.Grind.{common_steps}
 use Rattle.std.proofs.Common.{None, Some, append-nil, refl, sym, arith}
 use Rattle.cip_roster.proofs.turns.turn_into.Goals as goal
 
@@ -36,3 +37,6 @@ returns-in-Some-clause-capacity g c = c.push_reserved.ensures.capacity
 
 pub returns-in-Some-clause-length : goal.returns-in-Some-clause-length
 returns-in-Some-clause-length g c = omega arith
+
+pub returns-in-None-clause-length : goal.returns-in-None-clause-length
+returns-in-None-clause-length g c = grind (arith, common_steps)

@@ -1,3 +1,4 @@
+use Rattle.std.proofs.lemmas.Grind.{common_steps}
 use Rattle.std.proofs.Common.{[], ◌∷◌, subst, refl, arith}
 use Rattle.std.specs.Prelude.{ℤ}
 use Rattle.std.proofs.Math.Facts.{to_z-of_z}
@@ -25,3 +26,6 @@ set_priority-requires g c = record {
   at = live_plays (g.R.Seated.state c.args.roster.now) c.args.id (g.R.Seated.room c.args.roster.now) c.requires.sound
       c.in_ok-live.ensures;
 }
+
+pub returns-clause-came : goal.returns-clause-came
+returns-clause-came g c = grind (arith, common_steps)

@@ -1,4 +1,5 @@
-use Rattle.std.proofs.Common.{refl}
+use Rattle.std.proofs.lemmas.Grind.{common_steps}
+use Rattle.std.proofs.Common.{refl, arith}
 use Rattle.cip_events.specs.declared.words.Word.TheVariants as say
 use Rattle.cip_roster.proofs.Turning.{noted_behind, sound_more}
 use Rattle.cip_roster.proofs.wishing.refused.Goals as goal
@@ -24,3 +25,9 @@ returns-in_default-clause-sound g c =
 
 pub returns-clause-same : goal.returns-clause-same
 returns-clause-same g c = tt
+
+pub returns-clause-sound : goal.returns-clause-sound
+returns-clause-sound g c = grind (arith, common_steps)
+
+pub note-requires : goal.note-requires
+note-requires g c = grind (arith, common_steps)

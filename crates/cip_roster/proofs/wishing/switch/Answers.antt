@@ -79,3 +79,6 @@ returns-clause-came g c = record {
 
 pub returns-in_default-clause-sound : goal.returns-in_default-clause-sound
 returns-in_default-clause-sound g c = grind (arith, common_steps)
+
+pub returns-in-Err-clause-sound : goal.returns-in-Err-clause-sound
+returns-in-Err-clause-sound g c = grind (arith, common_steps)

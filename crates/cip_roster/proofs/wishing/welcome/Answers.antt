@@ -32,3 +32,15 @@ returns-clause-granted g c =
 
 pub begin-requires-clause-at : goal.begin-requires-clause-at
 begin-requires-clause-at g c = grind (arith, common_steps)
+
+pub begin-requires-clause-room : goal.begin-requires-clause-room
+begin-requires-clause-room g c = grind (arith, common_steps)
+
+pub come-requires-clause-held : goal.come-requires-clause-held
+come-requires-clause-held g c = grind (arith, common_steps)
+
+pub come-requires-clause-seat : goal.come-requires-clause-seat
+come-requires-clause-seat g c = grind (arith, common_steps)
+
+pub overflow_cast-id : goal.overflow_cast-id
+overflow_cast-id g c = grind (arith, common_steps)

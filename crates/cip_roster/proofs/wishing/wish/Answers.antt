@@ -46,3 +46,18 @@ returns-in-Priority-clause-came g c = grind (arith, common_steps)
 
 pub returns-in-Priority-clause-queue : goal.returns-in-Priority-clause-queue
 returns-in-Priority-clause-queue g c = grind (arith, common_steps)
+
+pub free-requires : goal.free-requires
+free-requires g c = grind (arith, common_steps)
+
+pub include-requires : goal.include-requires
+include-requires g c = grind (arith, common_steps)
+
+pub rank-requires : goal.rank-requires
+rank-requires g c = grind (arith, common_steps)
+
+pub switch-requires-in-Enable : goal.switch-requires-in-Enable
+switch-requires-in-Enable g c = grind (arith, common_steps)
+
+pub switch-requires : goal.switch-requires
+switch-requires g c = grind (arith, common_steps)

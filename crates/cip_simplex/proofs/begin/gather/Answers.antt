@@ -17,3 +17,9 @@ loop-r-preserved c = record {
   valid = search rules;
   sides = grind (arith, common_steps);
 }
+
+pub row-row-requires : goal.row-row-requires
+row-row-requires c = grind (arith, common_steps)
+
+pub overflow_cast-r : goal.overflow_cast-r
+overflow_cast-r c = grind (arith, common_steps)

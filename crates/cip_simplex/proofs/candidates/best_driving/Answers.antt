@@ -1,3 +1,4 @@
+use Rattle.std.proofs.lemmas.Grind.{common_steps}
 use Rattle.std.proofs.Common.{refl, sym, ap, ◌∙◌, arith}
 use Rattle.cip_bland.specs.Dictionary.{size, entry}
 use Rattle.cip_bland.specs.Rule.{drives, may_go}
@@ -28,3 +29,21 @@ entering_candidate-requires-clause-leaving c = omega arith
 
 pub entering_candidate-requires-clause-there : goal.entering_candidate-requires-clause-there
 entering_candidate-requires-clause-there c = omega arith
+
+pub entering_candidate-requires-clause-basic : goal.entering_candidate-requires-clause-basic
+entering_candidate-requires-clause-basic c = grind (arith, common_steps)
+
+pub row_sign-k-requires-clause-there : goal.row_sign-k-requires-clause-there
+row_sign-k-requires-clause-there c = grind (arith, common_steps)
+
+pub row_sign-k-requires-clause-within : goal.row_sign-k-requires-clause-within
+row_sign-k-requires-clause-within c = grind (arith, common_steps)
+
+pub row_len-at-end-requires-clause-within : goal.row_len-at-end-requires-clause-within
+row_len-at-end-requires-clause-within c = grind (arith, common_steps)
+
+pub row_sign-k-requires-clause-basic : goal.row_sign-k-requires-clause-basic
+row_sign-k-requires-clause-basic c = grind (arith, common_steps)
+
+pub row_len-at-end-requires-clause-basic : goal.row_len-at-end-requires-clause-basic
+row_len-at-end-requires-clause-basic c = grind (arith, common_steps)

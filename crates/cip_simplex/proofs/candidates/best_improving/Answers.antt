@@ -1,3 +1,4 @@
+use Rattle.std.proofs.lemmas.Grind.{common_steps}
 use Rattle.std.proofs.Common.{refl, sym, ap, ◌∙◌, arith}
 use Rattle.cip_bland.specs.Dictionary.{size, cost_entry}
 use Rattle.cip_bland.specs.declared.steps.Heading.TheVariants.{Down}
@@ -23,3 +24,6 @@ returns c = picked c.args.dict.now (drives c.args.dict.now (cost_entry c.args.di
 
 pub lowering_candidate-requires : goal.lowering_candidate-requires
 lowering_candidate-requires c = omega arith
+
+pub cost_sign-k-requires : goal.cost_sign-k-requires
+cost_sign-k-requires c = grind (arith, common_steps)

@@ -7,3 +7,6 @@ returns-else-is_better c = grind (arith, common_steps)
 
 pub returns-then-is_better : goal.returns-then-is_better
 returns-then-is_better c = grind (arith, common_steps)
+
+pub returns-in-None : goal.returns-in-None
+returns-in-None c = grind (arith, common_steps)

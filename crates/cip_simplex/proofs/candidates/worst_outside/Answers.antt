@@ -1,3 +1,4 @@
+use Rattle.std.proofs.lemmas.Grind.{common_steps}
 use Rattle.std.proofs.Common.{Some, sym, ◌∙◌, arith}
 use Rattle.cip_bland.specs.Rule.{is_outside}
 use Rattle.cip_simplex.proofs.FreeMoves.{found_more, found_less, picked}
@@ -14,3 +15,15 @@ returns c = picked c.args.dict.now (is_outside c.args.dict.now) c.loop-v.v c.loo
 
 pub leaving_candidate-requires : goal.leaving_candidate-requires
 leaving_candidate-requires c = omega arith
+
+pub overflow_cast-v-in-loop-v : goal.overflow_cast-v-in-loop-v
+overflow_cast-v-in-loop-v c = grind (arith, common_steps)
+
+pub is_outside-requires : goal.is_outside-requires
+is_outside-requires c = grind (arith, common_steps)
+
+pub loop-v-init : goal.loop-v-init
+loop-v-init c = grind (arith, common_steps)
+
+pub overflow_cast-v : goal.overflow_cast-v
+overflow_cast-v c = grind (arith, common_steps)

@@ -1,3 +1,4 @@
+use Rattle.std.proofs.lemmas.Grind.{common_steps}
 use Rattle.std.proofs.Common.{None, sym, ap, ◌∙◌, arith}
 use Rattle.cip_bland.specs.Dictionary.{entry}
 use Rattle.cip_bland.specs.Rule.{may_go}
@@ -18,3 +19,18 @@ loop-at-preserved c = sign_less c.args.dict.now (entry c.args.dict.now c.args.i)
 
 pub returns : goal.returns
 returns c = sym (driving_none c.args.dict.now (entry c.args.dict.now c.args.i) c.args.heading c.loop-at.at (omega arith) c.loop-at.invariant)
+
+pub row_sign-k-requires-clause-there : goal.row_sign-k-requires-clause-there
+row_sign-k-requires-clause-there c = grind (arith, common_steps)
+
+pub row_sign-k-requires-clause-within : goal.row_sign-k-requires-clause-within
+row_sign-k-requires-clause-within c = grind (arith, common_steps)
+
+pub row_len-at-end-requires-clause-within : goal.row_len-at-end-requires-clause-within
+row_len-at-end-requires-clause-within c = grind (arith, common_steps)
+
+pub row_sign-k-requires-clause-basic : goal.row_sign-k-requires-clause-basic
+row_sign-k-requires-clause-basic c = grind (arith, common_steps)
+
+pub row_len-at-end-requires-clause-basic : goal.row_len-at-end-requires-clause-basic
+row_len-at-end-requires-clause-basic c = grind (arith, common_steps)

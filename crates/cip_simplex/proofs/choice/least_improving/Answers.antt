@@ -1,3 +1,4 @@
+use Rattle.std.proofs.lemmas.Grind.{common_steps}
 use Rattle.std.proofs.Common.{None, sym, ap, ◌∙◌, arith}
 use Rattle.cip_bland.specs.Dictionary.{cost_entry}
 use Rattle.cip_bland.specs.declared.steps.Heading.TheVariants.{Down}
@@ -19,3 +20,6 @@ loop-at-preserved c = sign_less c.args.dict.now (cost_entry c.args.dict.now) Dow
 
 pub returns : goal.returns
 returns c = sym (driving_none c.args.dict.now (cost_entry c.args.dict.now) Down c.loop-at.at (omega arith) c.loop-at.invariant)
+
+pub cost_sign-k-requires : goal.cost_sign-k-requires
+cost_sign-k-requires c = grind (arith, common_steps)

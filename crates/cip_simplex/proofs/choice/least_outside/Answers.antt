@@ -1,3 +1,4 @@
+use Rattle.std.proofs.lemmas.Grind.{common_steps}
 use Rattle.std.proofs.Common.{◌≡◌, sym, arith}
 use Rattle.cip_bland.specs.Dictionary.{size}
 use Rattle.cip_dict.proofs.LeastBasic.{least_more, least_at}
@@ -14,3 +15,12 @@ pub returns : goal.returns
 returns c =
     let end : c.loop-v.v ≡ size c.args.dict.now = omega arith in
     sym (rw end at c.loop-v.invariant)
+
+pub overflow_cast-result : goal.overflow_cast-result
+overflow_cast-result c = grind (arith, common_steps)
+
+pub is_outside-requires : goal.is_outside-requires
+is_outside-requires c = grind (arith, common_steps)
+
+pub overflow_cast-v : goal.overflow_cast-v
+overflow_cast-v c = grind (arith, common_steps)

@@ -16,3 +16,18 @@ loop-r-preserved c =
 
 pub returns : goal.returns
 returns c = grind (arith, common_steps)
+
+pub overflow_cast-row : goal.overflow_cast-row
+overflow_cast-row c = grind (arith, common_steps)
+
+pub bounds-multipliers-columns : goal.bounds-multipliers-columns
+bounds-multipliers-columns c = grind (arith, common_steps)
+
+pub offset_bounds-multipliers-columns : goal.offset_bounds-multipliers-columns
+offset_bounds-multipliers-columns c = grind (arith, common_steps)
+
+pub overflow_add-factor : goal.overflow_add-factor
+overflow_add-factor c = grind (arith, common_steps)
+
+pub loop-r-init : goal.loop-r-init
+loop-r-init c = grind (arith, common_steps)

@@ -1,3 +1,4 @@
+use Rattle.std.proofs.lemmas.Grind.{common_steps}
 use Rattle.std.proofs.Common.{◌∙◌, ◌++◌, ◌∷◌, [], sym, ap₂, arith, ◌≡◌, subst, IfOk, ap, ◌+◌}
 use Rattle.cip_bland.specs.Dictionary.{size, cost_entry}
 use Rattle.cip_dict.specs.SparseLines.{Kept, kept_of, IsPlace}
@@ -56,3 +57,12 @@ loop-v-preserved c =
       so_far = c.in_ok-push.ensures.items ∙ ap₂ (λ xs x. xs ++ x ∷ []) c.loop-v.invariant.so_far both.0 ∙ sym (table_more c.loop-v.v _);
       place = both.1;
     }
+
+pub cost_at-k-requires : goal.cost_at-k-requires
+cost_at-k-requires c = grind (arith, common_steps)
+
+pub overflow_add-at : goal.overflow_add-at
+overflow_add-at c = grind (arith, common_steps)
+
+pub overflow_cast-v : goal.overflow_cast-v
+overflow_cast-v c = grind (arith, common_steps)

@@ -29,3 +29,33 @@ returns-in_ok-combo-in-Crossed c = grind (arith, common_steps)
 
 pub returns-in_ok-combo-in-Infeasible : goal.returns-in_ok-combo-in-Infeasible
 returns-in_ok-combo-in-Infeasible c = grind (arith, common_steps)
+
+pub cost_combo-requires-clause-variables : goal.cost_combo-requires-clause-variables
+cost_combo-requires-clause-variables c = grind (arith, common_steps)
+
+pub returns-in-Makes : goal.returns-in-Makes
+returns-in-Makes c = grind (arith, common_steps)
+
+pub cost_combo-requires-clause-few : goal.cost_combo-requires-clause-few
+cost_combo-requires-clause-few c = grind (arith, common_steps)
+
+pub row_combo-requires-clause-variables : goal.row_combo-requires-clause-variables
+row_combo-requires-clause-variables c = grind (arith, common_steps)
+
+pub ray_answer-requires-clause-few : goal.ray_answer-requires-clause-few
+ray_answer-requires-clause-few c = grind (arith, common_steps)
+
+pub row_combo-requires-clause-few : goal.row_combo-requires-clause-few
+row_combo-requires-clause-few c = grind (arith, common_steps)
+
+pub ray_answer-requires-clause-within : goal.ray_answer-requires-clause-within
+ray_answer-requires-clause-within c = grind (arith, common_steps)
+
+pub values_of-requires-clause-few : goal.values_of-requires-clause-few
+values_of-requires-clause-few c = grind (arith, common_steps)
+
+pub crossed_combo-requires : goal.crossed_combo-requires
+crossed_combo-requires c = grind (arith, common_steps)
+
+pub values_of-requires-clause-within : goal.values_of-requires-clause-within
+values_of-requires-clause-within c = grind (arith, common_steps)

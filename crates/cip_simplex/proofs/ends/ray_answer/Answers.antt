@@ -20,3 +20,27 @@ loop-v-preserved c =
 
 pub returns : goal.returns
 returns c = grind (arith, common_steps)
+
+pub entry-requires-clause-within : goal.entry-requires-clause-within
+entry-requires-clause-within c = grind (arith, common_steps)
+
+pub entry-requires-clause-on : goal.entry-requires-clause-on
+entry-requires-clause-on c = grind (arith, common_steps)
+
+pub entry-requires-clause-basic : goal.entry-requires-clause-basic
+entry-requires-clause-basic c = grind (arith, common_steps)
+
+pub stand-requires : goal.stand-requires
+stand-requires c = grind (arith, common_steps)
+
+pub values_of-requires-clause-within : goal.values_of-requires-clause-within
+values_of-requires-clause-within c = grind (arith, common_steps)
+
+pub values_of-requires-clause-few : goal.values_of-requires-clause-few
+values_of-requires-clause-few c = grind (arith, common_steps)
+
+pub overflow_cast-v : goal.overflow_cast-v
+overflow_cast-v c = grind (arith, common_steps)
+
+pub falling_heading-heading-requires : goal.falling_heading-heading-requires
+falling_heading-heading-requires c = grind (arith, common_steps)

@@ -1,3 +1,4 @@
+use Rattle.std.proofs.lemmas.Grind.{common_steps}
 use Rattle.std.proofs.Common.{◌∙◌, ◌++◌, ◌∷◌, [], sym, ap₂, arith, ◌≡◌, subst, IfOk, ap, ◌+◌}
 use Rattle.cip_bland.specs.Dictionary.{size, entry}
 use Rattle.cip_dict.specs.SparseLines.{Kept, kept_of, IsPlace}
@@ -64,3 +65,27 @@ loop-v-preserved c =
       so_far = c.in_ok-push.ensures.items ∙ ap₂ (λ xs x. xs ++ x ∷ []) c.loop-v.invariant.so_far here ∙ sym (table_more c.loop-v.v _);
       place = both.1;
     }
+
+pub row_entry-k-requires-clause-there : goal.row_entry-k-requires-clause-there
+row_entry-k-requires-clause-there c = grind (arith, common_steps)
+
+pub row_entry-k-requires-clause-within : goal.row_entry-k-requires-clause-within
+row_entry-k-requires-clause-within c = grind (arith, common_steps)
+
+pub overflow_add-at : goal.overflow_add-at
+overflow_add-at c = grind (arith, common_steps)
+
+pub row_len-requires-clause-within : goal.row_len-requires-clause-within
+row_len-requires-clause-within c = grind (arith, common_steps)
+
+pub row_entry-k-requires-clause-basic : goal.row_entry-k-requires-clause-basic
+row_entry-k-requires-clause-basic c = grind (arith, common_steps)
+
+pub overflow_cast-v-in-loop-v : goal.overflow_cast-v-in-loop-v
+overflow_cast-v-in-loop-v c = grind (arith, common_steps)
+
+pub row_len-requires-clause-basic : goal.row_len-requires-clause-basic
+row_len-requires-clause-basic c = grind (arith, common_steps)
+
+pub outside_heading-heading-requires : goal.outside_heading-heading-requires
+outside_heading-heading-requires c = grind (arith, common_steps)

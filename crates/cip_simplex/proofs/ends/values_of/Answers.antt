@@ -11,3 +11,9 @@ loop-v-preserved c = c.in_ok-push.ensures.items ∙ ap₂ (λ xs x. xs ++ x ∷ 
 
 pub returns : goal.returns
 returns c = grind (arith, common_steps)
+
+pub value-requires : goal.value-requires
+value-requires c = grind (arith, common_steps)
+
+pub overflow_cast-v : goal.overflow_cast-v
+overflow_cast-v c = grind (arith, common_steps)

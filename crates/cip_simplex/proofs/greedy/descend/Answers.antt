@@ -1,3 +1,4 @@
+use Rattle.std.proofs.lemmas.Grind.{common_steps}
 use Rattle.std.proofs.Common.{IfSome, sym, subst, arith}
 use Rattle.cip_bland.specs.StateEnds.{IsEndAt}
 use Rattle.cip_bland.specs.Statements.{IsStateOf}
@@ -47,3 +48,15 @@ returns c =
       | in-None w ↦ rw w.found-is tt
     ] in
     reached c.args.lp.now c.if-is_none.dict c.in_ok-last.last c.match-step.found st c.in_ok-last.ensures found
+
+pub end_answer-requires-clause-is_end : goal.end_answer-requires-clause-is_end
+end_answer-requires-clause-is_end c = grind (arith, common_steps)
+
+pub begin_at-requires-clause-long : goal.begin_at-requires-clause-long
+begin_at-requires-clause-long c = grind (arith, common_steps)
+
+pub begin_at-requires-clause-first : goal.begin_at-requires-clause-first
+begin_at-requires-clause-first c = grind (arith, common_steps)
+
+pub begin_at-requires-clause-empty : goal.begin_at-requires-clause-empty
+begin_at-requires-clause-empty c = grind (arith, common_steps)

@@ -34,3 +34,12 @@ returns-in-End-clause-state c = grind (arith, common_steps)
 
 pub returns-in-Wide-clause-state : goal.returns-in-Wide-clause-state
 returns-in-Wide-clause-state c = grind (arith, common_steps)
+
+pub returns-in-Wide-clause-end : goal.returns-in-Wide-clause-end
+returns-in-Wide-clause-end c = grind (arith, common_steps)
+
+pub returns-clause-state : goal.returns-clause-state
+returns-clause-state c = grind (arith, common_steps)
+
+pub returns-clause-end : goal.returns-clause-end
+returns-clause-end c = grind (arith, common_steps)

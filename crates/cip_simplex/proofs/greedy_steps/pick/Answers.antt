@@ -1,4 +1,5 @@
-use Rattle.std.proofs.Common.{ap, ◌∙◌, subst}
+use Rattle.std.proofs.lemmas.Grind.{common_steps}
+use Rattle.std.proofs.Common.{ap, ◌∙◌, subst, arith}
 use Rattle.cip_bland.specs.Dictionary.{entry}
 use Rattle.cip_bland.specs.Headings.{back_of, stand_ahead}
 use Rattle.cip_bland.specs.Rule.{drives}
@@ -17,3 +18,18 @@ returns-in-Some-best_driving c =
     repair_can c.args.dict.now c.in-Some.i c.in-Some-best_driving.j c.stand_ahead.result c.in-Some.ensures
     (subst (λ (h : Heading). Passes c.args.dict.now (drives c.args.dict.now (entry c.args.dict.now c.in-Some.i) h) c.in-Some-best_driving.j) heading c.in-Some-best_driving.ensures)
     (c.stand_ahead.ensures ∙ ap stand_ahead c.outside_heading-heading.ensures)
+
+pub best_driving-requires-clause-leaving : goal.best_driving-requires-clause-leaving
+best_driving-requires-clause-leaving c = grind (arith, common_steps)
+
+pub outside_heading-heading-requires : goal.outside_heading-heading-requires
+outside_heading-heading-requires c = grind (arith, common_steps)
+
+pub best_driving-requires-clause-few : goal.best_driving-requires-clause-few
+best_driving-requires-clause-few c = grind (arith, common_steps)
+
+pub best_improving-requires : goal.best_improving-requires
+best_improving-requires c = grind (arith, common_steps)
+
+pub worst_outside-requires : goal.worst_outside-requires
+worst_outside-requires c = grind (arith, common_steps)

@@ -1,4 +1,5 @@
-use Rattle.std.proofs.Common.{refl, sym, ◌∙◌}
+use Rattle.std.proofs.lemmas.Grind.{common_steps}
+use Rattle.std.proofs.Common.{refl, sym, ◌∙◌, arith}
 use Rattle.cip_bland.specs.Exchange.{CanMove}
 use Rattle.cip_simplex.proofs.FreeMoves.{descent_can, falls_freely}
 use Rattle.cip_simplex.proofs.greedy_steps.take_chosen.Goals as goal
@@ -27,3 +28,21 @@ returns-then-branch c =
 
 pub returns-else-branch : goal.returns-else-branch
 returns-else-branch c = (rw c.if-branch.false at c.in_ok-make.ensures).1
+
+pub shortest_way-requires-clause-entering : goal.shortest_way-requires-clause-entering
+shortest_way-requires-clause-entering c = grind (arith, common_steps)
+
+pub returns-in-Infeasible : goal.returns-in-Infeasible
+returns-in-Infeasible c = grind (arith, common_steps)
+
+pub returns-in-Crossed : goal.returns-in-Crossed
+returns-in-Crossed c = grind (arith, common_steps)
+
+pub shortest_way-requires-clause-few : goal.shortest_way-requires-clause-few
+shortest_way-requires-clause-few c = grind (arith, common_steps)
+
+pub pick-requires-clause-few : goal.pick-requires-clause-few
+pick-requires-clause-few c = grind (arith, common_steps)
+
+pub returns-in-Err : goal.returns-in-Err
+returns-in-Err c = grind (arith, common_steps)

@@ -1,3 +1,4 @@
+use Rattle.std.proofs.lemmas.Grind.{common_steps}
 use Rattle.std.proofs.Common.{◌≡◌, ◌<◌, take, subst, refl, arith}
 use Rattle.std.proofs.lemmas.List.{take_all}
 use Rattle.std.proofs.lemmas.List.Elements.{All-more}
@@ -15,3 +16,12 @@ returns c =
     let all : take c.loop-term.term-index c.args.terms.now ≡ c.args.terms.now = take_all c.loop-term.term-index c.args.terms.now (omega arith) in
     let every : StandsBelow c.args.columns c.args.terms.now = subst (StandsBelow c.args.columns) all c.loop-term.invariant in
     ((λ t. every), (λ h. refl))
+
+pub loop-term-init : goal.loop-term-init
+loop-term-init c = grind (arith, common_steps)
+
+pub returns-then-term-columns : goal.returns-then-term-columns
+returns-then-term-columns c = grind (arith, common_steps)
+
+pub offset_bounds-terms-term-index : goal.offset_bounds-terms-term-index
+offset_bounds-terms-term-index c = grind (arith, common_steps)

@@ -30,3 +30,9 @@ returns-in-End-clause-variables c = grind (arith, common_steps)
 
 pub returns-in-Wide-clause-variables : goal.returns-in-Wide-clause-variables
 returns-in-Wide-clause-variables c = grind (arith, common_steps)
+
+pub returns-clause-variables : goal.returns-clause-variables
+returns-clause-variables c = grind (arith, common_steps)
+
+pub loop-made-init : goal.loop-made-init
+loop-made-init c = grind (arith, common_steps)

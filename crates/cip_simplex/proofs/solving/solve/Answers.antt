@@ -1,4 +1,5 @@
-use Rattle.std.proofs.Common.{ap, sym, ◌∙◌, subst}
+use Rattle.std.proofs.lemmas.Grind.{common_steps}
+use Rattle.std.proofs.Common.{ap, sym, ◌∙◌, subst, arith}
 use Rattle.cip_bland.specs.Dictionary.{size}
 use Rattle.cip_bland.specs.EndAnswers as def
 use Rattle.cip_bland.proofs.RunFacts.{answers_are_right}
@@ -26,3 +27,6 @@ returns-in-Err-OutOfRange-clause-right c = answers_are_right c.args.lp.now c.arg
 
 pub returns-in-Err-NoMemory-clause-right : goal.returns-in-Err-NoMemory-clause-right
 returns-in-Err-NoMemory-clause-right c = answers_are_right c.args.lp.now c.args.limit c.columns-columns.ensures.solvable.proper
+
+pub returns-in-Err-NoMemory-clause-answer : goal.returns-in-Err-NoMemory-clause-answer
+returns-in-Err-NoMemory-clause-answer c = grind (arith, common_steps)

@@ -1,3 +1,4 @@
+use Rattle.std.proofs.lemmas.Grind.{common_steps}
 use Rattle.std.proofs.Common.{IfOk, [], refl, sym, ap, ◌∙◌, subst, arith}
 use Rattle.cip_bland.specs.Dictionary.{size}
 use Rattle.cip_bland.specs.EndAnswers.{answer_of}
@@ -38,3 +39,6 @@ returns-in-End c =
 pub returns-in-Wide : goal.returns-in-Wide
 returns-in-Wide c =
     subst (λ (r : list.Run). IsAnswer (answer_of c.args.lp.now r) (Wide c.push-in-Wide.new.self)) (sym (whole_wide c.args.lp.now c.steps.invariant.solvable.proper c.steps.dict c.steps.invariant.state c.steps.moves.items _ c.steps.invariant.so_far c.take_step.new.dict c.in-Wide.wide (rw c.in-Wide.is at c.in_ok-chosen.ensures))) c.in_ok-push-in-Wide.ensures.items
+
+pub steps-init : goal.steps-init
+steps-init c = grind (arith, common_steps)

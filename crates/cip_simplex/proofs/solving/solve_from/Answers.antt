@@ -1,4 +1,5 @@
-use Rattle.std.proofs.Common.{sym, ap, ◌∙◌, subst}
+use Rattle.std.proofs.lemmas.Grind.{common_steps}
+use Rattle.std.proofs.Common.{sym, ap, ◌∙◌, subst, arith}
 use Rattle.std.proofs.lemmas.Result.{IfOk-weaker}
 use Rattle.cip_bland.specs.EndAnswers as def
 use Rattle.cip_simplex.specs.LpAnswers.{IsAnswer}
@@ -35,3 +36,9 @@ returns-in-Err-NoMemory-clause-right c = start_right c.args.lp.now c.columns-col
 
 pub returns-in_err-slack-in-Err-OutOfRange-clause-right : goal.returns-in_err-slack-in-Err-OutOfRange-clause-right
 returns-in_err-slack-in-Err-OutOfRange-clause-right c = start_right c.args.lp.now c.columns-columns.ensures.solvable.proper c.args.start.now c.args.limit
+
+pub solve_in-solved-requires-clause-first : goal.solve_in-solved-requires-clause-first
+solve_in-solved-requires-clause-first c = grind (arith, common_steps)
+
+pub returns-in-Err-NoMemory-clause-answer : goal.returns-in-Err-NoMemory-clause-answer
+returns-in-Err-NoMemory-clause-answer c = grind (arith, common_steps)

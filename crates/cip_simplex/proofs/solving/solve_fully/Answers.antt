@@ -1,4 +1,5 @@
-use Rattle.std.proofs.Common.{ap, sym, ◌∙◌, subst}
+use Rattle.std.proofs.lemmas.Grind.{common_steps}
+use Rattle.std.proofs.Common.{ap, sym, ◌∙◌, subst, arith}
 use Rattle.cip_bland.specs.Dictionary.{size}
 use Rattle.cip_bland.specs.EndAnswers as def
 use Rattle.cip_bland.specs.Statements.{IsStateOf}
@@ -31,3 +32,6 @@ returns-in-Err-OutOfRange-clause-whole c = answers_end c.args.lp.now c.columns-c
 
 pub returns-in-Err-NoMemory-clause-whole : goal.returns-in-Err-NoMemory-clause-whole
 returns-in-Err-NoMemory-clause-whole c = answers_end c.args.lp.now c.columns-columns.ensures.solvable.proper
+
+pub returns-in-Err-NoMemory-clause-answer : goal.returns-in-Err-NoMemory-clause-answer
+returns-in-Err-NoMemory-clause-answer c = grind (arith, common_steps)

@@ -1,4 +1,5 @@
-use Rattle.std.proofs.Common.{◌≡◌, refl, ap, ◌∙◌}
+use Rattle.std.proofs.lemmas.Grind.{common_steps}
+use Rattle.std.proofs.Common.{◌≡◌, refl, ap, ◌∙◌, arith}
 use Rattle.cip_simplex.specs.LpAnswers.{IsAnswer}
 use Rattle.cip_simplex.specs.Starts.{begun, stands_of, answer_on, last_on}
 use Rattle.cip_simplex.proofs.solving.solve_in.Goals as goal
@@ -12,3 +13,18 @@ returns c =
       | in-None+in_ok-found-in-None w ↦ rw (c.in_ok-wide.ensures.begun, w.in-None.is, w.found-is, w.dict-is) w.in_ok-found-in-None.ensures.answer
     ] in
     (both.0, c.in_ok-last.ensures ∙ ap stands_of both.1)
+
+pub at-requires : goal.at-requires
+at-requires c = grind (arith, common_steps)
+
+pub solve_on-requires : goal.solve_on-requires
+solve_on-requires c = grind (arith, common_steps)
+
+pub begin_at-requires-clause-long : goal.begin_at-requires-clause-long
+begin_at-requires-clause-long c = grind (arith, common_steps)
+
+pub begin_at-requires-clause-first : goal.begin_at-requires-clause-first
+begin_at-requires-clause-first c = grind (arith, common_steps)
+
+pub begin_at-requires-clause-empty : goal.begin_at-requires-clause-empty
+begin_at-requires-clause-empty c = grind (arith, common_steps)

@@ -28,3 +28,6 @@ returns-in_ok-push-in-Overflows-clause-answer c = grind (arith, common_steps)
 
 pub returns-in_ok-push-in-Overflows-clause-variables : goal.returns-in_ok-push-in-Overflows-clause-variables
 returns-in_ok-push-in-Overflows-clause-variables c = grind (arith, common_steps)
+
+pub make_moves-requires : goal.make_moves-requires
+make_moves-requires c = grind (arith, common_steps)

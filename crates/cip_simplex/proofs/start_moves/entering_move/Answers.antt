@@ -34,3 +34,42 @@ returns-then-has_entry-clause-can c =
     let to : c.stand_for-to.result ≡ leaving_stand c.args.start.now c.args.dict.now c.loop-v.v = c.stand_for-to.ensures ∙ ap₂ stand_for c.sides.ensures (c.unwrap_or.ensures ∙ ap (λ o. unwrap_or o Zero) c.stand-then-has_entry.ensures) in
     let nonbasic : is_basic c.args.dict.now c.args.k ≡ false = search rules in
     can_enter c.args.start.now c.args.dict.now c.args.k c.loop-v.v c.stand_for-to.result c.requires.entering nonbasic least_is to
+
+pub has_entry-requires-clause-on : goal.has_entry-requires-clause-on
+has_entry-requires-clause-on c = grind (arith, common_steps)
+
+pub has_entry-requires-clause-within : goal.has_entry-requires-clause-within
+has_entry-requires-clause-within c = grind (arith, common_steps)
+
+pub sides-requires : goal.sides-requires
+sides-requires c = grind (arith, common_steps)
+
+pub stand-requires-then-has_entry : goal.stand-requires-then-has_entry
+stand-requires-then-has_entry c = grind (arith, common_steps)
+
+pub stand-requires-then-is_none-2 : goal.stand-requires-then-is_none-2
+stand-requires-then-is_none-2 c = grind (arith, common_steps)
+
+pub stand-requires-in-loop-v : goal.stand-requires-in-loop-v
+stand-requires-in-loop-v c = grind (arith, common_steps)
+
+pub has_entry-requires-clause-basic : goal.has_entry-requires-clause-basic
+has_entry-requires-clause-basic c = grind (arith, common_steps)
+
+pub stand-requires-else-is_some : goal.stand-requires-else-is_some
+stand-requires-else-is_some c = grind (arith, common_steps)
+
+pub overflow_cast-v : goal.overflow_cast-v
+overflow_cast-v c = grind (arith, common_steps)
+
+pub returns-then-is_some-clause-chosen : goal.returns-then-is_some-clause-chosen
+returns-then-is_some-clause-chosen c = grind (arith, common_steps)
+
+pub stand-requires : goal.stand-requires
+stand-requires c = grind (arith, common_steps)
+
+pub returns-clause-can : goal.returns-clause-can
+returns-clause-can c = grind (arith, common_steps)
+
+pub returns-then-is_some-clause-can : goal.returns-then-is_some-clause-can
+returns-then-is_some-clause-can c = grind (arith, common_steps)

@@ -35,3 +35,27 @@ returns-in_err-at-clause-can c = grind (arith, common_steps)
 
 pub returns-in_err-to-clause-can : goal.returns-in_err-to-clause-can
 returns-in_err-to-clause-can c = grind (arith, common_steps)
+
+pub returns-in_default-2 : goal.returns-in_default-2
+returns-in_default-2 c = grind (arith, common_steps)
+
+pub returns-in_default : goal.returns-in_default
+returns-in_default c = grind (arith, common_steps)
+
+pub sides-requires : goal.sides-requires
+sides-requires c = grind (arith, common_steps)
+
+pub stand-requires-2 : goal.stand-requires-2
+stand-requires-2 c = grind (arith, common_steps)
+
+pub returns-in_err-to-clause-chosen : goal.returns-in_err-to-clause-chosen
+returns-in_err-to-clause-chosen c = grind (arith, common_steps)
+
+pub stand-requires : goal.stand-requires
+stand-requires c = grind (arith, common_steps)
+
+pub returns-in_err-at-clause-chosen : goal.returns-in_err-at-clause-chosen
+returns-in_err-at-clause-chosen c = grind (arith, common_steps)
+
+pub returns-in_default-3-clause-can : goal.returns-in_default-3-clause-can
+returns-in_default-3-clause-can c = grind (arith, common_steps)

@@ -50,3 +50,33 @@ returns-clause-made c =
 
 pub returns-clause-variables : goal.returns-clause-variables
 returns-clause-variables c = c.loop-v.invariant.variables
+
+pub loop-v-preserved-in_default : goal.loop-v-preserved-in_default
+loop-v-preserved-in_default c = grind (arith, common_steps)
+
+pub returns-then-not-branch-clause-variables : goal.returns-then-not-branch-clause-variables
+returns-then-not-branch-clause-variables c = grind (arith, common_steps)
+
+pub entering_move-chosen-requires-clause-long : goal.entering_move-chosen-requires-clause-long
+entering_move-chosen-requires-clause-long c = grind (arith, common_steps)
+
+pub flipping_move-chosen-requires-clause-long : goal.flipping_move-chosen-requires-clause-long
+flipping_move-chosen-requires-clause-long c = grind (arith, common_steps)
+
+pub entering_move-chosen-requires-clause-entering : goal.entering_move-chosen-requires-clause-entering
+entering_move-chosen-requires-clause-entering c = grind (arith, common_steps)
+
+pub flipping_move-chosen-requires-clause-within : goal.flipping_move-chosen-requires-clause-within
+flipping_move-chosen-requires-clause-within c = grind (arith, common_steps)
+
+pub entering_move-chosen-requires-clause-few : goal.entering_move-chosen-requires-clause-few
+entering_move-chosen-requires-clause-few c = grind (arith, common_steps)
+
+pub overflow_cast-v-else-flips : goal.overflow_cast-v-else-flips
+overflow_cast-v-else-flips c = grind (arith, common_steps)
+
+pub overflow_cast-v : goal.overflow_cast-v
+overflow_cast-v c = grind (arith, common_steps)
+
+pub loop-v-init : goal.loop-v-init
+loop-v-init c = grind (arith, common_steps)

@@ -1,4 +1,5 @@
-use Rattle.std.proofs.Common.{sym, ap, ◌∙◌}
+use Rattle.std.proofs.lemmas.Grind.{common_steps}
+use Rattle.std.proofs.Common.{sym, ap, ◌∙◌, arith}
 use Rattle.cip_bland.specs.Tables.{least}
 use Rattle.cip_bland.specs.Dictionary.{size, entry}
 use Rattle.cip_bland.specs.Headings.{back_of, stand_ahead}
@@ -24,3 +25,12 @@ returns-in-Some-least_driving c =
 
 pub returns-in-Some-least_improving : goal.returns-in-Some-least_improving
 returns-in-Some-least_improving c = improve_chosen c.args.dict.now (sym c.in_default.ensures) c.in-Some-least_improving.j (sym c.in_default-least_outside.ensures) c.in-Some-least_improving.ensures
+
+pub returns-in-None : goal.returns-in-None
+returns-in-None c = grind (arith, common_steps)
+
+pub returns-in-None-least_improving : goal.returns-in-None-least_improving
+returns-in-None-least_improving c = grind (arith, common_steps)
+
+pub returns-in-Some : goal.returns-in-Some
+returns-in-Some c = grind (arith, common_steps)

@@ -13,3 +13,6 @@ returns-in-Flip c = grind (arith, common_steps)
 
 pub returns-in-Ok : goal.returns-in-Ok
 returns-in-Ok c = grind (arith, common_steps)
+
+pub flip-requires : goal.flip-requires
+flip-requires c = grind (arith, common_steps)

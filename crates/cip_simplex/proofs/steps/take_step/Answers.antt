@@ -73,3 +73,9 @@ returns-else-branch c =
     ] in
     let wide = rw c.if-branch.false at c.in_ok-make.ensures in
     record { move = c.match-choose.chosen; is_next = facts.1.0; out_of_range = rw (facts.1.1, wide.0) refl; state = wide.1 }
+
+pub returns-in-Optimum : goal.returns-in-Optimum
+returns-in-Optimum c = grind (arith, common_steps)
+
+pub shortest_way-requires-clause-entering : goal.shortest_way-requires-clause-entering
+shortest_way-requires-clause-entering c = grind (arith, common_steps)

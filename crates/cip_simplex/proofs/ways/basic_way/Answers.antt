@@ -35,3 +35,27 @@ returns-in_default-sub c =
 
 pub returns-in_default : goal.returns-in_default
 returns-in_default c = grind (arith, common_steps)
+
+pub entry-requires-clause-within : goal.entry-requires-clause-within
+entry-requires-clause-within c = grind (arith, common_steps)
+
+pub value-requires : goal.value-requires
+value-requires c = grind (arith, common_steps)
+
+pub entry-requires-clause-on : goal.entry-requires-clause-on
+entry-requires-clause-on c = grind (arith, common_steps)
+
+pub entry-requires-clause-basic : goal.entry-requires-clause-basic
+entry-requires-clause-basic c = grind (arith, common_steps)
+
+pub sides-requires : goal.sides-requires
+sides-requires c = grind (arith, common_steps)
+
+pub basic_goal-requires-clause-leaving : goal.basic_goal-requires-clause-leaving
+basic_goal-requires-clause-leaving c = grind (arith, common_steps)
+
+pub basic_goal-requires-clause-entering : goal.basic_goal-requires-clause-entering
+basic_goal-requires-clause-entering c = grind (arith, common_steps)
+
+pub basic_goal-requires-clause-basic : goal.basic_goal-requires-clause-basic
+basic_goal-requires-clause-basic c = grind (arith, common_steps)

@@ -38,3 +38,33 @@ pub returns : goal.returns
 returns c =
     let end : c.loop-v.v ≡ size c.args.dict.now = omega arith in
     sym (rw end at c.loop-v.invariant)
+
+pub basic_goal-requires-clause-leaving : goal.basic_goal-requires-clause-leaving
+basic_goal-requires-clause-leaving c = grind (arith, common_steps)
+
+pub basic_goal-requires-clause-entering : goal.basic_goal-requires-clause-entering
+basic_goal-requires-clause-entering c = grind (arith, common_steps)
+
+pub has_entry-requires-clause-within : goal.has_entry-requires-clause-within
+has_entry-requires-clause-within c = grind (arith, common_steps)
+
+pub has_entry-requires-clause-on : goal.has_entry-requires-clause-on
+has_entry-requires-clause-on c = grind (arith, common_steps)
+
+pub basic_goal-requires-clause-basic : goal.basic_goal-requires-clause-basic
+basic_goal-requires-clause-basic c = grind (arith, common_steps)
+
+pub has_entry-requires-clause-basic : goal.has_entry-requires-clause-basic
+has_entry-requires-clause-basic c = grind (arith, common_steps)
+
+pub sides-requires : goal.sides-requires
+sides-requires c = grind (arith, common_steps)
+
+pub stand-requires : goal.stand-requires
+stand-requires c = grind (arith, common_steps)
+
+pub falling_heading-heading-requires : goal.falling_heading-heading-requires
+falling_heading-heading-requires c = grind (arith, common_steps)
+
+pub overflow_cast-v : goal.overflow_cast-v
+overflow_cast-v c = grind (arith, common_steps)

@@ -29,3 +29,15 @@ returns-in-Ok c =
       | in_default-stand-2 w ↦ grind (arith, common_steps)
     ] in
     grind (arith, common_steps)
+
+pub value-requires : goal.value-requires
+value-requires c = grind (arith, common_steps)
+
+pub sides-requires-2 : goal.sides-requires-2
+sides-requires-2 c = grind (arith, common_steps)
+
+pub stand-requires : goal.stand-requires
+stand-requires c = grind (arith, common_steps)
+
+pub sides-requires : goal.sides-requires
+sides-requires c = grind (arith, common_steps)

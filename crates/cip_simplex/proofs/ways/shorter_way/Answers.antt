@@ -10,3 +10,6 @@ returns-in-Some-None c = grind (arith, common_steps)
 
 pub returns-then-is_below : goal.returns-then-is_below
 returns-then-is_below c = grind (arith, common_steps)
+
+pub returns-in-None-default : goal.returns-in-None-default
+returns-in-None-default c = grind (arith, common_steps)

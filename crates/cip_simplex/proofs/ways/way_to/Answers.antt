@@ -27,3 +27,30 @@ has_entry-requires-clause-within c = omega arith
 
 pub returns-then-is_some : goal.returns-then-is_some
 returns-then-is_some c = grind (arith, common_steps)
+
+pub returns-then-v-j : goal.returns-then-v-j
+returns-then-v-j c = grind (arith, common_steps)
+
+pub basic_way-requires-clause-apart : goal.basic_way-requires-clause-apart
+basic_way-requires-clause-apart c = grind (arith, common_steps)
+
+pub basic_way-requires-clause-basic : goal.basic_way-requires-clause-basic
+basic_way-requires-clause-basic c = grind (arith, common_steps)
+
+pub stand-requires : goal.stand-requires
+stand-requires c = grind (arith, common_steps)
+
+pub own_way-requires-clause-within : goal.own_way-requires-clause-within
+own_way-requires-clause-within c = grind (arith, common_steps)
+
+pub has_entry-requires-clause-basic : goal.has_entry-requires-clause-basic
+has_entry-requires-clause-basic c = grind (arith, common_steps)
+
+pub basic_way-requires-clause-falls : goal.basic_way-requires-clause-falls
+basic_way-requires-clause-falls c = grind (arith, common_steps)
+
+pub returns : goal.returns
+returns c = grind (arith, common_steps)
+
+pub own_way-requires-clause-falls : goal.own_way-requires-clause-falls
+own_way-requires-clause-falls c = grind (arith, common_steps)

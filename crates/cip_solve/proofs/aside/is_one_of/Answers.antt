@@ -10,3 +10,6 @@ returns c = grind (arith, common_steps)
 
 pub returns-then-eq : goal.returns-then-eq
 returns-then-eq c = grind (arith, common_steps)
+
+pub offset_bounds-names-other-index : goal.offset_bounds-names-other-index
+offset_bounds-names-other-index c = grind (arith, common_steps)

@@ -52,3 +52,15 @@ push_reserved-requires g c = grind (arith, common_steps)
 
 pub push_reserved-requires-else-is_one_of : goal.push_reserved-requires-else-is_one_of
 push_reserved-requires-else-is_one_of g c = grind (arith, common_steps)
+
+pub loop-plugin-init-derived : goal.loop-plugin-init-derived
+loop-plugin-init-derived g c = grind (arith, common_steps)
+
+pub drain-plugin-items-requires-clause-not_exhausted : goal.drain-plugin-items-requires-clause-not_exhausted
+drain-plugin-items-requires-clause-not_exhausted g c = grind (arith, common_steps)
+
+pub drain-plugin-items-requires-clause-in_bounds : goal.drain-plugin-items-requires-clause-in_bounds
+drain-plugin-items-requires-clause-in_bounds g c = grind (arith, common_steps)
+
+pub drain-plugin-items-requires-clause-start_le_end : goal.drain-plugin-items-requires-clause-start_le_end
+drain-plugin-items-requires-clause-start_le_end g c = grind (arith, common_steps)

@@ -102,3 +102,9 @@ returns-in_Ok-ended-in-Ok-None-clause-kept g c =
 
 pub returns-in_Ok-ended-in-Ok-None-clause-ended : goal.returns-in_Ok-ended-in-Ok-None-clause-ended
 returns-in_Ok-ended-in-Ok-None-clause-ended g c = grind (arith, common_steps)
+
+pub returns-in_Err-ended-in-Ok-None-clause-used : goal.returns-in_Err-ended-in-Ok-None-clause-used
+returns-in_Err-ended-in-Ok-None-clause-used g c = grind (arith, common_steps)
+
+pub returns-in-Err-clause-used : goal.returns-in-Err-clause-used
+returns-in-Err-clause-used g c = grind (arith, common_steps)

@@ -79,3 +79,21 @@ returns-in_ok-end-in-Leaf-clause-used g c = ends_leaf _ _ _ _ _ _ c.in-Leaf.is c
 
 pub returns-in_ok-end-in-Leaf-clause-ended : goal.returns-in_ok-end-in-Leaf-clause-ended
 returns-in_ok-end-in-Leaf-clause-ended g c = grind (arith, common_steps)
+
+pub end_open-requires-clause-up : goal.end_open-requires-clause-up
+end_open-requires-clause-up g c = grind (arith, common_steps)
+
+pub end_parted-requires-clause-up : goal.end_parted-requires-clause-up
+end_parted-requires-clause-up g c = grind (arith, common_steps)
+
+pub end_leaf-requires-clause-up : goal.end_leaf-requires-clause-up
+end_leaf-requires-clause-up g c = grind (arith, common_steps)
+
+pub end_open-requires-clause-sound : goal.end_open-requires-clause-sound
+end_open-requires-clause-sound g c = grind (arith, common_steps)
+
+pub end_leaf-requires-clause-given : goal.end_leaf-requires-clause-given
+end_leaf-requires-clause-given g c = grind (arith, common_steps)
+
+pub close_empty-requires-clause-up : goal.close_empty-requires-clause-up
+close_empty-requires-clause-up g c = grind (arith, common_steps)

@@ -1,4 +1,5 @@
-use Rattle.std.proofs.Common.{◌≡◌, ◌∙◌, [], MatchOption, ℕ, List, IfSome, length, Option, true, false, ap, sym, subst}
+use Rattle.std.proofs.lemmas.Grind.{common_steps}
+use Rattle.std.proofs.Common.{◌≡◌, ◌∙◌, [], MatchOption, ℕ, List, IfSome, length, Option, true, false, ap, sym, subst, arith}
 use Rattle.std.proofs.lemmas.List.{length-map}
 use Rattle.cip_rational.specs.Rational.{ℚ}
 use Rattle.cip_problem.specs.Program.{Program}
@@ -84,3 +85,12 @@ returns-in-Endless-clause-nodes c = c.endless_answer.ensures.nodes ∙ sym (leng
 
 pub returns-in-NoMemory-clause-nodes : goal.returns-in-NoMemory-clause-nodes
 returns-in-NoMemory-clause-nodes c = sym (length-map c.log.result.now entry_of) ∙ ap length c.log.ensures.entries ∙ ap (λ (t : Nodes). length t.log) c.tree-tree.ensures
+
+pub returns-in-Endless-clause-untraced : goal.returns-in-Endless-clause-untraced
+returns-in-Endless-clause-untraced c = grind (arith, common_steps)
+
+pub returns-in-Still-clause-untraced : goal.returns-in-Still-clause-untraced
+returns-in-Still-clause-untraced c = grind (arith, common_steps)
+
+pub returns-in-NoMemory-clause-untraced : goal.returns-in-NoMemory-clause-untraced
+returns-in-NoMemory-clause-untraced c = grind (arith, common_steps)

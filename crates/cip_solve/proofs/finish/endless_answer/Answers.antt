@@ -18,3 +18,6 @@ returns-clause-right c = λ reduced kept start nodes asked log marks seen k w.
 
 pub unreachable-requires : goal.unreachable-requires
 unreachable-requires c = grind (arith, common_steps)
+
+pub returns-clause-nodes : goal.returns-clause-nodes
+returns-clause-nodes c = grind (arith, common_steps)

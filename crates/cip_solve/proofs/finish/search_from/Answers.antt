@@ -73,3 +73,12 @@ answer_at-answer-requires-clause-stop g c = grind (arith, common_steps)
 
 pub returns-clause-untraced : goal.returns-clause-untraced
 returns-clause-untraced g c = grind (arith, common_steps)
+
+pub explore-stop-requires-clause-plain : goal.explore-stop-requires-clause-plain
+explore-stop-requires-clause-plain g c = grind (arith, common_steps)
+
+pub explore-stop-requires-clause-empty : goal.explore-stop-requires-clause-empty
+explore-stop-requires-clause-empty g c = grind (arith, common_steps)
+
+pub explore-stop-requires-clause-ready : goal.explore-stop-requires-clause-ready
+explore-stop-requires-clause-ready g c = grind (arith, common_steps)

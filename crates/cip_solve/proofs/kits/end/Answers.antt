@@ -16,3 +16,6 @@ close-requires-clause-sound g c = grind (arith, common_steps)
 
 pub returns-then-not-kept : goal.returns-then-not-kept
 returns-then-not-kept g c = grind (arith, common_steps)
+
+pub take_trace-requires : goal.take_trace-requires
+take_trace-requires g c = grind (arith, common_steps)

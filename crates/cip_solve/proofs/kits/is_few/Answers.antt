@@ -7,3 +7,6 @@ returns-else-start-most c = grind (arith, common_steps)
 
 pub returns-then-start-most : goal.returns-then-start-most
 returns-then-start-most c = grind (arith, common_steps)
+
+pub overflow_cast-most : goal.overflow_cast-most
+overflow_cast-most c = grind (arith, common_steps)

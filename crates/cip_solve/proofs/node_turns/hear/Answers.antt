@@ -18,3 +18,9 @@ returns-clause-said g c = c.in_ok-said.ensures.verdict
 
 pub tell_now-requires : goal.tell_now-requires
 tell_now-requires g c = grind (arith, common_steps)
+
+pub returns-in_err-said-clause-come : goal.returns-in_err-said-clause-come
+returns-in_err-said-clause-come g c = grind (arith, common_steps)
+
+pub enforce-requires-clause-ready : goal.enforce-requires-clause-ready
+enforce-requires-clause-ready g c = grind (arith, common_steps)

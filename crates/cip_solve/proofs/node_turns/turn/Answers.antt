@@ -46,3 +46,21 @@ returns-in-Leaf-clause-come g c = grind (arith, common_steps)
 
 pub returns-in-Place-clause-come : goal.returns-in-Place-clause-come
 returns-in-Place-clause-come g c = grind (arith, common_steps)
+
+pub returns-in_err-found-clause-come : goal.returns-in_err-found-clause-come
+returns-in_err-found-clause-come g c = grind (arith, common_steps)
+
+pub returns-in-Err-clause-used : goal.returns-in-Err-clause-used
+returns-in-Err-clause-used g c = grind (arith, common_steps)
+
+pub returns-in-Err-clause-reached : goal.returns-in-Err-clause-reached
+returns-in-Err-clause-reached g c = grind (arith, common_steps)
+
+pub returns-in-Leaf-clause-used : goal.returns-in-Leaf-clause-used
+returns-in-Leaf-clause-used g c = grind (arith, common_steps)
+
+pub returns-in-Empty-clause-used : goal.returns-in-Empty-clause-used
+returns-in-Empty-clause-used g c = grind (arith, common_steps)
+
+pub pass-requires : goal.pass-requires
+pass-requires g c = grind (arith, common_steps)

@@ -14,3 +14,9 @@ returns-in-Ok c =
       back = of_reduced c.args.program.now presolved core c.in-Ok.ensures c.requires.back sound.formed sound.reduced;
       point = grind (arith, common_steps);
     }
+
+pub new-requires-clause-near : goal.new-requires-clause-near
+new-requires-clause-near c = grind (arith, common_steps)
+
+pub new-requires-clause-back : goal.new-requires-clause-back
+new-requires-clause-back c = grind (arith, common_steps)

@@ -45,3 +45,12 @@ split-parted-requires-clause-place c =
 
 pub split-parted-requires-clause-given : goal.split-parted-requires-clause-given
 split-parted-requires-clause-given c = c.requires.up.2
+
+pub split-parted-requires-clause-wholes : goal.split-parted-requires-clause-wholes
+split-parted-requires-clause-wholes c = grind (arith, common_steps)
+
+pub returns-in-Err-clause-proposed : goal.returns-in-Err-clause-proposed
+returns-in-Err-clause-proposed c = grind (arith, common_steps)
+
+pub returns-in-Ok-clause-proposed : goal.returns-in-Ok-clause-proposed
+returns-in-Ok-clause-proposed c = grind (arith, common_steps)

@@ -44,3 +44,6 @@ returns-in_err-tell_now-clause-open_ g c = grind (arith, common_steps)
 
 pub tell_now-requires-2 : goal.tell_now-requires-2
 tell_now-requires-2 g c = grind (arith, common_steps)
+
+pub tell_now-requires : goal.tell_now-requires
+tell_now-requires g c = grind (arith, common_steps)

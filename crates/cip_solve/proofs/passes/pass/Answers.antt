@@ -54,3 +54,24 @@ returns-in-Ok-clause-used g c =
 
 pub returns-in-Ok-clause-reached : goal.returns-in-Ok-clause-reached
 returns-in-Ok-clause-reached g c = c.improve.ensures.open_
+
+pub separate-requires : goal.separate-requires
+separate-requires g c = grind (arith, common_steps)
+
+pub returns-in-Err-clause-used : goal.returns-in-Err-clause-used
+returns-in-Err-clause-used g c = grind (arith, common_steps)
+
+pub returns-in-Err-clause-reached : goal.returns-in-Err-clause-reached
+returns-in-Err-clause-reached g c = grind (arith, common_steps)
+
+pub returns-in-Empty-2-clause-used : goal.returns-in-Empty-2-clause-used
+returns-in-Empty-2-clause-used g c = grind (arith, common_steps)
+
+pub narrow-requires : goal.narrow-requires
+narrow-requires g c = grind (arith, common_steps)
+
+pub returns-in-Leaf-clause-used : goal.returns-in-Leaf-clause-used
+returns-in-Leaf-clause-used g c = grind (arith, common_steps)
+
+pub returns-in-Empty-clause-used : goal.returns-in-Empty-clause-used
+returns-in-Empty-clause-used g c = grind (arith, common_steps)

@@ -106,3 +106,6 @@ returns-clause-reached g c = grind (arith, common_steps)
 
 pub returns-clause-used : goal.returns-clause-used
 returns-clause-used g c = grind (arith, common_steps)
+
+pub returns-then-not-branch-clause-used : goal.returns-then-not-branch-clause-used
+returns-then-not-branch-clause-used g c = grind (arith, common_steps)

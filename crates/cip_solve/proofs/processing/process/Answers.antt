@@ -1,4 +1,5 @@
-use Rattle.std.proofs.Common.{◌<◌, ◌^◌, refl, sym, subst, ap}
+use Rattle.std.proofs.lemmas.Grind.{common_steps}
+use Rattle.std.proofs.Common.{◌<◌, ◌^◌, refl, sym, subst, ap, arith}
 use Rattle.std.specs.Prelude.{MatchResult}
 use Rattle.cip_calls.specs.CoreStates.{CoreState, IsGivenBound}
 use Rattle.cip_calls.specs.Steps.{IsBack}
@@ -58,3 +59,12 @@ pub returns-in-Ok-clause-kept : goal.returns-in-Ok-clause-kept
 returns-in-Ok-clause-kept g c =
     let later = later_done c.begin.new.work.core c.finish.new.work.core c.begin.new.node c.bound-given.result c.finish.result c.finish.ensures.ended in
     aged_further _ _ _ _ _ _ _ _ _ _ c.begin.ensures.kept later c.finish.ensures.kept.0 c.finish.ensures.kept.3 c.finish.ensures.kept.1 c.finish.ensures.kept.2
+
+pub begin-requires-clause-up : goal.begin-requires-clause-up
+begin-requires-clause-up g c = grind (arith, common_steps)
+
+pub begin-requires-clause-room : goal.begin-requires-clause-room
+begin-requires-clause-room g c = grind (arith, common_steps)
+
+pub returns-in-Err-clause-used : goal.returns-in-Err-clause-used
+returns-in-Err-clause-used g c = grind (arith, common_steps)

@@ -64,3 +64,9 @@ returns-in-Open-clause-found g c =
     let node = c.solve_lp.new.node in
     let kept : c.in-Open.newer ≡ c.replace.new.dest = cc in
     subst (IsFoundAt core node) kept (subst (IsBounded core node) c.in-Open.is c.in_ok-solve_lp-in-Accepted.ensures.bounded)
+
+pub returns-in_err-came-clause-come : goal.returns-in_err-came-clause-come
+returns-in_err-came-clause-come g c = grind (arith, common_steps)
+
+pub ask_round-requires-clause-ready : goal.ask_round-requires-clause-ready
+ask_round-requires-clause-ready g c = grind (arith, common_steps)

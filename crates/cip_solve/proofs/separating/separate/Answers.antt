@@ -49,3 +49,15 @@ returns-in-Empty-clause-region g c = grind (arith, common_steps)
 
 pub returns-in_err-solve_lp-clause-region : goal.returns-in_err-solve_lp-clause-region
 returns-in_err-solve_lp-clause-region g c = grind (arith, common_steps)
+
+pub returns-in_err-solve_lp-clause-come : goal.returns-in_err-solve_lp-clause-come
+returns-in_err-solve_lp-clause-come g c = grind (arith, common_steps)
+
+pub returns-in-Err-clause-used : goal.returns-in-Err-clause-used
+returns-in-Err-clause-used g c = grind (arith, common_steps)
+
+pub returns-in-Err-clause-bounded : goal.returns-in-Err-clause-bounded
+returns-in-Err-clause-bounded g c = grind (arith, common_steps)
+
+pub solve_lp-requires : goal.solve_lp-requires
+solve_lp-requires g c = grind (arith, common_steps)

@@ -1,4 +1,5 @@
-use Rattle.std.proofs.Common.{refl, ap}
+use Rattle.std.proofs.lemmas.Grind.{common_steps}
+use Rattle.std.proofs.Common.{refl, ap, arith}
 use Rattle.std.specs.Prelude.{Bool}
 use Rattle.cip_rows.specs.RowPools.{Pool}
 use Rattle.cip_solve.proofs.Coming.{come_silent}
@@ -54,3 +55,9 @@ returns-in-Ok-clause-pool g c = ap (λ (rows : Pool × Bool). rows.0) c.bound.en
 
 pub returns-in-Ok-clause-bounded : goal.returns-in-Ok-clause-bounded
 returns-in-Ok-clause-bounded g c = c.in_ok-bounded.ensures.bounded
+
+pub returns-in-Err-clause-bounded : goal.returns-in-Err-clause-bounded
+returns-in-Err-clause-bounded g c = grind (arith, common_steps)
+
+pub bound-requires : goal.bound-requires
+bound-requires g c = grind (arith, common_steps)

@@ -1,3 +1,4 @@
+use Rattle.std.proofs.lemmas.Grind.{common_steps}
 use Rattle.cip_solve.proofs.Serving.{served_none}
 use Rattle.cip_solve.specs.SplitsServed.{splits_in, HasServed}
 use Rattle.std.proofs.Common.{◌∙◌, ap, sym, subst, length, arith}
@@ -59,3 +60,15 @@ returns-in-Err-clause-nodes g c = c.unsearched.ensures.nodes ∙ sym (ap length 
 
 pub search_from-requires-clause-some : goal.search_from-requires-clause-some
 search_from-requires-clause-some g c = omega arith
+
+pub returns-in-Ok-clause-nodes : goal.returns-in-Ok-clause-nodes
+returns-in-Ok-clause-nodes g c = grind (arith, common_steps)
+
+pub returns-in-Ok-clause-trace : goal.returns-in-Ok-clause-trace
+returns-in-Ok-clause-trace g c = grind (arith, common_steps)
+
+pub returns-in-Err-clause-trace : goal.returns-in-Err-clause-trace
+returns-in-Err-clause-trace g c = grind (arith, common_steps)
+
+pub begun_with-requires-clause-back : goal.begun_with-requires-clause-back
+begun_with-requires-clause-back g c = grind (arith, common_steps)

@@ -27,3 +27,6 @@ returns-clause-used g c =
 
 pub returns-clause-sound : goal.returns-clause-sound
 returns-clause-sound g c = grind (arith, common_steps)
+
+pub returns-in_err-queue_both-clause-frame : goal.returns-in_err-queue_both-clause-frame
+returns-in_err-queue_both-clause-frame g c = grind (arith, common_steps)

@@ -1,3 +1,4 @@
+use Rattle.std.proofs.lemmas.Grind.{common_steps}
 use Rattle.std.proofs.Common.{◌≡◌, ◌+◌, ◌<◌, ℤ, pos, List, length, get_or, drop, Ok, Err, to_z, of_z, rules, arith, sym, ap, ◌∙◌}
 use Rattle.std.specs.Int.{w128}
 use Rattle.std.proofs.Math.ListN.{drop_of_length-le}
@@ -52,3 +53,24 @@ pub returns-clause-steps : goal.returns-clause-steps
 returns-clause-steps c =
     sym c.loop-term.invariant.steps
     ∙ ap (λ (ts : List FormTerm). form_added c.args.factor ts c.loop-term.row.entries) (drop_of_length-le c.args.form.now c.loop-term-test.false)
+
+pub set-requires : goal.set-requires
+set-requires c = grind (arith, common_steps)
+
+pub bounds-entries-term : goal.bounds-entries-term
+bounds-entries-term c = grind (arith, common_steps)
+
+pub returns-in-Err-clause-columns : goal.returns-in-Err-clause-columns
+returns-in-Err-clause-columns c = grind (arith, common_steps)
+
+pub offset_bounds-entries-term : goal.offset_bounds-entries-term
+offset_bounds-entries-term c = grind (arith, common_steps)
+
+pub offset_bounds-form-term-index : goal.offset_bounds-form-term-index
+offset_bounds-form-term-index c = grind (arith, common_steps)
+
+pub returns-clause-columns : goal.returns-clause-columns
+returns-clause-columns c = grind (arith, common_steps)
+
+pub loop-term-init : goal.loop-term-init
+loop-term-init c = grind (arith, common_steps)

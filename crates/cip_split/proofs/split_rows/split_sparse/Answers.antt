@@ -1,3 +1,4 @@
+use Rattle.std.proofs.lemmas.Grind.{common_steps}
 use Rattle.std.proofs.Common.{◌≡◌, ◌+ℤ◌, pos, false, None, rules, ◌∙◌, length, ap, sym, arith}
 use Rattle.cip_rational.specs.Range.{too_large}
 use Rattle.cip_problem.specs.Aggregate.{Inequality}
@@ -84,3 +85,54 @@ returns-clause-steps c =
     answered_as (split_of lent whole box n cut) (joined left right) c.left_row.new.row.entries c.joined.result
     (rows_come lent whole box n cut formed positive narrow left right c.in-Ok.ensures.steps (ap (λ m. right_row lent box m cut) (sym c.requires.same) ∙ c.in-Ok-right_row.ensures.steps))
     c.joined.ensures
+
+pub right_row-requires-clause-next : goal.right_row-requires-clause-next
+right_row-requires-clause-next c = grind (arith, common_steps)
+
+pub returns-clause-columns : goal.returns-clause-columns
+returns-clause-columns c = grind (arith, common_steps)
+
+pub returns-in-Err-right_row-clause-columns : goal.returns-in-Err-right_row-clause-columns
+returns-in-Err-right_row-clause-columns c = grind (arith, common_steps)
+
+pub returns-clause-others : goal.returns-clause-others
+returns-clause-others c = grind (arith, common_steps)
+
+pub returns-in-Err-right_row-clause-others : goal.returns-in-Err-right_row-clause-others
+returns-in-Err-right_row-clause-others c = grind (arith, common_steps)
+
+pub right_row-requires-clause-room : goal.right_row-requires-clause-room
+right_row-requires-clause-room c = grind (arith, common_steps)
+
+pub right_row-requires-clause-fits : goal.right_row-requires-clause-fits
+right_row-requires-clause-fits c = grind (arith, common_steps)
+
+pub returns-in-Err-clause-columns : goal.returns-in-Err-clause-columns
+returns-in-Err-clause-columns c = grind (arith, common_steps)
+
+pub left_row-requires-clause-fits : goal.left_row-requires-clause-fits
+left_row-requires-clause-fits c = grind (arith, common_steps)
+
+pub left_row-requires-clause-room : goal.left_row-requires-clause-room
+left_row-requires-clause-room c = grind (arith, common_steps)
+
+pub returns-in-Err-clause-others : goal.returns-in-Err-clause-others
+returns-in-Err-clause-others c = grind (arith, common_steps)
+
+pub returns-in_default-next_of-clause-others : goal.returns-in_default-next_of-clause-others
+returns-in_default-next_of-clause-others c = grind (arith, common_steps)
+
+pub returns-in_default-next_of-clause-columns : goal.returns-in_default-next_of-clause-columns
+returns-in_default-next_of-clause-columns c = grind (arith, common_steps)
+
+pub returns-in-Some-sign_fault-clause-others : goal.returns-in-Some-sign_fault-clause-others
+returns-in-Some-sign_fault-clause-others c = grind (arith, common_steps)
+
+pub returns-in-Some-sign_fault-clause-columns : goal.returns-in-Some-sign_fault-clause-columns
+returns-in-Some-sign_fault-clause-columns c = grind (arith, common_steps)
+
+pub returns-in-Some-clause-others : goal.returns-in-Some-clause-others
+returns-in-Some-clause-others c = grind (arith, common_steps)
+
+pub returns-in-Some-clause-columns : goal.returns-in-Some-clause-columns
+returns-in-Some-clause-columns c = grind (arith, common_steps)

@@ -81,3 +81,12 @@ returns-clause-same c = c.loop-tail.invariant.same
 
 pub loop-tail-smaller : goal.loop-tail-smaller
 loop-tail-smaller c = omega (arith, ap length c.in-Some.ensures.0, length-append c.in-Some.tail.now (10 ∷ c.in-Some.behind.now))
+
+pub invariant_of-self : goal.invariant_of-self
+invariant_of-self c = grind (arith, common_steps)
+
+pub invariant_of-self-2 : goal.invariant_of-self-2
+invariant_of-self-2 c = grind (arith, common_steps)
+
+pub keep-requires-clause-no_feed : goal.keep-requires-clause-no_feed
+keep-requires-clause-no_feed c = grind (arith, common_steps)

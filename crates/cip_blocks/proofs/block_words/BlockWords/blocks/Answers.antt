@@ -34,3 +34,6 @@ returns c =
 
 pub new-requires-clause-few_rows : goal.new-requires-clause-few_rows
 new-requires-clause-few_rows c = grind (arith, common_steps)
+
+pub new-requires-clause-few_columns : goal.new-requires-clause-few_columns
+new-requires-clause-few_columns c = grind (arith, common_steps)

@@ -60,3 +60,21 @@ returns-else-lacks_block-clause-fault c =
     ∙ ap (λ b. cond b (Some 6) (cond opens (Some 7) (cond lacks (Some 8) None))) c.if-ending.false
     ∙ ap (λ b. cond b (Some 7) (cond lacks (Some 8) None)) (sym c.if-has_open.ensures)
     ∙ ap (λ b. cond b (Some 8) None) (sym c.if-lacks_block.ensures))
+
+pub returns-then-is_some-clause-kinds : goal.returns-then-is_some-clause-kinds
+returns-then-is_some-clause-kinds c = grind (arith, common_steps)
+
+pub has_open-requires : goal.has_open-requires
+has_open-requires c = grind (arith, common_steps)
+
+pub returns-then-lacks_block-clause-kinds : goal.returns-then-lacks_block-clause-kinds
+returns-then-lacks_block-clause-kinds c = grind (arith, common_steps)
+
+pub returns-else-lacks_block-clause-kinds : goal.returns-else-lacks_block-clause-kinds
+returns-else-lacks_block-clause-kinds c = grind (arith, common_steps)
+
+pub returns-then-has_open-clause-kinds : goal.returns-then-has_open-clause-kinds
+returns-then-has_open-clause-kinds c = grind (arith, common_steps)
+
+pub returns-then-ending-clause-kinds : goal.returns-then-ending-clause-kinds
+returns-then-ending-clause-kinds c = grind (arith, common_steps)

@@ -29,3 +29,9 @@ returns c =
       owned = c.in_ok-owners.ensures.owned ∙ ap (owners_of (program_of words)) (c.as_slice.ensures.value ∙ rows);
       sized = c.in_ok-owners.ensures.sized;
     }
+
+pub offset_bounds-row-items-row-index : goal.offset_bounds-row-items-row-index
+offset_bounds-row-items-row-index c = grind (arith, common_steps)
+
+pub loop-row-init : goal.loop-row-init
+loop-row-init c = grind (arith, common_steps)

@@ -23,3 +23,12 @@ returns-clause-state c =
 
 pub invariant_of-result-clause-rows_sized : goal.invariant_of-result-clause-rows_sized
 invariant_of-result-clause-rows_sized c = grind (arith, common_steps)
+
+pub invariant_of-result-clause-few : goal.invariant_of-result-clause-few
+invariant_of-result-clause-few c = grind (arith, common_steps)
+
+pub returns-clause-program : goal.returns-clause-program
+returns-clause-program c = grind (arith, common_steps)
+
+pub invariant_of-result-clause-begun_sized : goal.invariant_of-result-clause-begun_sized
+invariant_of-result-clause-begun_sized c = grind (arith, common_steps)

@@ -37,3 +37,39 @@ index-requires c = grind (arith, common_steps)
 
 pub index_mut-requires : goal.index_mut-requires
 index_mut-requires c = grind (arith, common_steps)
+
+pub returns-in-Named-clause-taken : goal.returns-in-Named-clause-taken
+returns-in-Named-clause-taken c = grind (arith, common_steps)
+
+pub returns-in_default-clause-taken : goal.returns-in_default-clause-taken
+returns-in_default-clause-taken c = grind (arith, common_steps)
+
+pub invariant_of-self-clause-placed : goal.invariant_of-self-clause-placed
+invariant_of-self-clause-placed c = grind (arith, common_steps)
+
+pub returns-in-Unnamed-clause-same : goal.returns-in-Unnamed-clause-same
+returns-in-Unnamed-clause-same c = grind (arith, common_steps)
+
+pub invariant_of-self-clause-few : goal.invariant_of-self-clause-few
+invariant_of-self-clause-few c = grind (arith, common_steps)
+
+pub invariant_of-self-clause-rows_sized : goal.invariant_of-self-clause-rows_sized
+invariant_of-self-clause-rows_sized c = grind (arith, common_steps)
+
+pub returns-in-Named-clause-same : goal.returns-in-Named-clause-same
+returns-in-Named-clause-same c = grind (arith, common_steps)
+
+pub invariant_of-self-clause-begun_sized : goal.invariant_of-self-clause-begun_sized
+invariant_of-self-clause-begun_sized c = grind (arith, common_steps)
+
+pub returns-in-Named-clause-kinds : goal.returns-in-Named-clause-kinds
+returns-in-Named-clause-kinds c = grind (arith, common_steps)
+
+pub returns-in-Unnamed-clause-kinds : goal.returns-in-Unnamed-clause-kinds
+returns-in-Unnamed-clause-kinds c = grind (arith, common_steps)
+
+pub returns-in_default-clause-kinds : goal.returns-in_default-clause-kinds
+returns-in_default-clause-kinds c = grind (arith, common_steps)
+
+pub returns-in_default-clause-same : goal.returns-in_default-clause-same
+returns-in_default-clause-same c = grind (arith, common_steps)

@@ -19,3 +19,15 @@ returns-clause-owned c = grind (arith, common_steps)
 
 pub take_row-requires : goal.take_row-requires
 take_row-requires c = grind (arith, common_steps)
+
+pub offset_bounds-rows-at : goal.offset_bounds-rows-at
+offset_bounds-rows-at c = grind (arith, common_steps)
+
+pub offset_bounds-row_blocks-at : goal.offset_bounds-row_blocks-at
+offset_bounds-row_blocks-at c = grind (arith, common_steps)
+
+pub returns-clause-sized : goal.returns-clause-sized
+returns-clause-sized c = grind (arith, common_steps)
+
+pub returns-clause-formed : goal.returns-clause-formed
+returns-clause-formed c = grind (arith, common_steps)

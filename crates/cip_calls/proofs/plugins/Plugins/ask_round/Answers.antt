@@ -84,3 +84,6 @@ returns-then-has_none-clause-emptied g c = grind (arith, common_steps)
 
 pub returns-then-has_none-clause-sides : goal.returns-then-has_none-clause-sides
 returns-then-has_none-clause-sides g c = grind (arith, common_steps)
+
+pub returns-then-has_none-clause-rows : goal.returns-then-has_none-clause-rows
+returns-then-has_none-clause-rows g c = grind (arith, common_steps)

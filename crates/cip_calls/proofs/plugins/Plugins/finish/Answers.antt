@@ -1,4 +1,5 @@
-use Rattle.std.proofs.Common.{refl}
+use Rattle.std.proofs.lemmas.Grind.{common_steps}
+use Rattle.std.proofs.Common.{refl, arith}
 use Rattle.cip_events.specs.declared.words.Word.TheVariants as say
 use Rattle.cip_calls.proofs.Noting.{noted_none, noted_by, judged_entry}
 use Rattle.cip_calls.proofs.plugins.Plugins.finish.Goals as goal
@@ -42,3 +43,6 @@ returns-in_default-clause-scratches g c = refl
 
 pub returns-in_err-put_if-clause-scratches : goal.returns-in_err-put_if-clause-scratches
 returns-in_err-put_if-clause-scratches g c = refl
+
+pub push_reserved-requires : goal.push_reserved-requires
+push_reserved-requires g c = grind (arith, common_steps)

@@ -24,3 +24,9 @@ returns-clause-frame g c = grind (arith, common_steps)
 
 pub returns-clause-run : goal.returns-clause-run
 returns-clause-run g c = grind (arith, common_steps)
+
+pub returns-in_err-put-clause-run : goal.returns-in_err-put-clause-run
+returns-in_err-put-clause-run g c = grind (arith, common_steps)
+
+pub returns-in_err-put-clause-frame : goal.returns-in_err-put-clause-frame
+returns-in_err-put-clause-frame g c = grind (arith, common_steps)

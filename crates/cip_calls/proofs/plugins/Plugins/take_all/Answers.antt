@@ -82,3 +82,6 @@ take_given-requires-clause-ready g c = grind (arith, common_steps)
 
 pub returns-clause-gone : goal.returns-clause-gone
 returns-clause-gone g c = grind (arith, common_steps)
+
+pub offset_bounds-gave-id-index : goal.offset_bounds-gave-id-index
+offset_bounds-gave-id-index g c = grind (arith, common_steps)

@@ -1,4 +1,5 @@
-use Rattle.std.proofs.Common.{refl, ◌∙◌}
+use Rattle.std.proofs.lemmas.Grind.{common_steps}
+use Rattle.std.proofs.Common.{refl, ◌∙◌, arith}
 use Rattle.cip_calls.proofs.Noting.{gone_none, gone_further, judged_none, judged_more, seat_noted}
 use Rattle.cip_calls.proofs.plugins.Plugins.take_cuts.Goals as goal
 
@@ -32,3 +33,21 @@ returns-clause-open_ g c = c.came_of.ensures.open_
 
 pub returns-clause-rows : goal.returns-clause-rows
 returns-clause-rows g c = λ e. c.loop-cut.invariant.rows (c.came_of.ensures.quiet e)
+
+pub returns-clause-region : goal.returns-clause-region
+returns-clause-region g c = grind (arith, common_steps)
+
+pub returns-clause-gone : goal.returns-clause-gone
+returns-clause-gone g c = grind (arith, common_steps)
+
+pub take_cut-requires-clause-ready : goal.take_cut-requires-clause-ready
+take_cut-requires-clause-ready g c = grind (arith, common_steps)
+
+pub take_cut-requires-clause-sound : goal.take_cut-requires-clause-sound
+take_cut-requires-clause-sound g c = grind (arith, common_steps)
+
+pub take_cut-requires-clause-seat : goal.take_cut-requires-clause-seat
+take_cut-requires-clause-seat g c = grind (arith, common_steps)
+
+pub offset_bounds-cuts-cut-index : goal.offset_bounds-cuts-cut-index
+offset_bounds-cuts-cut-index g c = grind (arith, common_steps)

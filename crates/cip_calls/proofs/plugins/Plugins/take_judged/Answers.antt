@@ -7,3 +7,6 @@ returns-clause-none g c = grind (arith, common_steps)
 
 pub returns-clause-judged : goal.returns-clause-judged
 returns-clause-judged g c = grind (arith, common_steps)
+
+pub returns-clause-frame : goal.returns-clause-frame
+returns-clause-frame g c = grind (arith, common_steps)

@@ -64,3 +64,9 @@ returns-in_err-finish-clause-region g c = grind (arith, common_steps)
 
 pub returns-in_err-came-clause-region : goal.returns-in_err-came-clause-region
 returns-in_err-came-clause-region g c = grind (arith, common_steps)
+
+pub returns-in_err-reserve-clause-region : goal.returns-in_err-reserve-clause-region
+returns-in_err-reserve-clause-region g c = grind (arith, common_steps)
+
+pub returns-in_err-reserve-clause-pool : goal.returns-in_err-reserve-clause-pool
+returns-in_err-reserve-clause-pool g c = grind (arith, common_steps)

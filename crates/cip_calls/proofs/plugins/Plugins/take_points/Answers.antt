@@ -1,4 +1,5 @@
-use Rattle.std.proofs.Common.{refl, ◌∙◌}
+use Rattle.std.proofs.lemmas.Grind.{common_steps}
+use Rattle.std.proofs.Common.{refl, ◌∙◌, arith}
 use Rattle.cip_calls.proofs.Noting.{gone_none, gone_further, judged_none, judged_more, seat_noted}
 use Rattle.cip_calls.proofs.plugins.Plugins.take_points.Goals as goal
 
@@ -32,3 +33,24 @@ returns-in_err-came-clause-pool g c = c.take_point.ensures.pool ∙ c.loop-guess
 
 pub returns-clause-open_ : goal.returns-clause-open_
 returns-clause-open_ g c = c.came_of.ensures.open_
+
+pub returns-clause-pool : goal.returns-clause-pool
+returns-clause-pool g c = grind (arith, common_steps)
+
+pub returns-clause-region : goal.returns-clause-region
+returns-clause-region g c = grind (arith, common_steps)
+
+pub returns-clause-gone : goal.returns-clause-gone
+returns-clause-gone g c = grind (arith, common_steps)
+
+pub take_point-requires-clause-ready : goal.take_point-requires-clause-ready
+take_point-requires-clause-ready g c = grind (arith, common_steps)
+
+pub take_point-requires-clause-sound : goal.take_point-requires-clause-sound
+take_point-requires-clause-sound g c = grind (arith, common_steps)
+
+pub take_point-requires-clause-seat : goal.take_point-requires-clause-seat
+take_point-requires-clause-seat g c = grind (arith, common_steps)
+
+pub offset_bounds-points-guess-index : goal.offset_bounds-points-guess-index
+offset_bounds-points-guess-index g c = grind (arith, common_steps)

@@ -71,3 +71,6 @@ judge_reduction-requires-clause-at_work g c = c.requires.ready.at_work
 
 pub returns-clause-judged : goal.returns-clause-judged
 returns-clause-judged g c = grind (arith, common_steps)
+
+pub returns-in_err-reserve-clause-pool : goal.returns-in_err-reserve-clause-pool
+returns-in_err-reserve-clause-pool g c = grind (arith, common_steps)

@@ -39,3 +39,21 @@ returns-clause-emptied g c = omega arith
 
 pub returns-in-Emptied-clause-judged : goal.returns-in-Emptied-clause-judged
 returns-in-Emptied-clause-judged g c = grind (arith, common_steps)
+
+pub returns-clause-pool : goal.returns-clause-pool
+returns-clause-pool g c = grind (arith, common_steps)
+
+pub returns-clause-gone : goal.returns-clause-gone
+returns-clause-gone g c = grind (arith, common_steps)
+
+pub take_side-requires-clause-ready : goal.take_side-requires-clause-ready
+take_side-requires-clause-ready g c = grind (arith, common_steps)
+
+pub take_side-requires-clause-sound : goal.take_side-requires-clause-sound
+take_side-requires-clause-sound g c = grind (arith, common_steps)
+
+pub take_side-requires-clause-seat : goal.take_side-requires-clause-seat
+take_side-requires-clause-seat g c = grind (arith, common_steps)
+
+pub offset_bounds-sides-told-index : goal.offset_bounds-sides-told-index
+offset_bounds-sides-told-index g c = grind (arith, common_steps)

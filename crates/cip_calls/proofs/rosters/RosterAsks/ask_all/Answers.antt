@@ -48,3 +48,12 @@ returns-in-Sides-clause-sound g c = grind (arith, common_steps)
 
 pub returns-in-Cuts-clause-sound : goal.returns-in-Cuts-clause-sound
 returns-in-Cuts-clause-sound g c = grind (arith, common_steps)
+
+pub call_heuristics-requires : goal.call_heuristics-requires
+call_heuristics-requires g c = grind (arith, common_steps)
+
+pub call_propagators-requires : goal.call_propagators-requires
+call_propagators-requires g c = grind (arith, common_steps)
+
+pub call_separators-requires : goal.call_separators-requires
+call_separators-requires g c = grind (arith, common_steps)

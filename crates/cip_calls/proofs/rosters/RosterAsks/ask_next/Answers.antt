@@ -32,3 +32,9 @@ returns-in-Verdict-clause-err g c = grind (arith, common_steps)
 
 pub returns-in-Split-clause-err : goal.returns-in-Split-clause-err
 returns-in-Split-clause-err g c = grind (arith, common_steps)
+
+pub call_enforcers-requires : goal.call_enforcers-requires
+call_enforcers-requires g c = grind (arith, common_steps)
+
+pub call_rules-requires : goal.call_rules-requires
+call_rules-requires g c = grind (arith, common_steps)

@@ -15,3 +15,6 @@ returns-clause-sound g c = grind (arith, common_steps)
 
 pub returns-clause-empty : goal.returns-clause-empty
 returns-clause-empty g c = grind (arith, common_steps)
+
+pub deliver-requires : goal.deliver-requires
+deliver-requires g c = grind (arith, common_steps)

@@ -4,3 +4,12 @@ use Rattle.cip_calls.proofs.silence.NoPluginsAsks.ask_next.Goals as goal
 
 pub returns-clause-asked : goal.returns-clause-asked
 returns-clause-asked c = grind (arith, common_steps)
+
+pub returns-clause-seated : goal.returns-clause-seated
+returns-clause-seated c = grind (arith, common_steps)
+
+pub returns-clause-err : goal.returns-clause-err
+returns-clause-err c = grind (arith, common_steps)
+
+pub returns-clause-sound : goal.returns-clause-sound
+returns-clause-sound c = grind (arith, common_steps)

@@ -183,3 +183,12 @@ add-requires-clause-coefficients c = omega arith
 
 pub invariant_of-self : goal.invariant_of-self
 invariant_of-self c = grind (arith, common_steps)
+
+pub returns-in_ok-added-in-Ok-clause-frame : goal.returns-in_ok-added-in-Ok-clause-frame
+returns-in_ok-added-in-Ok-clause-frame c = grind (arith, common_steps)
+
+pub returns-in-Err-clause-frame : goal.returns-in-Err-clause-frame
+returns-in-Err-clause-frame c = grind (arith, common_steps)
+
+pub returns-in-Err-clause-asked : goal.returns-in-Err-clause-asked
+returns-in-Err-clause-asked c = grind (arith, common_steps)

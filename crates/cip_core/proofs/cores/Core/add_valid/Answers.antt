@@ -58,3 +58,6 @@ returns-clause-later c =
 
 pub add-requires-clause-coefficients : goal.add-requires-clause-coefficients
 add-requires-clause-coefficients c = grind (arith, common_steps)
+
+pub returns-clause-frame : goal.returns-clause-frame
+returns-clause-frame c = grind (arith, common_steps)

@@ -17,3 +17,6 @@ returns-clause-left c =
 
 pub close-requires : goal.close-requires
 close-requires c = grind (arith, common_steps)
+
+pub returns-clause-frame : goal.returns-clause-frame
+returns-clause-frame c = grind (arith, common_steps)

@@ -1,4 +1,5 @@
-use Rattle.std.proofs.Common.{◌≡◌, IfOk, sym, subst}
+use Rattle.std.proofs.lemmas.Grind.{common_steps}
+use Rattle.std.proofs.Common.{◌≡◌, IfOk, sym, subst, arith}
 use Rattle.cip_tree.specs.Nodes.{Nodes, region_of}
 use Rattle.cip_tree.specs.Walks.{IsEntered}
 use Rattle.cip_core.specs.CoreStates.{CoreState, IsTakenUp}
@@ -22,3 +23,6 @@ returns-clause-up c =
     let same : core ≡ c.args.self.now = c.self.view_is in
     let up = subst (λ (o : CoreState). IsTakenUp o c.args.node.now) (sym same) c.requires in
     subst (λ (t : Nodes). IsTakenUp (with_tree core t) c.args.node.now) (sym c.enter.ensures.rest) (up_entered core c.enter.new.self.work c.args.node.now up)
+
+pub returns-clause-frame : goal.returns-clause-frame
+returns-clause-frame c = grind (arith, common_steps)

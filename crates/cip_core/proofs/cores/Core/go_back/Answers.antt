@@ -23,3 +23,6 @@ returns-clause-back c =
 
 pub put_back-requires : goal.put_back-requires
 put_back-requires c = grind (arith, common_steps)
+
+pub returns-clause-frame : goal.returns-clause-frame
+returns-clause-frame c = grind (arith, common_steps)

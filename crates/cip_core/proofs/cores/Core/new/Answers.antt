@@ -28,3 +28,12 @@ rooted_tree-requires-clause-back c = grind (arith, common_steps)
 
 pub rooted_tree-requires-clause-near : goal.rooted_tree-requires-clause-near
 rooted_tree-requires-clause-near c = grind (arith, common_steps)
+
+pub new-requires-2 : goal.new-requires-2
+new-requires-2 c = grind (arith, common_steps)
+
+pub returns-in_default-rooted_tree : goal.returns-in_default-rooted_tree
+returns-in_default-rooted_tree c = grind (arith, common_steps)
+
+pub returns-in_default-new : goal.returns-in_default-new
+returns-in_default-new c = grind (arith, common_steps)

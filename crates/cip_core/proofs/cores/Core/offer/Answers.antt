@@ -81,3 +81,9 @@ invariant_of-self c =
 
 pub offer-answer-requires-clause-values : goal.offer-answer-requires-clause-values
 offer-answer-requires-clause-values c = grind (arith, common_steps)
+
+pub returns-clause-frame : goal.returns-clause-frame
+returns-clause-frame c = grind (arith, common_steps)
+
+pub offer-answer-requires-clause-room : goal.offer-answer-requires-clause-room
+offer-answer-requires-clause-room c = grind (arith, common_steps)

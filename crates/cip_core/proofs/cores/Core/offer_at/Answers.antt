@@ -86,3 +86,6 @@ invariant_of-self c =
 
 pub offer_at-answer-requires : goal.offer_at-answer-requires
 offer_at-answer-requires c = grind (arith, common_steps)
+
+pub returns-clause-frame : goal.returns-clause-frame
+returns-clause-frame c = grind (arith, common_steps)

@@ -14,3 +14,21 @@ returns-in-Err-clause-later c = later_at_itself c.args.self.now c.args.node.now 
 
 pub offer-requires-clause-at_work : goal.offer-requires-clause-at_work
 offer-requires-clause-at_work c = grind (arith, common_steps)
+
+pub returns-in-Err-clause-offered : goal.returns-in-Err-clause-offered
+returns-in-Err-clause-offered c = grind (arith, common_steps)
+
+pub returns-in-Ok-clause-frame : goal.returns-in-Ok-clause-frame
+returns-in-Ok-clause-frame c = grind (arith, common_steps)
+
+pub returns-in-Ok-clause-later : goal.returns-in-Ok-clause-later
+returns-in-Ok-clause-later c = grind (arith, common_steps)
+
+pub returns-in-Err-clause-frame : goal.returns-in-Err-clause-frame
+returns-in-Err-clause-frame c = grind (arith, common_steps)
+
+pub same-self : goal.same-self
+same-self c = grind (arith, common_steps)
+
+pub same-self-in-Ok : goal.same-self-in-Ok
+same-self-in-Ok c = grind (arith, common_steps)

@@ -17,3 +17,6 @@ returns-clause-left c =
 
 pub park-requires : goal.park-requires
 park-requires c = grind (arith, common_steps)
+
+pub returns-clause-frame : goal.returns-clause-frame
+returns-clause-frame c = grind (arith, common_steps)

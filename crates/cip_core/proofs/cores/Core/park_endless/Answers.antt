@@ -17,3 +17,15 @@ returns-clause-later c =
 
 pub park-requires : goal.park-requires
 park-requires c = grind (arith, common_steps)
+
+pub returns-clause-frame : goal.returns-clause-frame
+returns-clause-frame c = grind (arith, common_steps)
+
+pub returns-clause-logged : goal.returns-clause-logged
+returns-clause-logged c = grind (arith, common_steps)
+
+pub returns-clause-entry : goal.returns-clause-entry
+returns-clause-entry c = grind (arith, common_steps)
+
+pub returns-clause-ids : goal.returns-clause-ids
+returns-clause-ids c = grind (arith, common_steps)

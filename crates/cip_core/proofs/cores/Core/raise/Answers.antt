@@ -1,4 +1,5 @@
-use Rattle.std.proofs.Common.{Some, sym, subst}
+use Rattle.std.proofs.lemmas.Grind.{common_steps}
+use Rattle.std.proofs.Common.{Some, sym, subst, arith}
 use Rattle.std.specs.Prelude.{MatchBool}
 use Rattle.cip_rational.specs.Rational.{IsWhole}
 use Rattle.cip_problem.specs.Cuts.{HasWholeCosts}
@@ -47,3 +48,9 @@ returns-else-is_weaker-clause-raised c =
     let test = c.self.inside.whole_costs in
     let whole = subst (λ (o : CoreState). MatchBool test (HasWholeCosts o.reduced) (¬ HasWholeCosts o.reduced)) c.self.view_is c.self.invariant.1.whole in
     raised_to core c.args.bound rounded test c.args.node.now.bound whole c.rounded_bound-rounded.ensures (subst (NoMore (Some rounded)) c.bound.ensures c.if-is_weaker.ensures)
+
+pub returns-then-is_weaker-clause-node : goal.returns-then-is_weaker-clause-node
+returns-then-is_weaker-clause-node c = grind (arith, common_steps)
+
+pub returns-else-is_weaker-clause-node : goal.returns-else-is_weaker-clause-node
+returns-else-is_weaker-clause-node c = grind (arith, common_steps)

@@ -52,3 +52,15 @@ split-requires-clause-wholes c = grind (arith, common_steps)
 
 pub split-requires-clause-work : goal.split-requires-clause-work
 split-requires-clause-work c = grind (arith, common_steps)
+
+pub returns-in-Err-NoMemory-clause-split : goal.returns-in-Err-NoMemory-clause-split
+returns-in-Err-NoMemory-clause-split c = grind (arith, common_steps)
+
+pub returns-in-Ok-clause-frame : goal.returns-in-Ok-clause-frame
+returns-in-Ok-clause-frame c = grind (arith, common_steps)
+
+pub returns-in-Err-NoMemory-clause-frame : goal.returns-in-Err-NoMemory-clause-frame
+returns-in-Err-NoMemory-clause-frame c = grind (arith, common_steps)
+
+pub same-node : goal.same-node
+same-node c = grind (arith, common_steps)

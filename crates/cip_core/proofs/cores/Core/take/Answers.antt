@@ -1,4 +1,5 @@
-use Rattle.std.proofs.Common.{◌≡◌, [], MatchOption, sym, ap, subst}
+use Rattle.std.proofs.lemmas.Grind.{common_steps}
+use Rattle.std.proofs.Common.{◌≡◌, [], MatchOption, sym, ap, subst, arith}
 use Rattle.cip_tree.specs.Nodes.{Nodes}
 use Rattle.cip_tree.specs.Moves.{TakesFirst}
 use Rattle.cip_core.specs.CoreStates.{CoreState, IsKeptIn, IsTakenUp, IsGivenBound}
@@ -18,3 +19,9 @@ returns-clause-given c =
     let tree = c.next.new.self in
     let first = subst (λ (t : Nodes). MatchOption c.next.result ((t.open_ ≡ []) × (tree ≡ t)) (TakesFirst t tree)) (ap (λ (o : CoreState). o.tree) c.self.view_is) c.next.ensures in
     subst (λ (o : CoreState). MatchOption c.next.result (IsKeptIn (with_tree o tree) []) (λ node. IsGivenBound (with_tree o tree) node.number node.bound)) (sym c.self.view_is) (took_given core tree c.next.result first c.requires)
+
+pub returns-clause-frame : goal.returns-clause-frame
+returns-clause-frame c = grind (arith, common_steps)
+
+pub returns-clause-first : goal.returns-clause-first
+returns-clause-first c = grind (arith, common_steps)

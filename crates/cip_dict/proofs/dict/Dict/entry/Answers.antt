@@ -4,3 +4,9 @@ use Rattle.cip_dict.proofs.dict.Dict.entry.Goals as goal
 
 pub returns : goal.returns
 returns c = grind (arith, common_steps)
+
+pub entry-requires : goal.entry-requires
+entry-requires c = grind (arith, common_steps)
+
+pub index-requires : goal.index-requires
+index-requires c = grind (arith, common_steps)

@@ -24,3 +24,15 @@ first_lists-requires-clause-within c = omega arith
 
 pub returns-in-Ok-first_lists : goal.returns-in-Ok-first_lists
 returns-in-Ok-first_lists c = grind (arith, common_steps)
+
+pub first_lists-requires-clause-costs_long : goal.first_lists-requires-clause-costs_long
+first_lists-requires-clause-costs_long c = grind (arith, common_steps)
+
+pub first_lists-requires-clause-stands : goal.first_lists-requires-clause-stands
+first_lists-requires-clause-stands c = grind (arith, common_steps)
+
+pub first_lists-requires-clause-few : goal.first_lists-requires-clause-few
+first_lists-requires-clause-few c = grind (arith, common_steps)
+
+pub overflow_add-n : goal.overflow_add-n
+overflow_add-n c = grind (arith, common_steps)

@@ -1,4 +1,5 @@
-use Rattle.std.proofs.Common.{◌<◌, ◌∙◌, List, ap, sym, subst, length, get_or}
+use Rattle.std.proofs.lemmas.Grind.{common_steps}
+use Rattle.std.proofs.Common.{◌<◌, ◌∙◌, List, ap, sym, subst, length, get_or, arith}
 use Rattle.cip_rational.specs.Rational.{zeroℚ, lt_test}
 use Rattle.cip_dict.specs.SparseLines.{Kept}
 use Rattle.cip_dict.proofs.KeptRows.{row_kept}
@@ -15,3 +16,6 @@ returns-clause-variable c = λ d.
 pub returns-clause-above : goal.returns-clause-above
 returns-clause-above c = λ d.
     c.sign_at.ensures.above d ∙ ap (λ (es : List Kept). lt_test zeroℚ (get_or es c.args.at d).1) (row_kept c.self.inside.sides.items c.self.inside.standing.items c.self.inside.lists c.self.inside.room c.args.self.now c.args.i c.index.result.now c.self.invariant c.self.view_is c.requires.within c.requires.basic c.index.ensures)
+
+pub index-requires : goal.index-requires
+index-requires c = grind (arith, common_steps)

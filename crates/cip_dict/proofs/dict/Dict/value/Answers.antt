@@ -4,3 +4,6 @@ use Rattle.cip_dict.proofs.dict.Dict.value.Goals as goal
 
 pub returns : goal.returns
 returns c = grind (arith, common_steps)
+
+pub index-requires : goal.index-requires
+index-requires c = grind (arith, common_steps)

@@ -1,3 +1,4 @@
+use Rattle.std.proofs.lemmas.Grind.{common_steps}
 use Rattle.std.proofs.Common.{◌≡◌, not, of_z, nat_eq, sym, ap, ◌∙◌, arith}
 use Rattle.std.specs.Int.{w64}
 use Rattle.std.proofs.lemmas.Int.{ints}
@@ -24,3 +25,9 @@ returns-else-self c =
     let entry = rw c.as_slice-else-self.ensures.value at c.entry_of.ensures
     ∙ sym (dense_read c.self.inside.len c.self.inside.entries.items c.args.self.now c.args.k (parted_view c.self.inside.len c.self.inside.is_whole c.self.inside.below c.self.inside.wholes.items c.self.inside.entries.items c.args.self.now c.self.invariant c.self.view_is c.if-self.false) c.requires) in
     ap not c.vanishes.ensures ∙ ap (λ q. not (is_zero q)) entry
+
+pub entry_of-requires : goal.entry_of-requires
+entry_of-requires c = grind (arith, common_steps)
+
+pub number_of-requires-clause-small : goal.number_of-requires-clause-small
+number_of-requires-clause-small c = grind (arith, common_steps)

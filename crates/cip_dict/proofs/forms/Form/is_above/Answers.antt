@@ -25,3 +25,6 @@ returns-else-self c =
 
 pub entry_of-requires : goal.entry_of-requires
 entry_of-requires c = grind (arith, common_steps)
+
+pub number_of-requires-clause-small : goal.number_of-requires-clause-small
+number_of-requires-clause-small c = grind (arith, common_steps)

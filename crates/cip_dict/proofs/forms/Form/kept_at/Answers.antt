@@ -55,3 +55,9 @@ offset_bounds-entries-at c =
     let l = ap length (parted_all c.self.inside.len c.self.inside.is_whole c.self.inside.below c.self.inside.wholes.items c.self.inside.entries.items c.args.self.now c.self.invariant c.self.view_is c.if-self.false) in
     let there : c.args.at < length c.as_slice-entries.result.now = rw c.as_slice-entries.ensures.value (omega (arith, l, c.requires)) in
     grind (arith, common_steps)
+
+pub fraction-requires-clause-positive : goal.fraction-requires-clause-positive
+fraction-requires-clause-positive c = grind (arith, common_steps)
+
+pub fraction-requires-clause-small : goal.fraction-requires-clause-small
+fraction-requires-clause-small c = grind (arith, common_steps)

@@ -46,3 +46,9 @@ returns c =
     (λ h. parted_dense c.self.inside.len c.self.inside.is_whole c.self.inside.below c.self.inside.wholes.items c.put_entry-2.new.entries.items c.if-self.false _
     (dense_set c.self.inside.len c.args.k c.args.entry c.self.inside.entries.items c.put_entry-2.new.entries.items (omega (arith, n, c.requires)) h
     ∙ ap (λ xs. set xs c.args.k c.args.entry) (parted_view c.self.inside.len c.self.inside.is_whole c.self.inside.below c.self.inside.wholes.items c.self.inside.entries.items c.args.self.now c.self.invariant c.self.view_is c.if-self.false)))
+
+pub invariant_of-self-in_err-put_entry : goal.invariant_of-self-in_err-put_entry
+invariant_of-self-in_err-put_entry c = grind (arith, common_steps)
+
+pub spell_wholes-requires : goal.spell_wholes-requires
+spell_wholes-requires c = grind (arith, common_steps)

@@ -16,3 +16,9 @@ returns c = grind (arith, common_steps)
 
 pub returns-then-not-branch : goal.returns-then-not-branch
 returns-then-not-branch c = grind (arith, common_steps)
+
+pub settle_entries-requires-clause-positive : goal.settle_entries-requires-clause-positive
+settle_entries-requires-clause-positive c = grind (arith, common_steps)
+
+pub settle_entries-requires-clause-small : goal.settle_entries-requires-clause-small
+settle_entries-requires-clause-small c = grind (arith, common_steps)

@@ -14,3 +14,6 @@ pub returns-else-self : goal.returns-else-self
 returns-else-self c =
     on_ok c.extend_from_slice.result _ _ (grind (arith, common_steps))
     (λ e. spelled_as c.self.inside.len c.self.inside.entries.items c.args.self.now (parted_kept c.self.inside.len c.self.inside.is_whole c.self.inside.below c.self.inside.wholes.items c.self.inside.entries.items c.args.self.now c.self.invariant c.self.view_is c.if-self.false) (parted_view c.self.inside.len c.self.inside.is_whole c.self.inside.below c.self.inside.wholes.items c.self.inside.entries.items c.args.self.now c.self.invariant c.self.view_is c.if-self.false) c.extend_from_slice.new.self.items e)
+
+pub spell_wholes-requires : goal.spell_wholes-requires
+spell_wholes-requires c = grind (arith, common_steps)

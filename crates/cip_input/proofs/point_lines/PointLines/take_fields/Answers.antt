@@ -7,3 +7,15 @@ returns-in-None-clause-taken c = grind (arith, common_steps)
 
 pub returns-in-Some-clause-taken : goal.returns-in-Some-clause-taken
 returns-in-Some-clause-taken c = grind (arith, common_steps)
+
+pub returns-in-Some-clause-same : goal.returns-in-Some-clause-same
+returns-in-Some-clause-same c = grind (arith, common_steps)
+
+pub returns-in-Some-clause-kinds : goal.returns-in-Some-clause-kinds
+returns-in-Some-clause-kinds c = grind (arith, common_steps)
+
+pub returns-in-None-clause-kinds : goal.returns-in-None-clause-kinds
+returns-in-None-clause-kinds c = grind (arith, common_steps)
+
+pub returns-in-None-clause-same : goal.returns-in-None-clause-same
+returns-in-None-clause-same c = grind (arith, common_steps)

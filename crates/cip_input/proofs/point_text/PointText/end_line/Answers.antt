@@ -14,3 +14,21 @@ end_line-requires c = grind (arith, common_steps)
 
 pub returns-clause-size : goal.returns-clause-size
 returns-clause-size c = grind (arith, common_steps)
+
+pub invariant_of-self-2 : goal.invariant_of-self-2
+invariant_of-self-2 c = grind (arith, common_steps)
+
+pub returns-clause-same : goal.returns-clause-same
+returns-clause-same c = grind (arith, common_steps)
+
+pub invariant_of-self : goal.invariant_of-self
+invariant_of-self c = grind (arith, common_steps)
+
+pub keep-requires-clause-no_feed : goal.keep-requires-clause-no_feed
+keep-requires-clause-no_feed c = grind (arith, common_steps)
+
+pub returns-in_err-keep-clause-same : goal.returns-in_err-keep-clause-same
+returns-in_err-keep-clause-same c = grind (arith, common_steps)
+
+pub keep-requires-clause-few : goal.keep-requires-clause-few
+keep-requires-clause-few c = grind (arith, common_steps)

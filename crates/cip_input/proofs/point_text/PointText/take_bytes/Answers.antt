@@ -43,3 +43,18 @@ loop-tail-init c = grind (arith, common_steps)
 
 pub loop-tail-smaller : goal.loop-tail-smaller
 loop-tail-smaller c = grind (arith, common_steps)
+
+pub returns-in_err-end_line-clause-same : goal.returns-in_err-end_line-clause-same
+returns-in_err-end_line-clause-same c = grind (arith, common_steps)
+
+pub returns-clause-same : goal.returns-clause-same
+returns-clause-same c = grind (arith, common_steps)
+
+pub invariant_of-self : goal.invariant_of-self
+invariant_of-self c = grind (arith, common_steps)
+
+pub end_line-requires-clause-no_feed : goal.end_line-requires-clause-no_feed
+end_line-requires-clause-no_feed c = grind (arith, common_steps)
+
+pub keep-requires-clause-few : goal.keep-requires-clause-few
+keep-requires-clause-few c = grind (arith, common_steps)

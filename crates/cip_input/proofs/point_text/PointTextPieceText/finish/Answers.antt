@@ -7,3 +7,9 @@ returns c = grind (arith, common_steps)
 
 pub returns-in-Err : goal.returns-in-Err
 returns-in-Err c = grind (arith, common_steps)
+
+pub close-requires : goal.close-requires
+close-requires c = grind (arith, common_steps)
+
+pub told-requires : goal.told-requires
+told-requires c = grind (arith, common_steps)

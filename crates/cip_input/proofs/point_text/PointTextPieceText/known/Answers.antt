@@ -1,4 +1,5 @@
-use Rattle.std.proofs.Common.{subst}
+use Rattle.std.proofs.lemmas.Grind.{common_steps}
+use Rattle.std.proofs.Common.{subst, arith}
 use Rattle.cip_text.specs.TextFaults.{IsSaid}
 use Rattle.cip_text.proofs.FaultsTold.{told_by}
 use Rattle.cip_text_rules.specs.PointRules.{point_reading}
@@ -11,3 +12,6 @@ returns c = λ bytes h.
     let text = c.args.self.now in
     let law = c.point_faults_of_ended_lines.ensures (program_of text) c.names_stand_once.ensures in
     told_by (point_reading (program_of text)) (steps_of text) law bytes (kept_of text) (values_of text) h kind_number c.told.result (subst (λ known. IsSaid kind_number known c.told.result) c.known_fault.ensures.fault c.told.ensures)
+
+pub told-requires : goal.told-requires
+told-requires c = grind (arith, common_steps)

@@ -19,3 +19,6 @@ returns-clause-reads c = λ text h.
 
 pub take_bytes-requires : goal.take_bytes-requires
 take_bytes-requires c = grind (arith, common_steps)
+
+pub returns-clause-same : goal.returns-clause-same
+returns-clause-same c = grind (arith, common_steps)

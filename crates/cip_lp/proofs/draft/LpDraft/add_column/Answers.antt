@@ -28,3 +28,9 @@ returns-clause-ok c =
 
 pub returns-clause-number : goal.returns-clause-number
 returns-clause-number c = grind (arith, common_steps)
+
+pub put_column-requires : goal.put_column-requires
+put_column-requires c = grind (arith, common_steps)
+
+pub overflow_cast-number : goal.overflow_cast-number
+overflow_cast-number c = grind (arith, common_steps)

@@ -45,3 +45,21 @@ invariant_of-self c = grind (arith, common_steps)
 
 pub make_column-requires-clause-quiet : goal.make_column-requires-clause-quiet
 make_column-requires-clause-quiet c = grind (arith, common_steps)
+
+pub make_column-requires-clause-column : goal.make_column-requires-clause-column
+make_column-requires-clause-column c = grind (arith, common_steps)
+
+pub make_column-requires-clause-small : goal.make_column-requires-clause-small
+make_column-requires-clause-small c = grind (arith, common_steps)
+
+pub term_fault-fault-requires-clause-column : goal.term_fault-fault-requires-clause-column
+term_fault-fault-requires-clause-column c = grind (arith, common_steps)
+
+pub term_fault-fault-requires-clause-small : goal.term_fault-fault-requires-clause-small
+term_fault-fault-requires-clause-small c = grind (arith, common_steps)
+
+pub returns-in_default-put : goal.returns-in_default-put
+returns-in_default-put c = grind (arith, common_steps)
+
+pub returns-in_default : goal.returns-in_default
+returns-in_default c = grind (arith, common_steps)

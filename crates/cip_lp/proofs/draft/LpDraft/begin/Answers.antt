@@ -1,4 +1,5 @@
-use Rattle.std.proofs.Common.{◌≡◌, ℕ, List, Some, None, sym, ap, subst, ◌∙◌}
+use Rattle.std.proofs.lemmas.Grind.{common_steps}
+use Rattle.std.proofs.Common.{◌≡◌, ℕ, List, Some, None, sym, ap, subst, ◌∙◌, arith}
 use Rattle.cip_text_rules.specs.LpPlaces.{Begins}
 use Rattle.cip_text_rules.specs.LpFacts.{LpFacts, event_fault}
 use Rattle.cip_lp.specs.LpDrafts.{facts_in}
@@ -16,3 +17,6 @@ invariant_of-self c =
     let kind = c.begin_fault-fault.ensures.kind ∙ ap (λ (name : List ℕ). event_fault c.args.self.now (Begins (Some name))) c.as_slice.ensures.value in
     let none : event_fault c.args.self.now event ≡ None = no_fault c.begin_fault-fault.result _ (sym c.is_some.ensures ∙ c.if-is_some.false) kind in
     kept_with (facts_in c.self.inside) event c.self.invariant (subst (λ (f : LpFacts). event_fault f event ≡ None) (sym c.self.view_is) none)
+
+pub same-self : goal.same-self
+same-self c = grind (arith, common_steps)

@@ -22,3 +22,12 @@ put_row-requires c = grind (arith, common_steps)
 
 pub returns-in_default : goal.returns-in_default
 returns-in_default c = grind (arith, common_steps)
+
+pub invariant_of-self : goal.invariant_of-self
+invariant_of-self c = grind (arith, common_steps)
+
+pub take_row-requires : goal.take_row-requires
+take_row-requires c = grind (arith, common_steps)
+
+pub returns-in_default-take_row : goal.returns-in_default-take_row
+returns-in_default-take_row c = grind (arith, common_steps)

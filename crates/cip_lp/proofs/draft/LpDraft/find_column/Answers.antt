@@ -8,3 +8,6 @@ returns-clause-small c = small_number c.find_near.result (length c.self.inside.c
 
 pub returns-clause-within : goal.returns-clause-within
 returns-clause-within c = grind (arith, common_steps)
+
+pub returns-clause-number : goal.returns-clause-number
+returns-clause-number c = grind (arith, common_steps)

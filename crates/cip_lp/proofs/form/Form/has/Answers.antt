@@ -1,4 +1,5 @@
-use Rattle.std.proofs.Common.{◌≡◌, ◌==◌, ℕ, List, Option, None, Some, length, slice_get, refl, sym, ap, ◌∙◌}
+use Rattle.std.proofs.lemmas.Grind.{common_steps}
+use Rattle.std.proofs.Common.{◌≡◌, ◌==◌, ℕ, List, Option, None, Some, length, slice_get, refl, sym, ap, ◌∙◌, arith}
 use Rattle.std.proofs.lemmas.Option.{slice_get_read, slice_get_past}
 use Rattle.cip_text_rules.specs.LpFacts.{FormTerm}
 use Rattle.cip_lp.specs.LpForms.{is_of}
@@ -36,3 +37,9 @@ returns-in-Some-get c =
     ∙ slice_get_read c.as_slice-in-Some.result.now (length c.as_slice-in-Some.result.now) place term refl c.in-Some-get.ensures.lookup.3.0 (c.in-Some-get.ensures.lookup.3.1 term) in
     ap (λ (t : FormTerm). t.column == c.args.column) c.term.view_is ∙ ap (λ (o : Option FormTerm). is_of o c.args.column) (sym there)
     ∙ found_at terms places c.args.column c.args.self.now (Some place) c.self.invariant c.self.view_is kept
+
+pub get-requires-in-Some : goal.get-requires-in-Some
+get-requires-in-Some c = grind (arith, common_steps)
+
+pub get-requires : goal.get-requires
+get-requires c = grind (arith, common_steps)

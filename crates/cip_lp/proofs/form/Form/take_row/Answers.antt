@@ -28,3 +28,6 @@ returns-clause-row c =
     sorted_form terms c.sort_unstable_by_key.new.self.items rises c.sort_unstable_by_key.ensures.permutation
     (IsNonDecreasingBy-from_sort_by_key (λ (t : FormTerm). t.column) _ c.sort_unstable_by_key.ensures.sorted (λ a r q k. search rules)) in
     subst (λ (form : List FormTerm). IfOk c.row_of-row.result (λ row. row ≡ record { terms = terms_of form; low = c.args.low; high = c.args.high })) (c.as_slice.ensures.value ∙ sorted ∙ c.self.view_is) c.row_of-row.ensures
+
+pub invariant_of-self : goal.invariant_of-self
+invariant_of-self c = grind (arith, common_steps)

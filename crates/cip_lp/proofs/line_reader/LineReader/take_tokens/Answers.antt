@@ -36,3 +36,6 @@ loop-token-smaller c = grind (arith, common_steps)
 
 pub returns-then-is_some-clause-kinds : goal.returns-then-is_some-clause-kinds
 returns-then-is_some-clause-kinds c = grind (arith, common_steps)
+
+pub returns-clause-kinds : goal.returns-clause-kinds
+returns-clause-kinds c = grind (arith, common_steps)

@@ -16,3 +16,12 @@ returns c = grind (arith, common_steps)
 
 pub returns-in_err-answer-2 : goal.returns-in_err-answer-2
 returns-in_err-answer-2 c = grind (arith, common_steps)
+
+pub close-requires : goal.close-requires
+close-requires c = grind (arith, common_steps)
+
+pub answer-requires-2 : goal.answer-requires-2
+answer-requires-2 c = grind (arith, common_steps)
+
+pub answer-requires : goal.answer-requires
+answer-requires c = grind (arith, common_steps)

@@ -4,3 +4,12 @@ use Rattle.cip_lp.proofs.lp_text.LpText.in_comment.Goals as goal
 
 pub bounds-0 : goal.bounds-0
 bounds-0 c = grind (arith, common_steps)
+
+pub returns-in_default-2 : goal.returns-in_default-2
+returns-in_default-2 c = grind (arith, common_steps)
+
+pub returns-in-92 : goal.returns-in-92
+returns-in-92 c = grind (arith, common_steps)
+
+pub returns-in_default : goal.returns-in_default
+returns-in_default c = grind (arith, common_steps)

@@ -1,4 +1,5 @@
-use Rattle.std.proofs.Common.{ℕ, ◌+◌, List, [], ◌∷◌, ◌++◌, false, ap, sym, ◌∙◌}
+use Rattle.std.proofs.lemmas.Grind.{common_steps}
+use Rattle.std.proofs.Common.{ℕ, ◌+◌, List, [], ◌∷◌, ◌++◌, false, ap, sym, ◌∙◌, arith}
 use Rattle.cip_text_rules.specs.LpBytes.{part_read}
 use Rattle.cip_lp.specs.LpTexts.{stage_of, bytes_of}
 use Rattle.cip_lp.proofs.LpAnswers.{moved}
@@ -26,3 +27,24 @@ returns c =
     let now = c.args.self.now in
     put_longer now.fault (bytes_of now) c.args.byte _ c.requires.going (sym c.in_comment.ensures ∙ c.if-in_comment.false) (sym c.is_cut.ensures ∙ c.if-is_cut.false) c.in_ok-push-2.ensures.items
     ∙ taken_put now.fault (bytes_of now) c.args.byte c.requires.going c.requires.few c.requires.other
+
+pub invariant_of-self-then-is_cut : goal.invariant_of-self-then-is_cut
+invariant_of-self-then-is_cut c = grind (arith, common_steps)
+
+pub overflow_add-self-then-is_cut : goal.overflow_add-self-then-is_cut
+overflow_add-self-then-is_cut c = grind (arith, common_steps)
+
+pub invariant_of-self-2 : goal.invariant_of-self-2
+invariant_of-self-2 c = grind (arith, common_steps)
+
+pub overflow_add-self-2 : goal.overflow_add-self-2
+overflow_add-self-2 c = grind (arith, common_steps)
+
+pub overflow_add-self : goal.overflow_add-self
+overflow_add-self c = grind (arith, common_steps)
+
+pub invariant_of-self : goal.invariant_of-self
+invariant_of-self c = grind (arith, common_steps)
+
+pub read_rest-requires : goal.read_rest-requires
+read_rest-requires c = grind (arith, common_steps)

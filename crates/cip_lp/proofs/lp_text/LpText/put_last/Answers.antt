@@ -35,3 +35,6 @@ invariant_of-self c = grind (arith, common_steps)
 
 pub overflow_add-self : goal.overflow_add-self
 overflow_add-self c = omega arith
+
+pub read_rest-requires : goal.read_rest-requires
+read_rest-requires c = grind (arith, common_steps)

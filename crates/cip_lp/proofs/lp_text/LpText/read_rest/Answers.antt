@@ -26,3 +26,21 @@ invariant_of-self-2 c = grind (arith, common_steps)
 
 pub returns-clause-rest : goal.returns-clause-rest
 returns-clause-rest c = grind (arith, common_steps)
+
+pub returns-clause-size : goal.returns-clause-size
+returns-clause-size c = grind (arith, common_steps)
+
+pub returns-clause-ended : goal.returns-clause-ended
+returns-clause-ended c = grind (arith, common_steps)
+
+pub invariant_of-self : goal.invariant_of-self
+invariant_of-self c = grind (arith, common_steps)
+
+pub overflow_add-self : goal.overflow_add-self
+overflow_add-self c = grind (arith, common_steps)
+
+pub returns-in_err-kind-clause-size : goal.returns-in_err-kind-clause-size
+returns-in_err-kind-clause-size c = grind (arith, common_steps)
+
+pub returns-in_err-kind-clause-ended : goal.returns-in_err-kind-clause-ended
+returns-in_err-kind-clause-ended c = grind (arith, common_steps)

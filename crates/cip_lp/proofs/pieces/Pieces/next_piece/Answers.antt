@@ -15,3 +15,12 @@ bounds-rest-0 c = omega arith
 
 pub cut_first-requires : goal.cut_first-requires
 cut_first-requires c = grind (arith, common_steps)
+
+pub slice_bounds-behind-count : goal.slice_bounds-behind-count
+slice_bounds-behind-count c = grind (arith, common_steps)
+
+pub slice_bounds-behind-start : goal.slice_bounds-behind-start
+slice_bounds-behind-start c = grind (arith, common_steps)
+
+pub returns-in-empty : goal.returns-in-empty
+returns-in-empty c = grind (arith, common_steps)

@@ -1,3 +1,4 @@
+use Rattle.std.proofs.lemmas.Grind.{common_steps}
 use Rattle.std.proofs.Common.{◌+◌, Bool, List, length, refl, ap, sym, ◌∙◌, arith}
 use Rattle.std.specs.Prelude.{not, if◌then◌else◌}
 use Rattle.std.specs.List.{filter, list_all}
@@ -71,3 +72,6 @@ returns-else-not-is_free_kind c =
     let e = c.in_ok-put_row.ensures.ok in
     let count = ap (λ (b : Bool). if b then old.row_count else old.row_count + 1) c.if-not-is_free_kind.ensures in
     λ i. record (kept old) { row_names = e.1 i; rows = e.0 i; row_count = count i }
+
+pub put_row-requires : goal.put_row-requires
+put_row-requires c = grind (arith, common_steps)

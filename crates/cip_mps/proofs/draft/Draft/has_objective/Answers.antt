@@ -1,4 +1,5 @@
-use Rattle.std.proofs.Common.{ap, sym, ◌∙◌, refl}
+use Rattle.std.proofs.lemmas.Grind.{common_steps}
+use Rattle.std.proofs.Common.{ap, sym, ◌∙◌, refl, arith}
 use Rattle.cip_text_rules.specs.MpsProgram.{is_free}
 use Rattle.cip_text_rules.specs.MpsState.{RowRead, no_row}
 use Rattle.std.proofs.lemmas.List.Folds.{list_any_at}
@@ -21,3 +22,6 @@ loop-number-preserved c =
     let rows = c.args.self.now.rows in
     none_at (λ (row : RowRead). is_free row.kind) rows rows c.loop-number.number no_row refl (rw c.len-number-end.ensures at c.loop-number-test.true) c.loop-number.invariant
     (sym (ap is_free c.head.ensures.kind) ∙ sym c.is_free.ensures ∙ c.if-is_free.false)
+
+pub head-requires : goal.head-requires
+head-requires c = grind (arith, common_steps)

@@ -42,3 +42,9 @@ returns-in-None c =
 
 pub hold-requires-clause-within : goal.hold-requires-clause-within
 hold-requires-clause-within c = grind (arith, common_steps)
+
+pub hold-requires-clause-few : goal.hold-requires-clause-few
+hold-requires-clause-few c = grind (arith, common_steps)
+
+pub hold-requires-clause-behind : goal.hold-requires-clause-behind
+hold-requires-clause-behind c = grind (arith, common_steps)

@@ -54,3 +54,9 @@ hold-requires-in-Some-clause-is_column c =
 
 pub hold-requires-clause-within : goal.hold-requires-clause-within
 hold-requires-clause-within c = grind (arith, common_steps)
+
+pub hold-requires-clause-is_column : goal.hold-requires-clause-is_column
+hold-requires-clause-is_column c = grind (arith, common_steps)
+
+pub hold-requires-clause-open : goal.hold-requires-clause-open
+hold-requires-clause-open c = grind (arith, common_steps)

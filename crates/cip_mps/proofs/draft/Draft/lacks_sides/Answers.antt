@@ -1,4 +1,5 @@
-use Rattle.std.proofs.Common.{ap, sym, ◌∙◌}
+use Rattle.std.proofs.lemmas.Grind.{common_steps}
+use Rattle.std.proofs.Common.{ap, sym, ◌∙◌, arith}
 use Rattle.std.specs.List.{list_any}
 use Rattle.cip_text_rules.specs.MpsBounds.{Bounded, settled, lacks_sides}
 use Rattle.std.proofs.lemmas.List.Folds.{list_any_at}
@@ -22,3 +23,6 @@ loop-column-preserved c =
     let lacks = λ (column : Bounded). lacks_sides (settled column) in
     none_at lacks c.args.self.now.columns.items c.deref-column-items.result.now c.loop-column.column-index c.column-item.result c.deref-column-items.ensures.value c.loop-column-test.true c.loop-column.invariant
     (sym (ap lacks c.column-item.is) ∙ sym c.lacks_sides.ensures ∙ c.if-lacks_sides.false)
+
+pub offset_bounds-column-items-column-index : goal.offset_bounds-column-items-column-index
+offset_bounds-column-items-column-index c = grind (arith, common_steps)

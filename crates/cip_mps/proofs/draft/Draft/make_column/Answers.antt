@@ -45,3 +45,36 @@ returns-clause-state c = grind (arith, common_steps)
 
 pub returns-in-Some-clause-state : goal.returns-in-Some-clause-state
 returns-in-Some-clause-state c = grind (arith, common_steps)
+
+pub add-requires : goal.add-requires
+add-requires c = grind (arith, common_steps)
+
+pub push_reserved-requires : goal.push_reserved-requires
+push_reserved-requires c = grind (arith, common_steps)
+
+pub overflow_cast-result : goal.overflow_cast-result
+overflow_cast-result c = grind (arith, common_steps)
+
+pub returns-in-Some-clause-number : goal.returns-in-Some-clause-number
+returns-in-Some-clause-number c = grind (arith, common_steps)
+
+pub returns-in_default-reserve-clause-state : goal.returns-in_default-reserve-clause-state
+returns-in_default-reserve-clause-state c = grind (arith, common_steps)
+
+pub returns-in_default-reserve-clause-number : goal.returns-in_default-reserve-clause-number
+returns-in_default-reserve-clause-number c = grind (arith, common_steps)
+
+pub returns-in_default-add-clause-state : goal.returns-in_default-add-clause-state
+returns-in_default-add-clause-state c = grind (arith, common_steps)
+
+pub returns-in_default-add-clause-number : goal.returns-in_default-add-clause-number
+returns-in_default-add-clause-number c = grind (arith, common_steps)
+
+pub overflow_cast-number : goal.overflow_cast-number
+overflow_cast-number c = grind (arith, common_steps)
+
+pub returns-in_default-to_vec-clause-state : goal.returns-in_default-to_vec-clause-state
+returns-in_default-to_vec-clause-state c = grind (arith, common_steps)
+
+pub returns-in_default-to_vec-clause-number : goal.returns-in_default-to_vec-clause-number
+returns-in_default-to_vec-clause-number c = grind (arith, common_steps)

@@ -1,3 +1,4 @@
+use Rattle.std.proofs.lemmas.Grind.{common_steps}
 use Rattle.cip_mps.specs.FoundRows.{AreFound}
 use Rattle.cip_text_rules.specs.MpsSayings.{ColumnLine}
 use Rattle.cip_mps.proofs.RowLaws.{next_within}
@@ -66,3 +67,24 @@ hold_values-requires-clause-found c =
 
 pub invariant_of-self-clause-rows_named : goal.invariant_of-self-clause-rows_named
 invariant_of-self-clause-rows_named c = omega arith
+
+pub invariant_of-self-clause-few_columns : goal.invariant_of-self-clause-few_columns
+invariant_of-self-clause-few_columns c = grind (arith, common_steps)
+
+pub invariant_of-self-clause-few_rows : goal.invariant_of-self-clause-few_rows
+invariant_of-self-clause-few_rows c = grind (arith, common_steps)
+
+pub overflow_add-self : goal.overflow_add-self
+overflow_add-self c = grind (arith, common_steps)
+
+pub invariant_of-self-clause-rows_counted : goal.invariant_of-self-clause-rows_counted
+invariant_of-self-clause-rows_counted c = grind (arith, common_steps)
+
+pub invariant_of-self-clause-columns_named : goal.invariant_of-self-clause-columns_named
+invariant_of-self-clause-columns_named c = grind (arith, common_steps)
+
+pub make_column-requires-clause-within : goal.make_column-requires-clause-within
+make_column-requires-clause-within c = grind (arith, common_steps)
+
+pub make_column-requires-clause-column : goal.make_column-requires-clause-column
+make_column-requires-clause-column c = grind (arith, common_steps)

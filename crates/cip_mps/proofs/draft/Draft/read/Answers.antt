@@ -1,4 +1,5 @@
-use Rattle.std.proofs.Common.{refl, sym, subst}
+use Rattle.std.proofs.lemmas.Grind.{common_steps}
+use Rattle.std.proofs.Common.{refl, sym, subst, arith}
 use Rattle.std.specs.Prelude.{IfOk, None, Some}
 use Rattle.cip_mps_lines.specs.MpsLines.{saying_of}
 use Rattle.cip_mps_lines.specs.declared.line.Line.{Line}
@@ -65,3 +66,21 @@ returns-in-RangeLine c = subst (λ (line : Line). IsStep (kept c.args.self.now) 
 
 pub returns-in-BoundLine : goal.returns-in-BoundLine
 returns-in-BoundLine c = subst (λ (line : Line). IsStep (kept c.args.self.now) (kept c.read_bound.new.self) (saying_of line) c.read_bound.result) (sym c.in-BoundLine.is) c.read_bound.ensures
+
+pub slice_bounds-read_bound-end-in-BoundLine : goal.slice_bounds-read_bound-end-in-BoundLine
+slice_bounds-read_bound-end-in-BoundLine c = grind (arith, common_steps)
+
+pub slice_bounds-read_bound-end : goal.slice_bounds-read_bound-end
+slice_bounds-read_bound-end c = grind (arith, common_steps)
+
+pub slice_bounds-read_ranges-end : goal.slice_bounds-read_ranges-end
+slice_bounds-read_ranges-end c = grind (arith, common_steps)
+
+pub slice_bounds-read_column-end : goal.slice_bounds-read_column-end
+slice_bounds-read_column-end c = grind (arith, common_steps)
+
+pub slice_bounds-read_right_sides-end : goal.slice_bounds-read_right_sides-end
+slice_bounds-read_right_sides-end c = grind (arith, common_steps)
+
+pub slice_bounds-read_row-end : goal.slice_bounds-read_row-end
+slice_bounds-read_row-end c = grind (arith, common_steps)

@@ -49,3 +49,9 @@ returns-else-is_none c =
 
 pub invariant_of-self : goal.invariant_of-self
 invariant_of-self c = grind (arith, common_steps)
+
+pub index_mut-column-requires : goal.index_mut-column-requires
+index_mut-column-requires c = grind (arith, common_steps)
+
+pub bound_fault-fault-requires : goal.bound_fault-fault-requires
+bound_fault-fault-requires c = grind (arith, common_steps)

@@ -48,3 +48,12 @@ put_column-requires-clause-rows c = grind (arith, common_steps)
 
 pub put_column-requires-clause-within : goal.put_column-requires-clause-within
 put_column-requires-clause-within c = grind (arith, common_steps)
+
+pub column_fault-fault-requires-clause-column : goal.column_fault-fault-requires-clause-column
+column_fault-fault-requires-clause-column c = grind (arith, common_steps)
+
+pub column_fault-fault-requires-clause-rows : goal.column_fault-fault-requires-clause-rows
+column_fault-fault-requires-clause-rows c = grind (arith, common_steps)
+
+pub column_fault-fault-requires-clause-within : goal.column_fault-fault-requires-clause-within
+column_fault-fault-requires-clause-within c = grind (arith, common_steps)

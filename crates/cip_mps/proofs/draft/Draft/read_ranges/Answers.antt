@@ -1,6 +1,7 @@
+use Rattle.std.proofs.lemmas.Grind.{common_steps}
 use Rattle.std.specs.Prelude.{IfSome}
 use Rattle.cip_text_rules.specs.MpsSayings.{RangeLine}
-use Rattle.std.proofs.Common.{◌≡◌, false, ap, Option, None, ◌∷◌, [], subst, sym, ◌∙◌, List, ℕ, ◌<◌, length}
+use Rattle.std.proofs.Common.{◌≡◌, false, ap, Option, None, ◌∷◌, [], subst, sym, ◌∙◌, List, ℕ, ◌<◌, length, arith}
 use Rattle.std.specs.Str.{bytes_eq}
 use Rattle.cip_rational.specs.Rational.{ℚ}
 use Rattle.cip_mps_lines.specs.MpsLines.{value_in, second_in, values_of}
@@ -73,3 +74,6 @@ set_range-requires-in-Some-clause-within c =
 pub set_range-requires-clause-within : goal.set_range-requires-clause-within
 set_range-requires-clause-within c =
     subst (λ (n : ℕ). IfSome c.find_rows-rows.result.first (λ number. number < n)) (sym c.args.self.now.rows_named) c.find_rows-rows.ensures.first_within
+
+pub range_fault-fault-requires : goal.range_fault-fault-requires
+range_fault-fault-requires c = grind (arith, common_steps)

@@ -1,6 +1,7 @@
+use Rattle.std.proofs.lemmas.Grind.{common_steps}
 use Rattle.std.specs.Prelude.{IfSome}
 use Rattle.cip_text_rules.specs.MpsSayings.{RightSideLine}
-use Rattle.std.proofs.Common.{◌≡◌, false, ap, Option, None, ◌∷◌, [], subst, sym, ◌∙◌, List, ℕ, ◌<◌, length}
+use Rattle.std.proofs.Common.{◌≡◌, false, ap, Option, None, ◌∷◌, [], subst, sym, ◌∙◌, List, ℕ, ◌<◌, length, arith}
 use Rattle.std.specs.Str.{bytes_eq}
 use Rattle.cip_rational.specs.Rational.{ℚ}
 use Rattle.cip_mps_lines.specs.MpsLines.{value_in, second_in, values_of}
@@ -73,3 +74,6 @@ pub set_right_side-requires-in-Some-clause-within : goal.set_right_side-requires
 set_right_side-requires-in-Some-clause-within c =
     let new = c.set_right_side.new.self in
     subst (λ (n : ℕ). IfSome c.find_rows-rows.result.second (λ number. number < n)) (sym (new.rows_named ∙ ap (λ (s : State). length s.row_names) c.set_right_side.ensures)) c.find_rows-rows.ensures.second_within
+
+pub right_side_fault-fault-requires : goal.right_side_fault-fault-requires
+right_side_fault-fault-requires c = grind (arith, common_steps)

@@ -41,3 +41,6 @@ returns-in_default c =
 
 pub set_range-requires-clause-within : goal.set_range-requires-clause-within
 set_range-requires-clause-within c = grind (arith, common_steps)
+
+pub set_range-requires-clause-fits : goal.set_range-requires-clause-fits
+set_range-requires-clause-fits c = grind (arith, common_steps)

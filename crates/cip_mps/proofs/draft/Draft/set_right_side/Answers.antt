@@ -41,3 +41,6 @@ returns-in_default c =
 
 pub set_right_side-requires-clause-within : goal.set_right_side-requires-clause-within
 set_right_side-requires-clause-within c = grind (arith, common_steps)
+
+pub set_right_side-requires-clause-fits : goal.set_right_side-requires-clause-fits
+set_right_side-requires-clause-fits c = grind (arith, common_steps)

@@ -10,3 +10,12 @@ returns-in-Some-clause-read c = grind (arith, common_steps)
 
 pub returns-then-self-clause-read : goal.returns-then-self-clause-read
 returns-then-self-clause-read c = grind (arith, common_steps)
+
+pub returns-in-Some-clause-kinds : goal.returns-in-Some-clause-kinds
+returns-in-Some-clause-kinds c = grind (arith, common_steps)
+
+pub returns-in-None-clause-kinds : goal.returns-in-None-clause-kinds
+returns-in-None-clause-kinds c = grind (arith, common_steps)
+
+pub returns-then-self-clause-kinds : goal.returns-then-self-clause-kinds
+returns-then-self-clause-kinds c = grind (arith, common_steps)

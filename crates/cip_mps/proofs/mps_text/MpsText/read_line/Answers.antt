@@ -23,3 +23,24 @@ returns-then-has_bytes-clause-read c = grind (arith, common_steps)
 
 pub returns-then-has_bytes-clause-size : goal.returns-then-has_bytes-clause-size
 returns-then-has_bytes-clause-size c = grind (arith, common_steps)
+
+pub invariant_of-self-in-Some : goal.invariant_of-self-in-Some
+invariant_of-self-in-Some c = grind (arith, common_steps)
+
+pub returns-in-None-clause-kept : goal.returns-in-None-clause-kept
+returns-in-None-clause-kept c = grind (arith, common_steps)
+
+pub returns-then-has_bytes-clause-kinds : goal.returns-then-has_bytes-clause-kinds
+returns-then-has_bytes-clause-kinds c = grind (arith, common_steps)
+
+pub returns-in-Some-clause-kinds : goal.returns-in-Some-clause-kinds
+returns-in-Some-clause-kinds c = grind (arith, common_steps)
+
+pub invariant_of-self : goal.invariant_of-self
+invariant_of-self c = grind (arith, common_steps)
+
+pub returns-in-None-clause-kinds : goal.returns-in-None-clause-kinds
+returns-in-None-clause-kinds c = grind (arith, common_steps)
+
+pub returns-in-None-clause-size : goal.returns-in-None-clause-size
+returns-in-None-clause-size c = grind (arith, common_steps)

@@ -61,3 +61,12 @@ returns-clause-reads c = λ bytes h.
 
 pub loop-tail-smaller : goal.loop-tail-smaller
 loop-tail-smaller c = omega (arith, ap length c.in-Some.ensures.0, length-append c.in-Some.tail.now (10 ∷ c.in-Some.behind.now))
+
+pub invariant_of-self-2 : goal.invariant_of-self-2
+invariant_of-self-2 c = grind (arith, common_steps)
+
+pub read_line-requires : goal.read_line-requires
+read_line-requires c = grind (arith, common_steps)
+
+pub keep-requires-clause-few : goal.keep-requires-clause-few
+keep-requires-clause-few c = grind (arith, common_steps)

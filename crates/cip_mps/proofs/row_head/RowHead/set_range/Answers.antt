@@ -4,3 +4,6 @@ use Rattle.cip_mps.proofs.row_head.RowHead.set_range.Goals as goal
 
 pub returns : goal.returns
 returns c = grind (arith, common_steps)
+
+pub invariant_of-self : goal.invariant_of-self
+invariant_of-self c = grind (arith, common_steps)

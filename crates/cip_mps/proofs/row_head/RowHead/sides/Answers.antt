@@ -7,3 +7,9 @@ returns c = grind (arith, common_steps)
 
 pub returns-then-is_free_kind : goal.returns-then-is_free_kind
 returns-then-is_free_kind c = grind (arith, common_steps)
+
+pub row_sides-requires-clause-fits : goal.row_sides-requires-clause-fits
+row_sides-requires-clause-fits c = grind (arith, common_steps)
+
+pub row_sides-requires-clause-kept : goal.row_sides-requires-clause-kept
+row_sides-requires-clause-kept c = grind (arith, common_steps)

@@ -1,3 +1,4 @@
+use Rattle.std.proofs.lemmas.Grind.{common_steps}
 use Rattle.cip_mps.proofs.RowLaws.{always_err}
 use Rattle.std.proofs.Common.{◌+◌, ◌/◌, List, Some, ap, sym, subst, ◌∙◌, arith}
 use Rattle.std.specs.Prelude.{slice_set}
@@ -64,3 +65,12 @@ returns-in_err-push-clause-err c =
     let there = has_group heads groups c.args.self.now c.args.number c.self.view_is c.requires.within c.self.invariant.enough in
     let same = group_same groups (c.args.number / 64) c.index_mut-group.result.now c.push.new.self there c.index_mut-group.ensures.value c.in_err-push.ensures.err in
     always_err c.from_residual.result (ap (rows_of heads) same ∙ c.self.view_is)
+
+pub overflow_add-column : goal.overflow_add-column
+overflow_add-column c = grind (arith, common_steps)
+
+pub returns-clause-err : goal.returns-clause-err
+returns-clause-err c = grind (arith, common_steps)
+
+pub overflow_cast-row : goal.overflow_cast-row
+overflow_cast-row c = grind (arith, common_steps)

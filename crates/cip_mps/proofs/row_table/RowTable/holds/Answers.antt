@@ -1,3 +1,4 @@
+use Rattle.std.proofs.lemmas.Grind.{common_steps}
 use Rattle.std.proofs.Common.{◌==◌, ap, sym, ◌∙◌, arith}
 use Rattle.std.specs.List.{list_any}
 use Rattle.cip_text_rules.specs.MpsState.{Held}
@@ -34,3 +35,6 @@ pub returns : goal.returns
 returns c =
     let held = held_is c.self.inside.heads.items c.self.inside.groups.items c.args.self.now c.args.number c.index-group.result.now c.self.view_is c.requires c.self.invariant.enough c.index-group.ensures in
     c.holds.ensures ∙ ap (list_any (λ (h : Held). h.column == c.args.column)) (sym held)
+
+pub overflow_cast-number : goal.overflow_cast-number
+overflow_cast-number c = grind (arith, common_steps)

@@ -39,3 +39,9 @@ returns c = grind (arith, common_steps)
 
 pub split_at-requires : goal.split_at-requires
 split_at-requires c = grind (arith, common_steps)
+
+pub loop-group-init-derived : goal.loop-group-init-derived
+loop-group-init-derived c = grind (arith, common_steps)
+
+pub loop-group-preserved-derived : goal.loop-group-preserved-derived
+loop-group-preserved-derived c = grind (arith, common_steps)

@@ -1,3 +1,4 @@
+use Rattle.std.proofs.lemmas.Grind.{common_steps}
 use Rattle.std.proofs.Common.{◌≡◌, List, ap, sym, subst, ◌∙◌, arith}
 use Rattle.std.specs.Prelude.{IfOk}
 use Rattle.cip_text_rules.specs.MpsState.{Held}
@@ -19,3 +20,6 @@ pub returns-clause-rising : goal.returns-clause-rising
 returns-clause-rising c =
     let held = held_is c.self.inside.heads.items c.self.inside.groups.items c.args.self.now c.args.number c.index-group.result.now c.self.view_is c.requires c.self.invariant.enough c.index-group.ensures in
     ap rises held ∙ c.numbers.ensures.rising
+
+pub overflow_cast-number : goal.overflow_cast-number
+overflow_cast-number c = grind (arith, common_steps)

@@ -66,3 +66,18 @@ push_reserved-requires c = grind (arith, common_steps)
 
 pub push_reserved-requires-2 : goal.push_reserved-requires-2
 push_reserved-requires-2 c = grind (arith, common_steps)
+
+pub make_group-requires : goal.make_group-requires
+make_group-requires c = grind (arith, common_steps)
+
+pub returns-in_default-make_group-clause-ok : goal.returns-in_default-make_group-clause-ok
+returns-in_default-make_group-clause-ok c = grind (arith, common_steps)
+
+pub returns-clause-err : goal.returns-clause-err
+returns-clause-err c = grind (arith, common_steps)
+
+pub returns-in_default-reserve-clause-ok : goal.returns-in_default-reserve-clause-ok
+returns-in_default-reserve-clause-ok c = grind (arith, common_steps)
+
+pub returns-in_default-clause-ok : goal.returns-in_default-clause-ok
+returns-in_default-clause-ok c = grind (arith, common_steps)

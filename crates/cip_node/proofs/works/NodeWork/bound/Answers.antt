@@ -11,3 +11,18 @@ returns-in_err-relaxed-clause-later c =
 
 pub leave-requires-clause-at_work : goal.leave-requires-clause-at_work
 leave-requires-clause-at_work c = grind (arith, common_steps)
+
+pub returns-clause-later : goal.returns-clause-later
+returns-clause-later c = grind (arith, common_steps)
+
+pub returns-clause-region : goal.returns-clause-region
+returns-clause-region c = grind (arith, common_steps)
+
+pub returns-clause-rows : goal.returns-clause-rows
+returns-clause-rows c = grind (arith, common_steps)
+
+pub returns-clause-bounded : goal.returns-clause-bounded
+returns-clause-bounded c = grind (arith, common_steps)
+
+pub leave-requires-clause-relaxed : goal.leave-requires-clause-relaxed
+leave-requires-clause-relaxed c = grind (arith, common_steps)

@@ -1,4 +1,5 @@
-use Rattle.std.proofs.Common.{◌∙◌, refl}
+use Rattle.std.proofs.lemmas.Grind.{common_steps}
+use Rattle.std.proofs.Common.{◌∙◌, refl, arith}
 use Rattle.cip_core.proofs.Relations.{later_at_itself, later_at_further}
 use Rattle.cip_node.proofs.works.NodeWork.bound_in_rounds.Goals as goal
 
@@ -25,3 +26,30 @@ loop-preserved c = record {
   region = c.add_rows.ensures.region ∙ c.bound.ensures.region ∙ c.loop.invariant.region;
   rows = c.add_rows.ensures.rows ∙ c.bound.ensures.rows ∙ c.loop.invariant.rows;
 }
+
+pub returns-then-not-add_rows-clause-region : goal.returns-then-not-add_rows-clause-region
+returns-then-not-add_rows-clause-region c = grind (arith, common_steps)
+
+pub returns-then-not-add_rows-clause-rows : goal.returns-then-not-add_rows-clause-rows
+returns-then-not-add_rows-clause-rows c = grind (arith, common_steps)
+
+pub returns-clause-region : goal.returns-clause-region
+returns-clause-region c = grind (arith, common_steps)
+
+pub returns-clause-rows : goal.returns-clause-rows
+returns-clause-rows c = grind (arith, common_steps)
+
+pub returns-in_err-last-clause-region : goal.returns-in_err-last-clause-region
+returns-in_err-last-clause-region c = grind (arith, common_steps)
+
+pub returns-in_err-last-clause-rows : goal.returns-in_err-last-clause-rows
+returns-in_err-last-clause-rows c = grind (arith, common_steps)
+
+pub returns-clause-bounded : goal.returns-clause-bounded
+returns-clause-bounded c = grind (arith, common_steps)
+
+pub bound-requires-2 : goal.bound-requires-2
+bound-requires-2 c = grind (arith, common_steps)
+
+pub bound-requires : goal.bound-requires
+bound-requires c = grind (arith, common_steps)

@@ -1,3 +1,4 @@
+use Rattle.std.proofs.lemmas.Grind.{common_steps}
 use Rattle.std.proofs.Common.{◌≡◌, ◌+◌, IfSome, length, false, true, ◌∙◌, sym, ap, subst, arith, to_z, of_z}
 use mir.Syntax.{w128}
 use Rattle.std.proofs.lemmas.Int.{ints}
@@ -83,3 +84,6 @@ returns-clause-ended c =
 pub place_by-requires-clause-columns : goal.place_by-requires-clause-columns
 place_by-requires-clause-columns c =
     work_long c.args.self.now.core c.args.node c.is_sound.ensures.reduced (record { up = c.requires.up.0; region = c.requires.open_.full.region })
+
+pub unreachable-unreachable : goal.unreachable-unreachable
+unreachable-unreachable c = grind (arith, common_steps)

@@ -29,3 +29,30 @@ end_leaf-ended-requires-clause-leaf c = grind (arith, common_steps)
 
 pub end_open-requires-clause-open_ : goal.end_open-requires-clause-open_
 end_open-requires-clause-open_ c = grind (arith, common_steps)
+
+pub returns-in-Empty-clause-rows : goal.returns-in-Empty-clause-rows
+returns-in-Empty-clause-rows c = grind (arith, common_steps)
+
+pub returns-in-Ok-clause-ended : goal.returns-in-Ok-clause-ended
+returns-in-Ok-clause-ended c = grind (arith, common_steps)
+
+pub returns-in-Ok-clause-rows : goal.returns-in-Ok-clause-rows
+returns-in-Ok-clause-rows c = grind (arith, common_steps)
+
+pub returns-in-Err-clause-rows : goal.returns-in-Err-clause-rows
+returns-in-Err-clause-rows c = grind (arith, common_steps)
+
+pub returns-in-Open-clause-ended : goal.returns-in-Open-clause-ended
+returns-in-Open-clause-ended c = grind (arith, common_steps)
+
+pub returns-in-Open-clause-rows : goal.returns-in-Open-clause-rows
+returns-in-Open-clause-rows c = grind (arith, common_steps)
+
+pub end_leaf-ended-requires-clause-up : goal.end_leaf-ended-requires-clause-up
+end_leaf-ended-requires-clause-up c = grind (arith, common_steps)
+
+pub end_open-requires-clause-can : goal.end_open-requires-clause-can
+end_open-requires-clause-can c = grind (arith, common_steps)
+
+pub close_empty-requires-clause-up : goal.close_empty-requires-clause-up
+close_empty-requires-clause-up c = grind (arith, common_steps)

@@ -1,4 +1,5 @@
-use Rattle.std.proofs.Common.{◌<◌, ◌^◌, sym, subst}
+use Rattle.std.proofs.lemmas.Grind.{common_steps}
+use Rattle.std.proofs.Common.{◌<◌, ◌^◌, sym, subst, arith}
 use Rattle.cip_core.specs.CoreStates.{IsGivenBound}
 use Rattle.cip_core.specs.Steps.{IsBack}
 use Rattle.cip_node.specs.Bounding.{IsBounded}
@@ -58,3 +59,21 @@ returns-in_Err-ended-in-Ok-Open-clause-ended c =
 pub returns-in_Ok-ended-in-Ok-Open-clause-ended : goal.returns-in_Ok-ended-in-Ok-Open-clause-ended
 returns-in_Ok-ended-in-Ok-Open-clause-ended c =
     ended_after c.args.self.now.core c.bound_in_rounds.new.self.core c.branch-ended.new.self.core c.args.node c.bound_in_rounds.new.node c.in-Ok-Open.found.mark c.in_Ok-ended-in-Ok-Open.end c.bound_in_rounds.ensures.later c.in_Ok-ended-in-Ok-Open.ensures.ended
+
+pub returns-in_Err-ended-in-Ok-Open-clause-rows : goal.returns-in_Err-ended-in-Ok-Open-clause-rows
+returns-in_Err-ended-in-Ok-Open-clause-rows c = grind (arith, common_steps)
+
+pub returns-in_Ok-ended-in-Ok-Open-clause-rows : goal.returns-in_Ok-ended-in-Ok-Open-clause-rows
+returns-in_Ok-ended-in-Ok-Open-clause-rows c = grind (arith, common_steps)
+
+pub returns-in-Ok-Empty-clause-rows : goal.returns-in-Ok-Empty-clause-rows
+returns-in-Ok-Empty-clause-rows c = grind (arith, common_steps)
+
+pub returns-in-Err-clause-rows : goal.returns-in-Err-clause-rows
+returns-in-Err-clause-rows c = grind (arith, common_steps)
+
+pub close_empty-requires-clause-up : goal.close_empty-requires-clause-up
+close_empty-requires-clause-up c = grind (arith, common_steps)
+
+pub go_back-requires-clause-up : goal.go_back-requires-clause-up
+go_back-requires-clause-up c = grind (arith, common_steps)

@@ -56,3 +56,15 @@ returns-in-Ok-clause-touched c =
 
 pub look-requires : goal.look-requires
 look-requires c = grind (arith, common_steps)
+
+pub returns-in-Err-clause-aged : goal.returns-in-Err-clause-aged
+returns-in-Err-clause-aged c = grind (arith, common_steps)
+
+pub returns-in-Err-clause-touched : goal.returns-in-Err-clause-touched
+returns-in-Err-clause-touched c = grind (arith, common_steps)
+
+pub end-requires-clause-look : goal.end-requires-clause-look
+end-requires-clause-look c = grind (arith, common_steps)
+
+pub go_back-requires-clause-up : goal.go_back-requires-clause-up
+go_back-requires-clause-up c = grind (arith, common_steps)

@@ -1,4 +1,5 @@
-use Rattle.std.proofs.Common.{◌∙◌, length, sym, ap}
+use Rattle.std.proofs.lemmas.Grind.{common_steps}
+use Rattle.std.proofs.Common.{◌∙◌, length, sym, ap, arith}
 use Rattle.cip_problem.specs.WellFormed.{columns}
 use Rattle.cip_rows.specs.RowPools.{Pool}
 use Rattle.cip_core.proofs.CoreSteps.{work_long}
@@ -14,3 +15,12 @@ relax_from-requires-clause-pool c =
     ap length c.bounds.ensures
     ∙ (work_long c.args.self.now.core c.args.node.now c.is_sound.ensures.reduced c.requires
     ∙ (sym c.is_sound.ensures.sound.same ∙ ap (λ (pool : Pool). pool.columns) (sym c.pool.ensures)))
+
+pub returns-clause-relaxed : goal.returns-clause-relaxed
+returns-clause-relaxed c = grind (arith, common_steps)
+
+pub returns-clause-core : goal.returns-clause-core
+returns-clause-core c = grind (arith, common_steps)
+
+pub returns-in_err-relaxed-clause-core : goal.returns-in_err-relaxed-clause-core
+returns-in_err-relaxed-clause-core c = grind (arith, common_steps)

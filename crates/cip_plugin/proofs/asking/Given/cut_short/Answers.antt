@@ -49,3 +49,12 @@ returns-in-Split-clause-first c = grind (arith, common_steps)
 
 pub returns-in-Wishes-clause-first : goal.returns-in-Wishes-clause-first
 returns-in-Wishes-clause-first c = grind (arith, common_steps)
+
+pub returns-in-Wishes-clause-past : goal.returns-in-Wishes-clause-past
+returns-in-Wishes-clause-past c = grind (arith, common_steps)
+
+pub returns-in-Enforced-clause-past : goal.returns-in-Enforced-clause-past
+returns-in-Enforced-clause-past c = grind (arith, common_steps)
+
+pub returns-in-Split-clause-past : goal.returns-in-Split-clause-past
+returns-in-Split-clause-past c = grind (arith, common_steps)

@@ -1,4 +1,5 @@
-use Rattle.std.proofs.Common.{rules}
+use Rattle.std.proofs.lemmas.Grind.{common_steps}
+use Rattle.std.proofs.Common.{rules, arith}
 use Rattle.cip_plugin.proofs.Asked.{branch_rule_is_asked}
 use Rattle.cip_plugin.proofs.Objects.{heard_same}
 use Rattle.cip_plugin.proofs.called.BoxDynBranchRuleCalled.ask.Goals as goal
@@ -15,3 +16,12 @@ returns-in_Err-split-in-Branch g c =
 
 pub unreachable-requires : goal.unreachable-requires
 unreachable-requires g c = branch_rule_is_asked c.args.question c.requires c.in_default.not-Branch
+
+pub widen_unique-branch : goal.widen_unique-branch
+widen_unique-branch g c = grind (arith, common_steps)
+
+pub back_relent_following-self : goal.back_relent_following-self
+back_relent_following-self g c = grind (arith, common_steps)
+
+pub unreachable-unreachable : goal.unreachable-unreachable
+unreachable-unreachable g c = grind (arith, common_steps)

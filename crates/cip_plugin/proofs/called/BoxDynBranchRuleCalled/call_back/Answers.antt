@@ -1,4 +1,5 @@
-use Rattle.std.proofs.Common.{rules}
+use Rattle.std.proofs.lemmas.Grind.{common_steps}
+use Rattle.std.proofs.Common.{rules, arith}
 use Rattle.cip_plugin.proofs.Objects.{heard_same}
 use Rattle.cip_plugin.proofs.called.BoxDynBranchRuleCalled.call_back.Goals as goal
 
@@ -21,3 +22,27 @@ pub returns-in-Exit : goal.returns-in-Exit
 returns-in-Exit g c =
     rw c.in-Exit.is (heard_same (λ i x. (goal.BranchRule-dyn g (i, x)).Plugin.told x) _
     (c.args.self.now.vtable, c.args.self.now.value) (search rules) c.exit.ensures)
+
+pub widen_unique-init_solve : goal.widen_unique-init_solve
+widen_unique-init_solve g c = grind (arith, common_steps)
+
+pub widen_unique-exit : goal.widen_unique-exit
+widen_unique-exit g c = grind (arith, common_steps)
+
+pub widen_unique-init : goal.widen_unique-init
+widen_unique-init g c = grind (arith, common_steps)
+
+pub widen_unique-exit_solve : goal.widen_unique-exit_solve
+widen_unique-exit_solve g c = grind (arith, common_steps)
+
+pub back_relent_following-self-in-Exit : goal.back_relent_following-self-in-Exit
+back_relent_following-self-in-Exit g c = grind (arith, common_steps)
+
+pub back_relent_following-self-in-ExitSolve : goal.back_relent_following-self-in-ExitSolve
+back_relent_following-self-in-ExitSolve g c = grind (arith, common_steps)
+
+pub back_relent_following-self-in-InitSolve : goal.back_relent_following-self-in-InitSolve
+back_relent_following-self-in-InitSolve g c = grind (arith, common_steps)
+
+pub back_relent_following-self : goal.back_relent_following-self
+back_relent_following-self g c = grind (arith, common_steps)

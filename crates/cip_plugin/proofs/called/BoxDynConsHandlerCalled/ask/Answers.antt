@@ -1,4 +1,5 @@
-use Rattle.std.proofs.Common.{rules}
+use Rattle.std.proofs.lemmas.Grind.{common_steps}
+use Rattle.std.proofs.Common.{rules, arith}
 use Rattle.cip_plugin.proofs.Asked.{cons_handler_is_asked}
 use Rattle.cip_plugin.proofs.Objects.{heard_same}
 use Rattle.cip_plugin.proofs.called.BoxDynConsHandlerCalled.ask.Goals as goal
@@ -37,3 +38,24 @@ pub unreachable-requires : goal.unreachable-requires
 unreachable-requires g c =
     cons_handler_is_asked c.args.question c.requires c.in_default.not-Enforce c.in_default.not-Separate
     c.in_default.not-Propagate
+
+pub widen_unique-propagate : goal.widen_unique-propagate
+widen_unique-propagate g c = grind (arith, common_steps)
+
+pub widen_unique-separate : goal.widen_unique-separate
+widen_unique-separate g c = grind (arith, common_steps)
+
+pub widen_unique-enforce : goal.widen_unique-enforce
+widen_unique-enforce g c = grind (arith, common_steps)
+
+pub back_relent_following-self-in-Propagate : goal.back_relent_following-self-in-Propagate
+back_relent_following-self-in-Propagate g c = grind (arith, common_steps)
+
+pub back_relent_following-self-in-Separate : goal.back_relent_following-self-in-Separate
+back_relent_following-self-in-Separate g c = grind (arith, common_steps)
+
+pub back_relent_following-self : goal.back_relent_following-self
+back_relent_following-self g c = grind (arith, common_steps)
+
+pub unreachable-unreachable : goal.unreachable-unreachable
+unreachable-unreachable g c = grind (arith, common_steps)

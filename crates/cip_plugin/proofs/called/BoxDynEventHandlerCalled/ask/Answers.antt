@@ -1,4 +1,5 @@
-use Rattle.std.proofs.Common.{rules}
+use Rattle.std.proofs.lemmas.Grind.{common_steps}
+use Rattle.std.proofs.Common.{rules, arith}
 use Rattle.cip_plugin.proofs.Asked.{event_handler_is_asked}
 use Rattle.cip_plugin.proofs.Objects.{heard_same}
 use Rattle.cip_plugin.proofs.called.BoxDynEventHandlerCalled.ask.Goals as goal
@@ -15,3 +16,12 @@ returns-in-Err g c =
 
 pub unreachable-requires : goal.unreachable-requires
 unreachable-requires g c = event_handler_is_asked c.args.question c.requires c.in_default.not-OnEvent
+
+pub widen_unique-on_event : goal.widen_unique-on_event
+widen_unique-on_event g c = grind (arith, common_steps)
+
+pub back_relent_following-self : goal.back_relent_following-self
+back_relent_following-self g c = grind (arith, common_steps)
+
+pub unreachable-unreachable : goal.unreachable-unreachable
+unreachable-unreachable g c = grind (arith, common_steps)

@@ -4,3 +4,6 @@ use Rattle.cip_presolve.proofs.drafts.Draft.bounds.Goals as goal
 
 pub returns-clause-formed : goal.returns-clause-formed
 returns-clause-formed c = grind (arith, common_steps)
+
+pub returns-clause-bounds : goal.returns-clause-bounds
+returns-clause-bounds c = grind (arith, common_steps)

@@ -35,3 +35,9 @@ returns-in-Ok-Some-clause-rows c = ap (λ (p : Program). length p.rows) c.set_ro
 
 pub has_fixed-requires : goal.has_fixed-requires
 has_fixed-requires c = grind (arith, common_steps)
+
+pub returns-in-Ok-None-clause-rows : goal.returns-in-Ok-None-clause-rows
+returns-in-Ok-None-clause-rows c = grind (arith, common_steps)
+
+pub returns-in-Err-clause-rows : goal.returns-in-Err-clause-rows
+returns-in-Err-clause-rows c = grind (arith, common_steps)

@@ -1,4 +1,5 @@
-use Rattle.std.proofs.Common.{◌≡◌, ◌∙◌, rules, subst, sym}
+use Rattle.std.proofs.lemmas.Grind.{common_steps}
+use Rattle.std.proofs.Common.{◌≡◌, ◌∙◌, rules, subst, sym, arith}
 use Rattle.cip_presolve.specs.DraftParts.{IsDraft}
 use Rattle.cip_presolve.proofs.Drafted.{drafted, same_draft}
 use Rattle.cip_presolve.proofs.drafts.Draft.new.Goals as goal
@@ -28,3 +29,15 @@ returns-in-Ok-copied_rows c =
     c.constant.ensures (same_flags ∙ c.whole.ensures.whole) (c.in-Ok.ensures ∙ c.bounds.ensures.bounds)
     (c.in-Ok-copied.ensures ∙ c.choices.ensures.choices) in
     same
+
+pub same-bounds : goal.same-bounds
+same-bounds c = grind (arith, common_steps)
+
+pub same-choices : goal.same-choices
+same-choices c = grind (arith, common_steps)
+
+pub returns-in_default-to_vec-2 : goal.returns-in_default-to_vec-2
+returns-in_default-to_vec-2 c = grind (arith, common_steps)
+
+pub returns-in_default-to_vec : goal.returns-in_default-to_vec
+returns-in_default-to_vec c = grind (arith, common_steps)

@@ -1,3 +1,4 @@
+use Rattle.std.proofs.lemmas.Grind.{common_steps}
 use Rattle.std.proofs.Common.{◌∙◌, arith}
 use Rattle.cip_presolve.proofs.drafts.Draft.reduce_row.Goals as goal
 use Rattle.cip_search.proofs.Pairing.{exact_after}
@@ -19,3 +20,9 @@ try_redundant-requires c = omega arith
 
 pub try_single-requires : goal.try_single-requires
 try_single-requires c = omega arith
+
+pub returns-in-Kept-clause-rows : goal.returns-in-Kept-clause-rows
+returns-in-Kept-clause-rows c = grind (arith, common_steps)
+
+pub returns-in-Kept-clause-end : goal.returns-in-Kept-clause-end
+returns-in-Kept-clause-end c = grind (arith, common_steps)

@@ -4,3 +4,6 @@ use Rattle.cip_presolve.proofs.drafts.Draft.row.Goals as goal
 
 pub returns-clause-stands : goal.returns-clause-stands
 returns-clause-stands c = grind (arith, common_steps)
+
+pub index-requires : goal.index-requires
+index-requires c = grind (arith, common_steps)

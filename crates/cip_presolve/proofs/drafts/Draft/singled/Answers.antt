@@ -23,3 +23,6 @@ returns c =
 
 pub single_sides-requires : goal.single_sides-requires
 single_sides-requires c = grind (arith, common_steps)
+
+pub returns-then-is_semi : goal.returns-then-is_semi
+returns-then-is_semi c = grind (arith, common_steps)

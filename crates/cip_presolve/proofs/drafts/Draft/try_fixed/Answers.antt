@@ -1,3 +1,4 @@
+use Rattle.std.proofs.lemmas.Grind.{common_steps}
 use Rattle.std.proofs.Common.{Ok, subst, ◌≡◌, List, Some, length, refl, sym, ap, ◌∙◌, arith}
 use Rattle.cip_frac.specs.Outcomes.{product_added}
 use Rattle.cip_problem.specs.Activity.{value_at}
@@ -57,3 +58,12 @@ sides-requires c = omega (arith, ap length c.bounds.ensures.bounds, c.requires)
 
 pub set_cost-requires : goal.set_cost-requires
 set_cost-requires c = c.requires
+
+pub returns-clause-end : goal.returns-clause-end
+returns-clause-end c = grind (arith, common_steps)
+
+pub returns-then-is_zero-clause-end : goal.returns-then-is_zero-clause-end
+returns-then-is_zero-clause-end c = grind (arith, common_steps)
+
+pub returns-in_default-clause-end : goal.returns-in_default-clause-end
+returns-in_default-clause-end c = grind (arith, common_steps)

@@ -20,3 +20,6 @@ returns-in-HoldsAlways-clause-rows c = grind (arith, common_steps)
 
 pub row_says-requires : goal.row_says-requires
 row_says-requires c = grind (arith, common_steps)
+
+pub returns-in-HoldsAlways-clause-end : goal.returns-in-HoldsAlways-clause-end
+returns-in-HoldsAlways-clause-end c = grind (arith, common_steps)

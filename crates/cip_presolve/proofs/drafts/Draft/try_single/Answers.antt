@@ -49,3 +49,6 @@ returns-clause-rows c = ap (λ (p : Program). length p.rows) c.clear_row.ensures
 
 pub is_whole-requires : goal.is_whole-requires
 is_whole-requires c = grind (arith, common_steps)
+
+pub returns-clause-end : goal.returns-clause-end
+returns-clause-end c = grind (arith, common_steps)

@@ -1,4 +1,5 @@
-use Rattle.std.proofs.Common.{◌≡◌, None, sym, ap, ◌∙◌, subst, rules}
+use Rattle.std.proofs.lemmas.Grind.{common_steps}
+use Rattle.std.proofs.Common.{◌≡◌, None, sym, ap, ◌∙◌, subst, rules, arith}
 use Rattle.cip_presolve.specs.Forms.{spread}
 use Rattle.cip_presolve.specs.StepsBack.{StepsTaken}
 use Rattle.std.specs.Prelude.{replicate}
@@ -32,3 +33,15 @@ returns-clause-unchanged c =
       kept = c.in-Ok-numbers.ensures ∙ ap (λ n. counted 0 n) c.columns-2.ensures.count;
       point = λ point long. ap (λ (s : StepsTaken). spread s.forms point) c.new.ensures ∙ none_changes c.args.program.now c.in-Ok-none_gone.forms.items point c.columns.ensures.formed forms long;
     }
+
+pub numbers-requires : goal.numbers-requires
+numbers-requires c = grind (arith, common_steps)
+
+pub returns-in_default-clause-unchanged : goal.returns-in_default-clause-unchanged
+returns-in_default-clause-unchanged c = grind (arith, common_steps)
+
+pub returns-in_default-clause-exact : goal.returns-in_default-clause-exact
+returns-in_default-clause-exact c = grind (arith, common_steps)
+
+pub returns-in_default-clause-pair : goal.returns-in_default-clause-pair
+returns-in_default-clause-pair c = grind (arith, common_steps)

@@ -37,3 +37,6 @@ returns-then-put-2-clause-taken g c =
 
 pub returns-clause-faults : goal.returns-clause-faults
 returns-clause-faults g c = grind (arith, common_steps)
+
+pub returns-then-put-2-clause-faults : goal.returns-then-put-2-clause-faults
+returns-then-put-2-clause-faults g c = grind (arith, common_steps)

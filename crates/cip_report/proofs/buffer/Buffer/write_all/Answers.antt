@@ -18,3 +18,12 @@ loop-text-init g c = grind (arith, common_steps)
 
 pub returns-clause-taken : goal.returns-clause-taken
 returns-clause-taken g c = grind (arith, common_steps)
+
+pub offset_bounds-texts-text-index : goal.offset_bounds-texts-text-index
+offset_bounds-texts-text-index g c = grind (arith, common_steps)
+
+pub slice_bounds-write-end : goal.slice_bounds-write-end
+slice_bounds-write-end g c = grind (arith, common_steps)
+
+pub returns-clause-faults : goal.returns-clause-faults
+returns-clause-faults g c = grind (arith, common_steps)

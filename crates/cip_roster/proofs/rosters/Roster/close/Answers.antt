@@ -43,3 +43,9 @@ returns-clause-closed g c = record {
 
 pub end_all-requires : goal.end_all-requires
 end_all-requires g c = grind (arith, common_steps)
+
+pub returns-clause-shelf : goal.returns-clause-shelf
+returns-clause-shelf g c = grind (arith, common_steps)
+
+pub returns-clause-start : goal.returns-clause-start
+returns-clause-start g c = grind (arith, common_steps)

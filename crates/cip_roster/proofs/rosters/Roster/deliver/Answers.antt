@@ -1,3 +1,5 @@
+use Rattle.std.proofs.lemmas.Grind.{common_steps}
+use Rattle.std.proofs.Common.{arith}
 use Rattle.cip_roster.proofs.rosters.Roster.deliver.Goals as goal
 
 pub returns-clause-sound : goal.returns-clause-sound
@@ -11,3 +13,6 @@ returns-clause-told g c = c.deliver.ensures.told
 
 pub returns-clause-err : goal.returns-clause-err
 returns-clause-err g c = c.deliver.ensures.err
+
+pub deliver-requires : goal.deliver-requires
+deliver-requires g c = grind (arith, common_steps)

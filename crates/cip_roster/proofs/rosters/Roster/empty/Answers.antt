@@ -43,3 +43,9 @@ returns-in-Err g c = record {
 
 pub returns-in-Ok-clause-spare : goal.returns-in-Ok-clause-spare
 returns-in-Ok-clause-spare g c = grind (arith, common_steps)
+
+pub returns-in-Ok-clause-unranked : goal.returns-in-Ok-clause-unranked
+returns-in-Ok-clause-unranked g c = grind (arith, common_steps)
+
+pub make_room-requires : goal.make_room-requires
+make_room-requires g c = grind (arith, common_steps)

@@ -100,3 +100,9 @@ overflow_add-start g c = omega arith
 
 pub shelve-requires : goal.shelve-requires
 shelve-requires g c = grind (arith, common_steps)
+
+pub admit-requires-clause-numbers : goal.admit-requires-clause-numbers
+admit-requires-clause-numbers g c = grind (arith, common_steps)
+
+pub returns-clause-room : goal.returns-clause-room
+returns-clause-room g c = grind (arith, common_steps)

@@ -1,3 +1,5 @@
+use Rattle.std.proofs.lemmas.Grind.{common_steps}
+use Rattle.std.proofs.Common.{arith}
 use Rattle.cip_roster.proofs.rosters.Roster.wish.Goals as goal
 
 pub returns-clause-sound : goal.returns-clause-sound
@@ -8,3 +10,6 @@ returns-clause-came g c = c.wish.ensures.came
 
 pub returns-clause-queue : goal.returns-clause-queue
 returns-clause-queue g c = c.wish.ensures.queue
+
+pub wish-requires : goal.wish-requires
+wish-requires g c = grind (arith, common_steps)

@@ -1,3 +1,4 @@
+use Rattle.std.proofs.lemmas.Grind.{common_steps}
 use Rattle.std.proofs.Common.{ℕ, List, [], ◌∷◌, ◌++◌, ◌∙◌, ap, arith, refl}
 use Rattle.cip_events.specs.Names.{shown_name}
 use Rattle.cip_roster.proofs.Sitting.{pushed_shown}
@@ -39,3 +40,12 @@ returns-clause-spare g c =
       c.push_reserved-2.ensures.len,
       c.push_reserved-2.ensures.capacity,
     )
+
+pub priority-priority-requires : goal.priority-priority-requires
+priority-priority-requires g c = grind (arith, common_steps)
+
+pub interest-interest-requires : goal.interest-interest-requires
+interest-interest-requires g c = grind (arith, common_steps)
+
+pub name-requires : goal.name-requires
+name-requires g c = grind (arith, common_steps)

@@ -1,3 +1,4 @@
+use Rattle.std.proofs.lemmas.Grind.{common_steps}
 use Rattle.std.proofs.Common.{◌∙◌, [], ◌∷◌, ◌++◌, cond, ap, refl, arith}
 use Rattle.cip_events.specs.declared.words.Word.{Word}
 use Rattle.cip_plugin.specs.Calls.{Asked}
@@ -41,3 +42,9 @@ ask-given-requires g c =
 
 pub note-requires : goal.note-requires
 note-requires g c = omega arith
+
+pub returns-clause-room : goal.returns-clause-room
+returns-clause-room g c = grind (arith, common_steps)
+
+pub returns-clause-rankings : goal.returns-clause-rankings
+returns-clause-rankings g c = grind (arith, common_steps)

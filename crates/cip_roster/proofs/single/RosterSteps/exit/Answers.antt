@@ -1,3 +1,4 @@
+use Rattle.std.proofs.lemmas.Grind.{common_steps}
 use Rattle.std.proofs.Common.{◌≡◌, refl, arith}
 use Rattle.cip_plugin.specs.Calls.{Exit}
 use Rattle.cip_plugin.specs.declared.stages.Stage.TheVariants as stages
@@ -34,3 +35,9 @@ note-requires g c = omega arith
 
 pub returns-clause-room : goal.returns-clause-room
 returns-clause-room g c = omega arith
+
+pub returns-clause-rankings : goal.returns-clause-rankings
+returns-clause-rankings g c = grind (arith, common_steps)
+
+pub exit-requires : goal.exit-requires
+exit-requires g c = grind (arith, common_steps)

@@ -38,3 +38,6 @@ returns-clause-rankings g c = grind (arith, common_steps)
 
 pub returns-clause-room : goal.returns-clause-room
 returns-clause-room g c = omega arith
+
+pub exit_solve-requires : goal.exit_solve-requires
+exit_solve-requires g c = grind (arith, common_steps)

@@ -1,3 +1,4 @@
+use Rattle.std.proofs.lemmas.Grind.{common_steps}
 use Rattle.std.proofs.Common.{◌≡◌, refl, arith}
 use Rattle.cip_plugin.specs.Calls.{InitSolve}
 use Rattle.cip_plugin.specs.declared.stages.Stage.TheVariants as stages
@@ -32,3 +33,12 @@ returns-clause-at g c =
 
 pub note-requires : goal.note-requires
 note-requires g c = omega arith
+
+pub returns-clause-room : goal.returns-clause-room
+returns-clause-room g c = grind (arith, common_steps)
+
+pub returns-clause-rankings : goal.returns-clause-rankings
+returns-clause-rankings g c = grind (arith, common_steps)
+
+pub init_solve-requires : goal.init_solve-requires
+init_solve-requires g c = grind (arith, common_steps)

@@ -15,3 +15,6 @@ returns-in-Some g c =
 
 pub get-requires : goal.get-requires
 get-requires g c = grind (arith, common_steps)
+
+pub is_to_hear-requires : goal.is_to_hear-requires
+is_to_hear-requires g c = grind (arith, common_steps)

@@ -15,3 +15,6 @@ returns-in-Some g c =
 
 pub get-requires : goal.get-requires
 get-requires g c = grind (arith, common_steps)
+
+pub key-requires : goal.key-requires
+key-requires g c = grind (arith, common_steps)

@@ -24,3 +24,9 @@ returns-in_default g c =
 
 pub get-requires : goal.get-requires
 get-requires g c = grind (arith, common_steps)
+
+pub key-requires : goal.key-requires
+key-requires g c = grind (arith, common_steps)
+
+pub is_ready-requires : goal.is_ready-requires
+is_ready-requires g c = grind (arith, common_steps)

@@ -13,3 +13,27 @@ returns-clause-state c = grind (arith, common_steps)
 
 pub returns-in_default-clause-grows : goal.returns-in_default-clause-grows
 returns-in_default-clause-grows c = omega arith
+
+pub returns-clause-seat : goal.returns-clause-seat
+returns-clause-seat c = grind (arith, common_steps)
+
+pub returns-clause-rankings : goal.returns-clause-rankings
+returns-clause-rankings c = grind (arith, common_steps)
+
+pub returns-in_default-clause-state : goal.returns-in_default-clause-state
+returns-in_default-clause-state c = grind (arith, common_steps)
+
+pub returns-in_default-clause-rankings : goal.returns-in_default-clause-rankings
+returns-in_default-clause-rankings c = grind (arith, common_steps)
+
+pub returns-in_default-clause-room : goal.returns-in_default-clause-room
+returns-in_default-clause-room c = grind (arith, common_steps)
+
+pub returns-in_default-clause-seat : goal.returns-in_default-clause-seat
+returns-in_default-clause-seat c = grind (arith, common_steps)
+
+pub reserve_one-requires : goal.reserve_one-requires
+reserve_one-requires c = grind (arith, common_steps)
+
+pub reserve_turns-requires : goal.reserve_turns-requires
+reserve_turns-requires c = grind (arith, common_steps)

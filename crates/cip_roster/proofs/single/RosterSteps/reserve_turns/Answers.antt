@@ -16,3 +16,30 @@ returns-in-Some-clause-grows g c = omega arith
 
 pub returns-in-Some-clause-state : goal.returns-in-Some-clause-state
 returns-in-Some-clause-state g c = grind (arith, common_steps)
+
+pub returns-in-Some-clause-rankings : goal.returns-in-Some-clause-rankings
+returns-in-Some-clause-rankings g c = grind (arith, common_steps)
+
+pub returns-in_default-2-clause-room : goal.returns-in_default-2-clause-room
+returns-in_default-2-clause-room g c = grind (arith, common_steps)
+
+pub returns-in_default-clause-room : goal.returns-in_default-clause-room
+returns-in_default-clause-room g c = grind (arith, common_steps)
+
+pub returns-in_default-clause-rankings : goal.returns-in_default-clause-rankings
+returns-in_default-clause-rankings g c = grind (arith, common_steps)
+
+pub returns-in_default-clause-state : goal.returns-in_default-clause-state
+returns-in_default-clause-state g c = grind (arith, common_steps)
+
+pub returns-in_default-2-clause-rankings : goal.returns-in_default-2-clause-rankings
+returns-in_default-2-clause-rankings g c = grind (arith, common_steps)
+
+pub returns-in_default-2-clause-state : goal.returns-in_default-2-clause-state
+returns-in_default-2-clause-state g c = grind (arith, common_steps)
+
+pub returns-in_default-clause-grows : goal.returns-in_default-clause-grows
+returns-in_default-clause-grows g c = grind (arith, common_steps)
+
+pub returns-in_default-2-clause-grows : goal.returns-in_default-2-clause-grows
+returns-in_default-2-clause-grows g c = grind (arith, common_steps)

@@ -1,4 +1,5 @@
-use Rattle.std.proofs.Common.{◌≡◌, refl}
+use Rattle.std.proofs.lemmas.Grind.{common_steps}
+use Rattle.std.proofs.Common.{◌≡◌, refl, arith}
 use Rattle.std.proofs.Math.Facts.{to_z-of_z}
 use Rattle.cip_plugin.specs.declared.stages.Stage.TheVariants as stages
 use Rattle.cip_plugin.specs.Seats.{Seat}
@@ -23,3 +24,9 @@ returns-clause-at g c =
     stands_there _ c.args.self.now.slots.items c.args.id _ c.requires.at.seat _ stages.Playing c.requires.at.at refl
     (stage_there _ c.args.self.now.slots.items c.args.id c.index_mut.result.now c.requires.at.seat stages.Playing
     c.requires.at.at c.index_mut.ensures.value c.requires.at.stands)
+
+pub returns-clause-rankings : goal.returns-clause-rankings
+returns-clause-rankings g c = grind (arith, common_steps)
+
+pub returns-clause-room : goal.returns-clause-room
+returns-clause-room g c = grind (arith, common_steps)

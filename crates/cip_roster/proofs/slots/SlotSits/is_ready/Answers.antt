@@ -7,3 +7,6 @@ returns-else-self c = grind (arith, common_steps)
 
 pub returns-then-self : goal.returns-then-self
 returns-then-self c = grind (arith, common_steps)
+
+pub kind-requires : goal.kind-requires
+kind-requires c = grind (arith, common_steps)

@@ -4,3 +4,9 @@ use Rattle.cip_simplex.proofs.lp.Lp.len.Goals as goal
 
 pub returns : goal.returns
 returns c = grind (arith, common_steps)
+
+pub overflow_add-result-2 : goal.overflow_add-result-2
+overflow_add-result-2 c = grind (arith, common_steps)
+
+pub overflow_add-result : goal.overflow_add-result
+overflow_add-result c = grind (arith, common_steps)

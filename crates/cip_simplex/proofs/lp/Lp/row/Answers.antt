@@ -10,3 +10,15 @@ returns-else-number-self c = grind (arith, common_steps)
 
 pub returns-then-number-self : goal.returns-then-number-self
 returns-then-number-self c = grind (arith, common_steps)
+
+pub offset_bounds-self-inside-number-else-number-self : goal.offset_bounds-self-inside-number-else-number-self
+offset_bounds-self-inside-number-else-number-self c = grind (arith, common_steps)
+
+pub bounds-self-inside-number : goal.bounds-self-inside-number
+bounds-self-inside-number c = grind (arith, common_steps)
+
+pub offset_bounds-self-inside-number : goal.offset_bounds-self-inside-number
+offset_bounds-self-inside-number c = grind (arith, common_steps)
+
+pub overflow_sub-result : goal.overflow_sub-result
+overflow_sub-result c = grind (arith, common_steps)

@@ -1,4 +1,5 @@
-use Rattle.std.proofs.Common.{◌∙◌, ◌++◌, ◌∷◌, [], sym, ap₂}
+use Rattle.std.proofs.lemmas.Grind.{common_steps}
+use Rattle.std.proofs.Common.{◌∙◌, ◌++◌, ◌∷◌, [], sym, ap₂, arith}
 use Rattle.cip_dict.proofs.Grown.{table_none, table_more}
 use Rattle.cip_simplex.proofs.starts.Start.at.Goals as goal
 
@@ -7,3 +8,9 @@ loop-v-init c = c.in_ok-standing.ensures.items ∙ table_none _
 
 pub loop-v-preserved : goal.loop-v-preserved
 loop-v-preserved c = c.in_ok-push.ensures.items ∙ ap₂ (λ xs x. xs ++ x ∷ []) c.loop-v.invariant c.stand.ensures ∙ sym (table_more c.loop-v.v _)
+
+pub stand-requires : goal.stand-requires
+stand-requires c = grind (arith, common_steps)
+
+pub overflow_cast-v : goal.overflow_cast-v
+overflow_cast-v c = grind (arith, common_steps)

@@ -22,3 +22,9 @@ pub returns-clause-long : goal.returns-clause-long
 returns-clause-long c =
     let e : c.loop-v.v ≡ c.args.n = omega arith in
     ap length c.loop-v.invariant ∙ length-table c.loop-v.v (wish c.args.self.now) ∙ e
+
+pub returns-clause-same : goal.returns-clause-same
+returns-clause-same c = grind (arith, common_steps)
+
+pub index-requires : goal.index-requires
+index-requires c = grind (arith, common_steps)

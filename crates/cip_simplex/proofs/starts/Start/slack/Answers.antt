@@ -29,3 +29,9 @@ pub returns-clause-long : goal.returns-clause-long
 returns-clause-long c =
     let end : c.loop-v.v ≡ c.len-n.result = omega arith in
     ap length c.loop-v.invariant ∙ length-table c.loop-v.v (stand_in c.sides-sides.result.now) ∙ end ∙ c.len-n.ensures
+
+pub bounds-sides-v : goal.bounds-sides-v
+bounds-sides-v c = grind (arith, common_steps)
+
+pub offset_bounds-sides-v : goal.offset_bounds-sides-v
+offset_bounds-sides-v c = grind (arith, common_steps)

@@ -53,3 +53,18 @@ returns-then-self-clause-ready g c = grind (arith, common_steps)
 
 pub returns-then-self-clause-served : goal.returns-then-self-clause-served
 returns-then-self-clause-served g c = grind (arith, common_steps)
+
+pub process-requires-clause-can : goal.process-requires-clause-can
+process-requires-clause-can g c = grind (arith, common_steps)
+
+pub returns-in_err-done-clause-plain : goal.returns-in_err-done-clause-plain
+returns-in_err-done-clause-plain g c = grind (arith, common_steps)
+
+pub returns-then-self-clause-settled : goal.returns-then-self-clause-settled
+returns-then-self-clause-settled g c = grind (arith, common_steps)
+
+pub go_back-requires-clause-up : goal.go_back-requires-clause-up
+go_back-requires-clause-up g c = grind (arith, common_steps)
+
+pub process-requires-clause-room : goal.process-requires-clause-room
+process-requires-clause-room g c = grind (arith, common_steps)

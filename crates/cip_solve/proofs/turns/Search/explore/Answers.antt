@@ -95,3 +95,21 @@ returns-then-has_reached_gap-clause-most g c = omega arith
 
 pub returns-then-has_reached_gap-clause-written : goal.returns-then-has_reached_gap-clause-written
 returns-then-has_reached_gap-clause-written g c = grind (arith, common_steps)
+
+pub returns-clause-asked : goal.returns-clause-asked
+returns-clause-asked g c = grind (arith, common_steps)
+
+pub returns-clause-same : goal.returns-clause-same
+returns-clause-same g c = grind (arith, common_steps)
+
+pub turn-requires-clause-standing : goal.turn-requires-clause-standing
+turn-requires-clause-standing g c = grind (arith, common_steps)
+
+pub returns-clause-written : goal.returns-clause-written
+returns-clause-written g c = grind (arith, common_steps)
+
+pub turn-requires-clause-ready : goal.turn-requires-clause-ready
+turn-requires-clause-ready g c = grind (arith, common_steps)
+
+pub turn-requires-clause-written : goal.turn-requires-clause-written
+turn-requires-clause-written g c = grind (arith, common_steps)

@@ -7,3 +7,9 @@ returns-in-Some-clause-marked c = grind (arith, common_steps)
 
 pub returns-in_default-clause-marked : goal.returns-in_default-clause-marked
 returns-in_default-clause-marked c = grind (arith, common_steps)
+
+pub returns-in-Some-clause-work : goal.returns-in-Some-clause-work
+returns-in-Some-clause-work c = grind (arith, common_steps)
+
+pub returns-in-Some-clause-worst : goal.returns-in-Some-clause-worst
+returns-in-Some-clause-worst c = grind (arith, common_steps)

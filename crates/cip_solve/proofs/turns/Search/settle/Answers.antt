@@ -24,3 +24,21 @@ returns-in-Pruned-clause-kept c = grind (arith, common_steps)
 
 pub returns-in-Ray-clause-kept : goal.returns-in-Ray-clause-kept
 returns-in-Ray-clause-kept c = grind (arith, common_steps)
+
+pub returns-in-Parked-clause-marked : goal.returns-in-Parked-clause-marked
+returns-in-Parked-clause-marked c = grind (arith, common_steps)
+
+pub returns-in-Parked-clause-work : goal.returns-in-Parked-clause-work
+returns-in-Parked-clause-work c = grind (arith, common_steps)
+
+pub returns-in-Ray-clause-marked : goal.returns-in-Ray-clause-marked
+returns-in-Ray-clause-marked c = grind (arith, common_steps)
+
+pub returns-in-Ray-clause-work : goal.returns-in-Ray-clause-work
+returns-in-Ray-clause-work c = grind (arith, common_steps)
+
+pub returns-in-Pruned-clause-marked : goal.returns-in-Pruned-clause-marked
+returns-in-Pruned-clause-marked c = grind (arith, common_steps)
+
+pub returns-in-Pruned-clause-work : goal.returns-in-Pruned-clause-work
+returns-in-Pruned-clause-work c = grind (arith, common_steps)

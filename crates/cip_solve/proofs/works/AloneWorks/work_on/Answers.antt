@@ -1,4 +1,5 @@
-use Rattle.std.proofs.Common.{refl}
+use Rattle.std.proofs.lemmas.Grind.{common_steps}
+use Rattle.std.proofs.Common.{refl, arith}
 use Rattle.cip_solve.specs.Steps.{IsBack}
 use Rattle.cip_solve.proofs.Serving.{nobody_each}
 use Rattle.cip_solve.proofs.Working.{all_worked}
@@ -12,3 +13,12 @@ returns-clause-ended c =
 
 pub returns-clause-served : goal.returns-clause-served
 returns-clause-served c = nobody_each c.process.result _ refl
+
+pub returns-clause-settled : goal.returns-clause-settled
+returns-clause-settled c = grind (arith, common_steps)
+
+pub returns-clause-plain : goal.returns-clause-plain
+returns-clause-plain c = grind (arith, common_steps)
+
+pub process-requires : goal.process-requires
+process-requires c = grind (arith, common_steps)

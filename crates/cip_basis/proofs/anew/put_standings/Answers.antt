@@ -1,0 +1,9 @@
+use Rattle.std.proofs.lemmas.Grind.{common_steps}
+use Rattle.std.proofs.Common.{arith}
+use Rattle.cip_basis.proofs.anew.put_standings.Goals as goal
+
+pub offset_bounds-line-items-line-index : goal.offset_bounds-line-items-line-index
+offset_bounds-line-items-line-index c = grind (arith, common_steps)
+
+pub offset_bounds-number-items-number-index : goal.offset_bounds-number-items-number-index
+offset_bounds-number-items-number-index c = grind (arith, common_steps)

@@ -1,0 +1,9 @@
+use Rattle.std.proofs.lemmas.Grind.{common_steps}
+use Rattle.std.proofs.Common.{arith}
+use Rattle.cip_basis.proofs.dual.turn_first.Goals as goal
+
+pub offset_bounds-picks-pick-index : goal.offset_bounds-picks-pick-index
+offset_bounds-picks-pick-index c = grind (arith, common_steps)
+
+pub loop-pick-preserved : goal.loop-pick-preserved
+loop-pick-preserved c = grind (arith, common_steps)

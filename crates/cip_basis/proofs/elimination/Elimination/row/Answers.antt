@@ -1,0 +1,6 @@
+use Rattle.std.proofs.lemmas.Grind.{common_steps}
+use Rattle.std.proofs.Common.{arith}
+use Rattle.cip_basis.proofs.elimination.Elimination.row.Goals as goal
+
+pub get-requires : goal.get-requires
+get-requires c = grind (arith, common_steps)

@@ -1,0 +1,6 @@
+use Rattle.std.proofs.lemmas.Grind.{common_steps}
+use Rattle.std.proofs.Common.{arith}
+use Rattle.cip_basis.proofs.elimination.Elimination.take_row.Goals as goal
+
+pub offset_bounds-item-items-item-index : goal.offset_bounds-item-items-item-index
+offset_bounds-item-items-item-index c = grind (arith, common_steps)

@@ -1,0 +1,15 @@
+use Rattle.std.proofs.lemmas.Grind.{common_steps}
+use Rattle.std.proofs.Common.{arith}
+use Rattle.cip_basis.proofs.table.fill_at.Goals as goal
+
+pub offset_bounds-term-items-term-index : goal.offset_bounds-term-items-term-index
+offset_bounds-term-items-term-index c = grind (arith, common_steps)
+
+pub part_some-lines : goal.part_some-lines
+part_some-lines c = grind (arith, common_steps)
+
+pub part_none-lines : goal.part_none-lines
+part_none-lines c = grind (arith, common_steps)
+
+pub loop-term-preserved : goal.loop-term-preserved
+loop-term-preserved c = grind (arith, common_steps)

@@ -1,0 +1,48 @@
+use Rattle.std.proofs.lemmas.Grind.{common_steps}
+use Rattle.std.proofs.Common.{arith}
+use Rattle.cip_blocks.proofs.block_words.BlockWords.take_number.Goals as goal
+
+pub returns-in_default-2-clause-taken : goal.returns-in_default-2-clause-taken
+returns-in_default-2-clause-taken c = grind (arith, common_steps)
+
+pub invariant_of-self : goal.invariant_of-self
+invariant_of-self c = grind (arith, common_steps)
+
+pub index_mut-requires : goal.index_mut-requires
+index_mut-requires c = grind (arith, common_steps)
+
+pub returns-in_default-clause-taken : goal.returns-in_default-clause-taken
+returns-in_default-clause-taken c = grind (arith, common_steps)
+
+pub returns-clause-same : goal.returns-clause-same
+returns-clause-same c = grind (arith, common_steps)
+
+pub index-requires : goal.index-requires
+index-requires c = grind (arith, common_steps)
+
+pub overflow_cast-at : goal.overflow_cast-at
+overflow_cast-at c = grind (arith, common_steps)
+
+pub returns-then-at-len-clause-same : goal.returns-then-at-len-clause-same
+returns-then-at-len-clause-same c = grind (arith, common_steps)
+
+pub returns-clause-kinds : goal.returns-clause-kinds
+returns-clause-kinds c = grind (arith, common_steps)
+
+pub overflow_sub-block : goal.overflow_sub-block
+overflow_sub-block c = grind (arith, common_steps)
+
+pub returns-then-at-len-clause-kinds : goal.returns-then-at-len-clause-kinds
+returns-then-at-len-clause-kinds c = grind (arith, common_steps)
+
+pub returns-in_default-2-clause-kinds : goal.returns-in_default-2-clause-kinds
+returns-in_default-2-clause-kinds c = grind (arith, common_steps)
+
+pub returns-in_default-clause-kinds : goal.returns-in_default-clause-kinds
+returns-in_default-clause-kinds c = grind (arith, common_steps)
+
+pub returns-in_default-clause-same : goal.returns-in_default-clause-same
+returns-in_default-clause-same c = grind (arith, common_steps)
+
+pub returns-in_default-2-clause-same : goal.returns-in_default-2-clause-same
+returns-in_default-2-clause-same c = grind (arith, common_steps)

@@ -1,0 +1,15 @@
+use Rattle.std.proofs.lemmas.Grind.{common_steps}
+use Rattle.std.proofs.Common.{arith}
+use Rattle.cip_calls.proofs.proposals.split_proposed.Goals as goal
+
+pub returns-in_default : goal.returns-in_default
+returns-in_default c = grind (arith, common_steps)
+
+pub returns-in_default-2 : goal.returns-in_default-2
+returns-in_default-2 c = grind (arith, common_steps)
+
+pub returns-in-Enforcement-Branched : goal.returns-in-Enforcement-Branched
+returns-in-Enforcement-Branched c = grind (arith, common_steps)
+
+pub returns-in-Split : goal.returns-in-Split
+returns-in-Split c = grind (arith, common_steps)

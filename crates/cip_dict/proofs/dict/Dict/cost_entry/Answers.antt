@@ -1,0 +1,9 @@
+use Rattle.std.proofs.lemmas.Grind.{common_steps}
+use Rattle.std.proofs.Common.{arith}
+use Rattle.cip_dict.proofs.dict.Dict.cost_entry.Goals as goal
+
+pub returns : goal.returns
+returns c = grind (arith, common_steps)
+
+pub entry-requires : goal.entry-requires
+entry-requires c = grind (arith, common_steps)

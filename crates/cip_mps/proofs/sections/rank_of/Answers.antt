@@ -1,0 +1,21 @@
+use Rattle.std.proofs.lemmas.Grind.{common_steps}
+use Rattle.std.proofs.Common.{arith}
+use Rattle.cip_mps.proofs.sections.rank_of.Goals as goal
+
+pub returns-in-RightSides : goal.returns-in-RightSides
+returns-in-RightSides c = grind (arith, common_steps)
+
+pub returns-in-Title : goal.returns-in-Title
+returns-in-Title c = grind (arith, common_steps)
+
+pub returns-in-End : goal.returns-in-End
+returns-in-End c = grind (arith, common_steps)
+
+pub returns-in-Columns : goal.returns-in-Columns
+returns-in-Columns c = grind (arith, common_steps)
+
+pub returns-in-Rows : goal.returns-in-Rows
+returns-in-Rows c = grind (arith, common_steps)
+
+pub returns-in-NoPart : goal.returns-in-NoPart
+returns-in-NoPart c = grind (arith, common_steps)

@@ -1,0 +1,6 @@
+use Rattle.std.proofs.lemmas.Grind.{common_steps}
+use Rattle.std.proofs.Common.{arith}
+use Rattle.cip_tighten.proofs.covers.fill.Goals as goal
+
+pub offset_bounds-picks-pick-index : goal.offset_bounds-picks-pick-index
+offset_bounds-picks-pick-index c = grind (arith, common_steps)

@@ -1,0 +1,12 @@
+use Rattle.std.proofs.lemmas.Grind.{common_steps}
+use Rattle.std.proofs.Common.{arith}
+use Rattle.cip_tighten.proofs.gains.has_fraction.Goals as goal
+
+pub bounds-point-column : goal.bounds-point-column
+bounds-point-column c = grind (arith, common_steps)
+
+pub offset_bounds-point-column : goal.offset_bounds-point-column
+offset_bounds-point-column c = grind (arith, common_steps)
+
+pub get-requires : goal.get-requires
+get-requires c = grind (arith, common_steps)

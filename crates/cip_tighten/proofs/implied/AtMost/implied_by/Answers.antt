@@ -1,0 +1,6 @@
+use Rattle.std.proofs.lemmas.Grind.{common_steps}
+use Rattle.std.proofs.Common.{arith}
+use Rattle.cip_tighten.proofs.implied.AtMost.implied_by.Goals as goal
+
+pub div-requires : goal.div-requires
+div-requires c = grind (arith, common_steps)

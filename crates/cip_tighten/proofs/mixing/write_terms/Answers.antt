@@ -1,0 +1,6 @@
+use Rattle.std.proofs.lemmas.Grind.{common_steps}
+use Rattle.std.proofs.Common.{arith}
+use Rattle.cip_tighten.proofs.mixing.write_terms.Goals as goal
+
+pub offset_bounds-items-shift-index : goal.offset_bounds-items-shift-index
+offset_bounds-items-shift-index c = grind (arith, common_steps)

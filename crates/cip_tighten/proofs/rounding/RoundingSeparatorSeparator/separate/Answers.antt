@@ -1,0 +1,9 @@
+use Rattle.std.proofs.lemmas.Grind.{common_steps}
+use Rattle.std.proofs.Common.{arith}
+use Rattle.cip_tighten.proofs.rounding.RoundingSeparatorSeparator.separate.Goals as goal
+
+pub returns : goal.returns
+returns c = grind (arith, common_steps)
+
+pub returns-then-not-may_pay : goal.returns-then-not-may_pay
+returns-then-not-may_pay c = grind (arith, common_steps)

@@ -1,0 +1,9 @@
+use Rattle.std.proofs.lemmas.Grind.{common_steps}
+use Rattle.std.proofs.Common.{arith}
+use Rattle.cip_tighten.proofs.shifts.Shifted.take_listed.Goals as goal
+
+pub offset_bounds-term-items-term-index : goal.offset_bounds-term-items-term-index
+offset_bounds-term-items-term-index c = grind (arith, common_steps)
+
+pub get-requires : goal.get-requires
+get-requires c = grind (arith, common_steps)
