@@ -1,4 +1,5 @@
 pub mod Lists
+pub mod Ready
 pub mod Rounding
 pub mod Solvable
 pub mod Solving

@@ -1,3 +1,4 @@
+use Rattle.std.proofs.lemmas.Grind.{common_steps}
 use Rattle.std.proofs.Common.{◌≡◌, ◌+◌, length, ap, ◌∙◌, arith}
 use Rattle.std.proofs.lemmas.List.{length-replicate}
 use Rattle.cip_cert.specs.Lent.{lent_of, multiples_of}
@@ -100,3 +101,6 @@ returns-clause-steps c =
 pub returns-clause-columns : goal.returns-clause-columns
 returns-clause-columns c = c.add_highs.ensures.columns ∙ c.in-Ok-add_lows.ensures.columns ∙ c.in-Ok.ensures.columns
     ∙ ap length c.clear.ensures.entries ∙ length-replicate _ _
+
+pub returns-then-is_too_long-clause-columns : goal.returns-then-is_too_long-clause-columns
+returns-then-is_too_long-clause-columns c = grind (arith, common_steps)

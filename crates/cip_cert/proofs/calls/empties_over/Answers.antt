@@ -16,3 +16,12 @@ returns-in-Err-clause-columns c = grind (arith, common_steps)
 
 pub returns-in-Ok-clause-columns : goal.returns-in-Ok-clause-columns
 returns-in-Ok-clause-columns c = grind (arith, common_steps)
+
+pub returns-in-Ok-clause-steps : goal.returns-in-Ok-clause-steps
+returns-in-Ok-clause-steps c = grind (arith, common_steps)
+
+pub returns-in-Err-clause-follows : goal.returns-in-Err-clause-follows
+returns-in-Err-clause-follows c = grind (arith, common_steps)
+
+pub empties_row-requires-clause-room : goal.empties_row-requires-clause-room
+empties_row-requires-clause-room c = grind (arith, common_steps)

@@ -1,4 +1,5 @@
-use Rattle.std.proofs.Common.{length, false, get_or}
+use Rattle.std.proofs.lemmas.Grind.{common_steps}
+use Rattle.std.proofs.Common.{length, false, get_or, arith}
 use Rattle.cip_cert.specs.Lent.{lent_of, multiples_of}
 use Rattle.cip_cert.proofs.Meaning.{low_on_ok, high_on_ok}
 use Rattle.cip_cert.proofs.calls.reduction.Goals as goal
@@ -52,3 +53,9 @@ returns-in-High-clause-steps c = rw (c.in-High.is) c.high_reduced_row.ensures.st
 
 pub returns-in-High-clause-columns : goal.returns-in-High-clause-columns
 returns-in-High-clause-columns c = c.high_reduced_row.ensures.columns
+
+pub returns-in-High-clause-bounds : goal.returns-in-High-clause-bounds
+returns-in-High-clause-bounds c = grind (arith, common_steps)
+
+pub returns-in-Low-clause-bounds : goal.returns-in-Low-clause-bounds
+returns-in-Low-clause-bounds c = grind (arith, common_steps)

@@ -19,3 +19,6 @@ returns-in-Ok-clause-steps c = grind (arith, common_steps)
 
 pub returns-in-Err-clause-columns : goal.returns-in-Err-clause-columns
 returns-in-Err-clause-columns c = grind (arith, common_steps)
+
+pub rests_row-requires-clause-room : goal.rests_row-requires-clause-room
+rests_row-requires-clause-room c = grind (arith, common_steps)

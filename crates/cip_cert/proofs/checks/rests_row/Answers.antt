@@ -36,3 +36,6 @@ returns-in-Err-clause-steps c = grind (arith, common_steps)
 
 pub returns-in-Err-clause-columns : goal.returns-in-Err-clause-columns
 returns-in-Err-clause-columns c = grind (arith, common_steps)
+
+pub aggregate-requires-clause-room : goal.aggregate-requires-clause-room
+aggregate-requires-clause-room c = grind (arith, common_steps)

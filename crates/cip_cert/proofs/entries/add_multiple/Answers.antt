@@ -29,3 +29,6 @@ returns-then-is_negative-clause-columns c = omega arith
 
 pub returns-then-is_positive-clause-columns : goal.returns-then-is_positive-clause-columns
 returns-then-is_positive-clause-columns c = omega arith
+
+pub returns-else-is_negative-clause-columns : goal.returns-else-is_negative-clause-columns
+returns-else-is_negative-clause-columns c = grind (arith, common_steps)

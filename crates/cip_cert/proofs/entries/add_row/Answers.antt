@@ -13,3 +13,6 @@ returns-in-Ok-clause-steps c = grind (arith, common_steps)
 
 pub returns-in-Ok-clause-columns : goal.returns-in-Ok-clause-columns
 returns-in-Ok-clause-columns c = grind (arith, common_steps)
+
+pub returns-in-Err-clause-columns : goal.returns-in-Err-clause-columns
+returns-in-Err-clause-columns c = grind (arith, common_steps)

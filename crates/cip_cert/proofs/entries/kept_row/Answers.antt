@@ -39,3 +39,6 @@ returns c =
 
 pub inside-requires : goal.inside-requires
 inside-requires c = grind (arith, common_steps)
+
+pub offset_bounds-pool-place : goal.offset_bounds-pool-place
+offset_bounds-pool-place c = grind (arith, common_steps)

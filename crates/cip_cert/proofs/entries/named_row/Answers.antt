@@ -16,3 +16,9 @@ returns-in-None-cutoff c = rw (c.in-Cutoff.is, c.in-None-cutoff.is) refl
 
 pub returns-in-Some-cutoff : goal.returns-in-Some-cutoff
 returns-in-Some-cutoff c = grind (arith, common_steps)
+
+pub overflow_cast-number : goal.overflow_cast-number
+overflow_cast-number c = grind (arith, common_steps)
+
+pub get-requires : goal.get-requires
+get-requires c = grind (arith, common_steps)

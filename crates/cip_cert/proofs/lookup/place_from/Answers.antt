@@ -1,3 +1,4 @@
+use Rattle.std.proofs.lemmas.Grind.{common_steps}
 use Rattle.std.proofs.Common.{◌+◌, ◌-◌, ◌/◌, ◌<◌, arith}
 use Rattle.cip_cert.proofs.Pools.{middle_within, more_before, less_after}
 use Rattle.cip_cert.proofs.lookup.place_from.Goals as goal
@@ -65,3 +66,12 @@ returns-clause-before c = c.loop-low.invariant.before
 
 pub returns-clause-after : goal.returns-clause-after
 returns-clause-after c = λ k d h l. c.loop-low.invariant.after k d (omega (arith, h, c.loop-low-test.false)) l
+
+pub overflow_add-low : goal.overflow_add-low
+overflow_add-low c = grind (arith, common_steps)
+
+pub offset_bounds-pool-middle : goal.offset_bounds-pool-middle
+offset_bounds-pool-middle c = grind (arith, common_steps)
+
+pub overflow_add-middle : goal.overflow_add-middle
+overflow_add-middle c = grind (arith, common_steps)

@@ -1,3 +1,4 @@
+use Rattle.std.proofs.lemmas.Grind.{common_steps}
 use Rattle.std.proofs.Common.{arith}
 use Rattle.cip_cert.proofs.Pools.{found, none_between, other_default}
 use Rattle.cip_cert.proofs.lookup.pool_place.Goals as goal
@@ -14,3 +15,12 @@ returns-else-place-pool c =
       | else-place-pool-via-then-place-pool+else-pool-place w ↦ other_default c.args.pool.now c.place_from-place.result c.args.id w.index-pool-place.result w.if-pool-place.false
       | else-place-pool-via-else-place-pool w ↦ λ d l. absurd (omega (arith, l, w.if-place-pool.false))
     ])
+
+pub bounds-pool-place-then-place-pool : goal.bounds-pool-place-then-place-pool
+bounds-pool-place-then-place-pool c = grind (arith, common_steps)
+
+pub bounds-pool-place : goal.bounds-pool-place
+bounds-pool-place c = grind (arith, common_steps)
+
+pub offset_bounds-pool-place : goal.offset_bounds-pool-place
+offset_bounds-pool-place c = grind (arith, common_steps)

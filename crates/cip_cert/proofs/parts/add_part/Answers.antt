@@ -16,3 +16,6 @@ returns-in-Err-clause-steps c = grind (arith, common_steps)
 
 pub returns-in_default-clause-steps : goal.returns-in_default-clause-steps
 returns-in_default-clause-steps c = grind (arith, common_steps)
+
+pub returns-in_default-clause-columns : goal.returns-in_default-clause-columns
+returns-in_default-clause-columns c = grind (arith, common_steps)

@@ -10,3 +10,6 @@ returns c = grind (arith, common_steps)
 
 pub returns-then-names_resting : goal.returns-then-names_resting
 returns-then-names_resting c = grind (arith, common_steps)
+
+pub offset_bounds-multiple-items-multiple-index : goal.offset_bounds-multiple-items-multiple-index
+offset_bounds-multiple-items-multiple-index c = grind (arith, common_steps)

@@ -61,3 +61,6 @@ returns-clause-capacity c = c.loop-at.invariant.capacity
 
 pub overflow_cast-at : goal.overflow_cast-at
 overflow_cast-at c = grind (arith, common_steps)
+
+pub offset_bounds-entries-at : goal.offset_bounds-entries-at
+offset_bounds-entries-at c = grind (arith, common_steps)

@@ -45,3 +45,6 @@ returns c =
 
 pub offset_bounds-entries-column : goal.offset_bounds-entries-column
 offset_bounds-entries-column c = grind (arith, common_steps)
+
+pub offset_bounds-touched-column-index : goal.offset_bounds-touched-column-index
+offset_bounds-touched-column-index c = grind (arith, common_steps)

@@ -40,3 +40,9 @@ bounds-whole-column c = grind (arith, common_steps)
 
 pub offset_bounds-entries-column : goal.offset_bounds-entries-column
 offset_bounds-entries-column c = grind (arith, common_steps)
+
+pub offset_bounds-touched-column-index : goal.offset_bounds-touched-column-index
+offset_bounds-touched-column-index c = grind (arith, common_steps)
+
+pub loop-column-init : goal.loop-column-init
+loop-column-init c = grind (arith, common_steps)

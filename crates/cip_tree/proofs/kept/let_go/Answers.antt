@@ -71,3 +71,21 @@ returns-clause-len c = grind (arith, common_steps)
 
 pub returns-then-lower-clause-len : goal.returns-then-lower-clause-len
 returns-then-lower-clause-len c = grind (arith, common_steps)
+
+pub returns-in_default-clause-slots : goal.returns-in_default-clause-slots
+returns-in_default-clause-slots c = grind (arith, common_steps)
+
+pub returns-in_default-clause-capacity : goal.returns-in_default-clause-capacity
+returns-in_default-clause-capacity c = grind (arith, common_steps)
+
+pub returns-clause-next : goal.returns-clause-next
+returns-clause-next c = grind (arith, common_steps)
+
+pub returns-in_default-clause-len : goal.returns-in_default-clause-len
+returns-in_default-clause-len c = grind (arith, common_steps)
+
+pub returns-in_default-clause-next : goal.returns-in_default-clause-next
+returns-in_default-clause-next c = grind (arith, common_steps)
+
+pub remove-gone-requires : goal.remove-gone-requires
+remove-gone-requires c = grind (arith, common_steps)

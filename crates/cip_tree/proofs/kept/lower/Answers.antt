@@ -7,3 +7,15 @@ returns-clause-slots c = grind (arith, common_steps)
 
 pub overflow_sub-below : goal.overflow_sub-below
 overflow_sub-below c = grind (arith, common_steps)
+
+pub returns-clause-len : goal.returns-clause-len
+returns-clause-len c = grind (arith, common_steps)
+
+pub returns-clause-capacity : goal.returns-clause-capacity
+returns-clause-capacity c = grind (arith, common_steps)
+
+pub insert_reserved-requires : goal.insert_reserved-requires
+insert_reserved-requires c = grind (arith, common_steps)
+
+pub remove-was-requires : goal.remove-was-requires
+remove-was-requires c = grind (arith, common_steps)

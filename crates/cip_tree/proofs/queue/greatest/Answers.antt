@@ -14,3 +14,6 @@ returns c = subst (All (λ node. IsBoundAtMost node.bound c.loop-node.most)) (ta
 
 pub loop-node-init : goal.loop-node-init
 loop-node-init c = grind (arith, common_steps)
+
+pub offset_bounds-nodes-node-index : goal.offset_bounds-nodes-node-index
+offset_bounds-nodes-node-index c = grind (arith, common_steps)

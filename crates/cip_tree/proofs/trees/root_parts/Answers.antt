@@ -22,3 +22,30 @@ returns-in_default-with_capacity-clause-started c = grind (arith, common_steps)
 
 pub returns-in_default-with_capacity-clause-whole : goal.returns-in_default-with_capacity-clause-whole
 returns-in_default-with_capacity-clause-whole c = grind (arith, common_steps)
+
+pub same-kept : goal.same-kept
+same-kept c = grind (arith, common_steps)
+
+pub returns-in_default-insert-clause-started : goal.returns-in_default-insert-clause-started
+returns-in_default-insert-clause-started c = grind (arith, common_steps)
+
+pub returns-in_default-insert-clause-whole : goal.returns-in_default-insert-clause-whole
+returns-in_default-insert-clause-whole c = grind (arith, common_steps)
+
+pub returns-in_default-copied-clause-started : goal.returns-in_default-copied-clause-started
+returns-in_default-copied-clause-started c = grind (arith, common_steps)
+
+pub returns-in_default-copied-clause-whole : goal.returns-in_default-copied-clause-whole
+returns-in_default-copied-clause-whole c = grind (arith, common_steps)
+
+pub returns-in_default-clause-started : goal.returns-in_default-clause-started
+returns-in_default-clause-started c = grind (arith, common_steps)
+
+pub returns-in_default-clause-whole : goal.returns-in_default-clause-whole
+returns-in_default-clause-whole c = grind (arith, common_steps)
+
+pub returns-in_default-new-clause-started : goal.returns-in_default-new-clause-started
+returns-in_default-new-clause-started c = grind (arith, common_steps)
+
+pub returns-in_default-new-clause-whole : goal.returns-in_default-new-clause-whole
+returns-in_default-new-clause-whole c = grind (arith, common_steps)

@@ -1,4 +1,5 @@
-use Rattle.std.proofs.Common.{◌∙◌, take, ap, sym, subst, refl, take_all}
+use Rattle.std.proofs.lemmas.Grind.{common_steps}
+use Rattle.std.proofs.Common.{◌∙◌, take, ap, sym, subst, refl, take_all, arith}
 use Rattle.std.specs.Prelude.{List}
 use Rattle.cip_rational.specs.Rational.{ℚ}
 use Rattle.cip_problem.specs.Box.{IsInBox}
@@ -49,3 +50,9 @@ returns-clause-narrowed c = λ p. c.loop-note.invariant.region p ∙ ap (λ l. n
 
 pub returns-clause-marks : goal.returns-clause-marks
 returns-clause-marks c = c.loop-note.invariant.marks
+
+pub offset_bounds-notes-note-index : goal.offset_bounds-notes-note-index
+offset_bounds-notes-note-index c = grind (arith, common_steps)
+
+pub returns-in_err-narrow-clause-narrowed : goal.returns-in_err-narrow-clause-narrowed
+returns-in_err-narrow-clause-narrowed c = grind (arith, common_steps)

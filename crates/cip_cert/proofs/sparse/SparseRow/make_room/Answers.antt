@@ -19,3 +19,12 @@ scan-requires-clause-room c = grind (arith, common_steps)
 
 pub scan-requires-clause-few : goal.scan-requires-clause-few
 scan-requires-clause-few c = grind (arith, common_steps)
+
+pub overflow_mul-len : goal.overflow_mul-len
+overflow_mul-len c = grind (arith, common_steps)
+
+pub scan-requires-clause-empty : goal.scan-requires-clause-empty
+scan-requires-clause-empty c = grind (arith, common_steps)
+
+pub returns-then-len-clause-entries : goal.returns-then-len-clause-entries
+returns-then-len-clause-entries c = grind (arith, common_steps)

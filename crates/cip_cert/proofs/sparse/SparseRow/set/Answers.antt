@@ -27,3 +27,6 @@ push_reserved-requires c = grind (arith, common_steps)
 
 pub returns : goal.returns
 returns c = grind (arith, common_steps)
+
+pub make_room-requires : goal.make_room-requires
+make_room-requires c = grind (arith, common_steps)

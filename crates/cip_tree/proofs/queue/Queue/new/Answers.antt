@@ -11,3 +11,9 @@ returns c =
 
 pub push-requires : goal.push-requires
 push-requires c = grind (arith, common_steps)
+
+pub invariant_of-queue : goal.invariant_of-queue
+invariant_of-queue c = grind (arith, common_steps)
+
+pub same-queue : goal.same-queue
+same-queue c = grind (arith, common_steps)

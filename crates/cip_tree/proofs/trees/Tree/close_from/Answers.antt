@@ -52,3 +52,12 @@ returns-else-reaches-clause-nodes c =
 
 pub release_from-requires-clause-waiting : goal.release_from-requires-clause-waiting
 release_from-requires-clause-waiting c = grind (arith, common_steps)
+
+pub release_from-requires-clause-kept : goal.release_from-requires-clause-kept
+release_from-requires-clause-kept c = grind (arith, common_steps)
+
+pub returns-else-reaches-clause-taken : goal.returns-else-reaches-clause-taken
+returns-else-reaches-clause-taken c = grind (arith, common_steps)
+
+pub returns-else-reaches-clause-rest : goal.returns-else-reaches-clause-rest
+returns-else-reaches-clause-rest c = grind (arith, common_steps)

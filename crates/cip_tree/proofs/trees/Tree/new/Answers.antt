@@ -1,6 +1,7 @@
+use Rattle.std.proofs.lemmas.Grind.{common_steps}
 use Rattle.cip_domain.specs.Domain.{region_of}
 use Rattle.cip_tree.specs.Nodes.{filled_base, node_in}
-use Rattle.std.proofs.Common.{◌∷◌, [], List, ap, sym, ◌∙◌, subst, refl, length}
+use Rattle.std.proofs.Common.{◌∷◌, [], List, ap, sym, ◌∙◌, subst, refl, length, arith}
 use Rattle.cip_tree.specs.declared.queue.OpenNode.{OpenNode}
 use Rattle.cip_tree.specs.Inside.{IsInOrder, nodes_at}
 use Rattle.cip_tree.proofs.Starts.{root_order, root_nodes, root_bases}
@@ -38,3 +39,9 @@ returns-in-Ok c =
       log = ap (λ l. entries_of l) c.in-Ok.ensures.started.log;
       work = ap (λ (w : Way). region_of w.domain) c.new.ensures ∙ c.in-Ok.ensures.started.work;
     }
+
+pub same-root : goal.same-root
+same-root c = grind (arith, common_steps)
+
+pub returns-in-Err : goal.returns-in-Err
+returns-in-Err c = grind (arith, common_steps)

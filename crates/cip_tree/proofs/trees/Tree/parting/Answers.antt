@@ -53,3 +53,6 @@ pub returns-else-not-whole : goal.returns-else-not-whole
 returns-else-not-whole c =
     let whole : slice_get c.args.self.now.integral c.args.col ≡ Some c.index-whole.result.now = ap (λ (t : Nodes). slice_get t.integral c.args.col) (sym c.self.view_is) ∙ slice_get-get_or c.self.inside.whole.items c.args.col c.index-whole.result.now (omega (arith, c.requires.column, ap (λ (t : Nodes). length t.integral) c.self.view_is)) ∙ ap Some (sym c.index-whole.ensures) in
     grind (arith, common_steps)
+
+pub index-whole-requires : goal.index-whole-requires
+index-whole-requires c = grind (arith, common_steps)

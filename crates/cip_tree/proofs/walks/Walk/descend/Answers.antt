@@ -33,3 +33,6 @@ returns c = λ ids place top st cl.
 
 pub loop-place-smaller : goal.loop-place-smaller
 loop-place-smaller c = grind (arith, common_steps)
+
+pub loop-place-init : goal.loop-place-init
+loop-place-init c = grind (arith, common_steps)

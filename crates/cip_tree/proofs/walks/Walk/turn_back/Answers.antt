@@ -23,3 +23,30 @@ loop-stop-preserved c =
 
 pub loop-stop-smaller : goal.loop-stop-smaller
 loop-stop-smaller c = grind (arith, common_steps)
+
+pub overflow_sub-count : goal.overflow_sub-count
+overflow_sub-count c = grind (arith, common_steps)
+
+pub returns-then-stop-number-clause-ends : goal.returns-then-stop-number-clause-ends
+returns-then-stop-number-clause-ends c = grind (arith, common_steps)
+
+pub returns-clause-ends : goal.returns-clause-ends
+returns-clause-ends c = grind (arith, common_steps)
+
+pub returns-then-stop-number-clause-domain : goal.returns-then-stop-number-clause-domain
+returns-then-stop-number-clause-domain c = grind (arith, common_steps)
+
+pub returns-then-stop-number-clause-walked : goal.returns-then-stop-number-clause-walked
+returns-then-stop-number-clause-walked c = grind (arith, common_steps)
+
+pub returns-clause-domain : goal.returns-clause-domain
+returns-clause-domain c = grind (arith, common_steps)
+
+pub returns-clause-walked : goal.returns-clause-walked
+returns-clause-walked c = grind (arith, common_steps)
+
+pub loop-stop-init : goal.loop-stop-init
+loop-stop-init c = grind (arith, common_steps)
+
+pub same-self : goal.same-self
+same-self c = grind (arith, common_steps)
