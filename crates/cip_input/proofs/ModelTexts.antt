@@ -1,6 +1,6 @@
 -- What the reading of a text of a model answers.
-use Rattle.std.specs.Prelude.{◌≡◌, Bool, true, false, List, Option, None, Some, ℕ, take, IfSome, Result, Ok, Err, MatchResult}
-use Rattle.std.proofs.Common.{◌∙◌, sym, subst}
+use Rattle.std.specs.Prelude.{◌≡◌, ◌⊎◌, Bool, true, false, List, Option, None, Some, ℕ, take, IfSome, Result, Ok, Err, MatchResult}
+use Rattle.std.proofs.Common.{◌∙◌, inl, inr, sym, subst}
 use Rattle.cip_io.specs.Faults.{Rose}
 use Rattle.cip_io.specs.Store.{StoreTells}
 use Rattle.cip_problem.specs.Program.{Choice, Program}
@@ -15,7 +15,7 @@ use Rattle.cip_blocks.specs.ReadFault.{ReadFault}
 use Rattle.cip_blocks.specs.ReadFault.TheVariants as reader
 use Rattle.cip_blocks.specs.TextFaults.{IsFaultBy}
 use Rattle.cip_input.specs.Models.{is_lp_name, HasProgramAs, HasFaultAs, is_lp_kind, model_kind_number}
-use Rattle.cip_input.specs.TextPulls.{most_pulled, IsAllRead}
+use Rattle.cip_input.specs.TextPulls.{most_pulled, IsAllRead, PullCause}
 use Rattle.cip_input.specs.ModelsRead.{Reads, ReadCause}
 use Rattle.cip_input.specs.Unreads.{IsUnread}
 use Rattle.cip_input.specs.declared.model_kinds.ModelKind.{ModelKind}
@@ -63,6 +63,19 @@ model_unread number_of lp name e Gives same HasRead chosen now a (reader.Faulty 
 model_unread number_of lp name e Gives same HasRead chosen now a (reader.Faulty fault) h StoreFailed t = absurd t
 model_unread number_of lp name e Gives same HasRead chosen now a (reader.Faulty fault) h NoMemory t = absurd t
 model_unread number_of lp name e Gives same HasRead chosen now a reader.NoMemory h cause t = subst (ReadCause name chosen.left chosen now) (sym t) a.sound
+
+model_pulled : (name : List ℕ) (text : Option (List ℕ)) (old new : StoreTells) (cause : Unread ModelKind) → PullCause old new cause → ReadCause name text old new cause
+model_pulled name text old new StoreFailed p = p
+model_pulled name text old new (Faulty fault) p = absurd p
+model_pulled name text old new NoMemory p = p
+
+-- the program that a text gave that was read, or its fault, or why it was not read
+pub model_told : {K : Type 0} (number_of : K → ℕ) (lp : Bool) (name : List ℕ) → is_lp_name name ≡ lp → (Gives : K → ModelKind → Type 0) → ((kind : K) (made : ModelKind) → Gives kind made → (model_kind_number made ≡ number_of kind) × (is_lp_kind made ≡ lp)) → (old new : StoreTells) (result : Result Program (Unread ModelKind))
+    → MatchResult result (λ program. IsAllRead (λ bytes. HasProgramAs lp bytes program) old new) (λ cause. PullCause old new cause ⊎ ((fault : ReadFault K) × IsUnread Gives fault cause × IsAllRead (λ bytes. IsFaultBy number_of (HasFaultAs lp bytes) fault) old new))
+    → MatchResult result (Reads name old.left old new) (ReadCause name old.left old new)
+model_told number_of lp name e Gives same old new (Ok program) all = model_read lp name e _ old new all program all.has_read
+model_told number_of lp name e Gives same old new (Err cause) (inl p) = model_pulled name old.left old new cause p
+model_told number_of lp name e Gives same old new (Err cause) (inr told) = model_unread number_of lp name e Gives same _ old new told.2 told.0 told.2.has_read cause told.1
 
 -- the same over a call that began before the text was chosen
 pub read_later : (name : List ℕ) (text : Option (List ℕ)) (old chosen new : StoreTells) (result : Result Program (Unread ModelKind)) → chosen.left ≡ text → chosen.faults ≡ old.faults → MatchResult result (Reads name chosen.left chosen new) (ReadCause name chosen.left chosen new) → MatchResult result (Reads name text old new) (ReadCause name text old new)

@@ -1,41 +1,13 @@
 //! Reading a text of blocks from a store.
-ghost use Rattle.std.specs.Prelude.{◌≡◌, [], MatchResult, length};
-ghost use Rattle.cip_problem.specs.Program as problem;
-ghost use Rattle.cip_blocks.specs.PieceReaders.{HasTaken};
-ghost use Rattle.cip_blocks.specs.BlockReaders.{HasCome};
-ghost use Rattle.cip_blocks.specs.BlockTexts.{program_of};
+ghost use Rattle.std.specs.Prelude.{◌≡◌, MatchResult};
 ghost use Rattle.cip_input.specs.BlocksRead.{ReadsBlocks, BlocksCause};
-ghost use Rattle.cip_input.specs.declared.pulling.TheConstants.{PIECE};
 
-use crate::pulling::{PIECE, read_pieces};
+use crate::pulling::read_text;
 use crate::unread::Unread;
-use cip_blocks::{BlockKind, BlockReader, BlockText};
+use cip_blocks::{BlockKind, BlockText};
 use cip_io::Store;
 use cip_model::{Blocks, Program};
 use std::alloc::Global;
-
-/// Reads the current text, of which nothing was pulled yet.
-fn read_text<S: Store>(
-    store: &mut S,
-    mut reader: BlockReader<'_>,
-    buffer: &mut [u8],
-) -> Result<Blocks, Unread<BlockKind>>
-    requires room { length buffer.old ≡ PIECE }
-    ensures answer { (program : problem.Program) → HasTaken HasCome program_of reader.entry program []
-        → MatchResult result
-        (ReadsBlocks program (S.tells store.old).left (S.tells store.old) (S.tells store.new))
-        (BlocksCause program (S.tells store.old).left (S.tells store.old) (S.tells store.new)) }
-    ensures holds { (S.tells store.new).holds ≡ (S.tells store.old).holds }
-{
-    match read_pieces::<S, BlockText<'_>, BlockKind>(store, &mut reader, buffer) {
-        Ok(()) => (),
-        Err(unread) => {
-            drop(reader);
-            return Err(unread);
-        }
-    }
-    Ok(reader.finish()?)
-}
 
 /// Reads the blocks of a program from the text of this name. The text is pulled in pieces of at most 4,096 bytes to its
 /// end, or to byte 67,108,865, a faulty one too.
@@ -56,8 +28,5 @@ pub fn read_blocks<S: Store>(
         (BlocksCause program.now text (S.tells store.old) (S.tells store.new)) }
     ensures holds { (S.tells store.new).holds ≡ (S.tells store.old).holds }
 {
-    let mut buffer = vec![in alloc; 0u8; PIECE]?;
-    store.choose(name)?;
-    let reader = BlockReader::new((alloc, program));
-    read_text(store, reader, buffer.as_mut_slice())
+    read_text::<S, BlockText<'_>, BlockKind>(alloc, store, name, (alloc, program))
 }

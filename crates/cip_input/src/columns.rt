@@ -1,8 +1,7 @@
 //! The columns of a program that is drawn: their names, sides and costs.
-ghost use Rattle.std.specs.Prelude.{◌≡◌, ◌+◌, ◌%◌, map, replicate, IfOk, OnOk};
+ghost use Rattle.std.specs.Prelude.{◌≡◌, map, replicate, IfOk, OnOk};
 ghost use Rattle.std.specs.List.{range_with_len};
-ghost use Rattle.cip_rational.specs.Rational.{negate};
-ghost use Rattle.cip_input.specs.Generated.{natural, cost_from, state_after, name_of, zero_to_three};
+ghost use Rattle.cip_input.specs.Generated.{cost_from, state_after, name_of, zero_to_three};
 
 use crate::draws::Draws;
 use cip_frac::Frac;
@@ -11,15 +10,7 @@ use cip_model::Names;
 use itoa::Buffer;
 use std::alloc::{AllocError, Global};
 
-/// The cost that a draw gives, in the minimised form.
-fn cost_of(drawn: u64) -> Frac
-    ensures { result ≡ negate (natural (1 + drawn % 20)) }
-{
-    let cost = 1 + drawn % 20;
-    Frac::from(cost as i64).neg()
-}
-
-/// The costs of so many columns, from the next draws.
+/// The costs of so many columns, in the minimised form, from the next draws.
 pub(crate) fn drawn_costs(
     alloc: Global,
     draws: &mut Draws,
@@ -31,7 +22,8 @@ pub(crate) fn drawn_costs(
 {
     let mut costs = Vec::new(alloc);
     for _column in 0..columns {
-        costs.push(cost_of(draws.draw()))?;
+        let cost = 1 + draws.draw() % 20;
+        costs.push(Frac::from(cost as i64).neg())?;
     }
     Ok(costs)
 }

@@ -3,7 +3,6 @@ ghost use Rattle.std.specs.Prelude.{◌≡◌, ◌+◌, ◌≤◌, ◌++◌, Mat
 ghost use Rattle.cip_io.specs.Faults.{CountsFaults};
 ghost use Rattle.cip_io.specs.Sink.{TakesAll, PushesPart};
 ghost use Rattle.cip_input.specs.Plain.{plain_text, plain_status};
-ghost use Rattle.cip_input.specs.Refusals.{refused_text};
 
 use crate::refusals::FaultyText;
 use cip_io::{Failed, Sink, push_all};
@@ -33,21 +32,6 @@ fn put(buffer: &mut [u8; 128], at: usize, bytes: &[u8]) -> usize
     end
 }
 
-/// Writes the text of a refusal at the front of the buffer, and answers how many bytes it has.
-fn write_refusal(fault: FaultyText, buffer: &mut [u8; 128]) -> usize
-    ensures within { result ≤ 128 }
-    ensures text { take result buffer.new ≡ refused_text fault }
-{
-    let mut digits = Buffer::new();
-    let end = put(buffer, 0, b"status refused\ntext ");
-    let end = put(buffer, end, fault.text());
-    let end = put(buffer, end, b"\nline ");
-    let end = put(buffer, end, digits.format(fault.line()).as_bytes());
-    let end = put(buffer, end, b"\nkind ");
-    let end = put(buffer, end, fault.kind());
-    put(buffer, end, b"\nend\n")
-}
-
 impl Plain {
     /// Writes what is printed at the front of the buffer, and answers how many bytes it has.
     fn write_into(self, buffer: &mut [u8; 128]) -> usize
@@ -57,7 +41,16 @@ impl Plain {
         match self {
             Plain::Usage => put(buffer, 0, b"status usage\nend\n"),
             Plain::ReadFault => put(buffer, 0, b"status readfault\nend\n"),
-            Plain::Refused(fault) => write_refusal(fault, buffer),
+            Plain::Refused(fault) => {
+                let mut digits = Buffer::new();
+                let end = put(buffer, 0, b"status refused\ntext ");
+                let end = put(buffer, end, fault.text());
+                let end = put(buffer, end, b"\nline ");
+                let end = put(buffer, end, digits.format(fault.line()).as_bytes());
+                let end = put(buffer, end, b"\nkind ");
+                let end = put(buffer, end, fault.kind());
+                put(buffer, end, b"\nend\n")
+            }
             Plain::NoMemory => put(buffer, 0, b"status nomemory\nend\n"),
         }
     }

@@ -1,5 +1,5 @@
 //! A text of a point, in whatever pieces it comes.
-ghost use Rattle.std.specs.Prelude.{◌≡◌, ◌+◌, ◌<◌, ◌≤◌, ◌∷◌, ◌++◌, [], ℕ, List, Option, length, true, false, IfSome, OnOk, IfOk, fold};
+ghost use Rattle.std.specs.Prelude.{◌≡◌, ◌+◌, ◌<◌, ◌≤◌, ◌∷◌, ◌++◌, [], ℕ, List, Option, length, true, false, IfSome, OnOk, fold};
 ghost use Rattle.std.specs.List.{list_any};
 ghost use Rattle.cip_rational.specs.Rational.{ℚ};
 ghost use Rattle.cip_problem.specs.Limits.{longest_text};
@@ -7,14 +7,13 @@ ghost use Rattle.cip_text_rules.specs.Lines.{is_line_feed};
 ghost use Rattle.cip_text_rules.specs.LineTexts.{outcome_of};
 ghost use Rattle.cip_text_rules.specs.LineStream.{Stream, byte_read, stream_of};
 ghost use Rattle.cip_text.specs.PieceFaults.{has_kind_to};
-ghost use Rattle.cip_text.specs.PieceCuts.{no_bytes, cut_of, known_fault};
-ghost use Rattle.cip_text.specs.PieceStands.{IsRead, IsLastRead, outcome_with};
+ghost use Rattle.cip_text.specs.PieceCuts.{cut_of};
+ghost use Rattle.cip_text.specs.PieceStands.{IsRead, outcome_with};
 ghost use Rattle.cip_problem.specs.NamesOnce.{StandOnce};
 ghost use Rattle.cip_text_rules.specs.PointRules.{point_reading};
-ghost use Rattle.cip_text_rules.specs.PointSteps.{no_values};
 
 use crate::kinds::PointKind;
-use crate::point_lines::PointLines;
+use crate::point_lines::{PointLines, point_of};
 use cip_frac::Frac;
 use cip_model::Program;
 use cip_text::{KnownFault, PieceText, Pieces, ReadFault, TextFault, cut_line, told};
@@ -35,20 +34,6 @@ pub struct PointText<'a> {
 
 impl<'a> PointText<'a> {
     ghost use Rattle.cip_input.specs.PointTexts.{kept_of, values_of, program_of, steps_of, StandsFor};
-
-    /// Before the first byte.
-    pub(crate) fn new(alloc: Global, program: &'a Program) -> Result<PointText<'a>, AllocError>
-        ensures kept { IfOk result (λ text. kept_of text ≡ no_bytes) }
-        ensures program { IfOk result (λ text. program_of text ≡ program.now) }
-        ensures values { IfOk result (λ text. values_of text ≡ no_values program.now) }
-    {
-        let lines = PointLines::new(alloc, program)?;
-        Ok(PointText {
-            alloc,
-            pieces: Pieces::new(alloc),
-            lines,
-        })
-    }
 
     /// Reads the line that has not ended, and says the kind of its fault, if it has one.
     fn read_unread(&mut self) -> Option<u32>
@@ -78,51 +63,6 @@ impl<'a> PointText<'a> {
         Ok(())
     }
 
-    /// Takes bytes of the text that are looked at.
-    fn take_bytes(&mut self, bytes: &[u8]) -> Result<(), AllocError>
-        requires { (kept_of self.old).size + length bytes.now ≤ longest_text + 1 }
-        ensures reads { (s : Stream (List (Option ℚ))) → StandsFor self.old s
-            → OnOk result (StandsFor self.new (fold (byte_read (steps_of self.old)) s bytes.now)) }
-        ensures same { program_of self.new ≡ program_of self.old }
-    {
-        let mut rest = bytes;
-        while let Some((tail, behind)) = cut_line(rest) {
-            self.end_line(tail)?;
-            rest = behind;
-        }
-        self.pieces.keep(rest)
-    }
-
-    /// No name of the program's columns stands twice.
-    fn names_stand_once(&self)
-        ensures { StandOnce (program_of self.now).column_names }
-    {
-        self.lines.program.column_names().stand_once();
-    }
-
-    /// The fault at a line that has ended.
-    fn known_fault(&self) -> Option<KnownFault>
-        ensures fault { result ≡ known_fault 6 (kept_of self.now) }
-        ensures kinds { has_kind_to 6 result ≡ true }
-    {
-        self.pieces.known_fault(TOO_LONG)
-    }
-
-    /// Reads the last line where it has no line feed, and says the kind of its fault, if it has one.
-    fn read_last(&mut self) -> Option<u32>
-        ensures read { IsLastRead (steps_of self.old) (kept_of self.old) (values_of self.old) (values_of self.new)
-            result }
-        ensures kept { kept_of self.new ≡ kept_of self.old }
-        ensures same { program_of self.new ≡ program_of self.old }
-        ensures kinds { IfSome result (λ kind. (0 < kind) × (kind ≤ 6)) }
-    {
-        if self.pieces.is_filled() {
-            self.read_unread()
-        } else {
-            None
-        }
-    }
-
     /// The fault of the text that ends here, if it has one.
     fn close(&mut self) -> Option<KnownFault>
         requires { StandOnce (program_of self.old).column_names }
@@ -132,7 +72,11 @@ impl<'a> PointText<'a> {
         ensures kinds { has_kind_to 6 result ≡ true }
     {
         points_are_read();
-        let last_kind = self.read_last();
+        let last_kind = if self.pieces.is_filled() {
+            self.read_unread()
+        } else {
+            None
+        };
         let end_kind = self.lines.end_kind();
         self.pieces.fault_at_end(last_kind, end_kind, TOO_LONG)
     }
@@ -170,36 +114,42 @@ impl<'a> PieceText for PointText<'a> {
     /// None where the room for the values was refused.
     fn begin(start: (Global, &'a Program)) -> Option<PointText<'a>> {
         let (alloc, program) = start;
-        PointText::new(alloc, program).ok()
+        let Ok(lines) = PointLines::new(alloc, program) else {
+            return None;
+        };
+        Some(PointText {
+            alloc,
+            pieces: Pieces::new(alloc),
+            lines,
+        })
     }
 
     fn take(&mut self, piece: &[u8]) -> Result<(), AllocError> {
-        let looked = self.pieces.looked_at(piece);
-        self.take_bytes(looked)
+        let mut rest = self.pieces.looked_at(piece);
+        while let Some((tail, behind)) = cut_line(rest) {
+            self.end_line(tail)?;
+            rest = behind;
+        }
+        self.pieces.keep(rest)
     }
 
     /// A fault is known where a line that has ended is faulty.
     fn known(&self) -> Result<(), TextFault<PointKind>> {
         point_faults_of_ended_lines();
-        self.names_stand_once();
-        told(self.known_fault())
+        self.lines.program.column_names().stand_once();
+        told(self.pieces.known_fault(TOO_LONG))
     }
 
     /// A value for each column of the program.
     fn finish(self) -> Result<Vec<Frac>, ReadFault<PointKind>> {
         let mut text = self;
-        text.names_stand_once();
+        text.lines.program.column_names().stand_once();
         if let Err(fault) = told::<PointKind>(text.close()) {
             drop(text);
             return Err(ReadFault::Faulty(fault));
         }
-        let PointText {
-            alloc,
-            pieces,
-            lines,
-            ..
-        } = text;
-        drop(pieces);
-        Ok(lines.into_point(alloc)?)
+        let point = point_of(text.alloc, text.lines.values.as_slice());
+        drop(text);
+        Ok(point?)
     }
 }

@@ -1,42 +1,14 @@
 //! Reading a text of a point from a store.
-ghost use Rattle.std.specs.Prelude.{◌≡◌, [], MatchResult, length};
-ghost use Rattle.cip_problem.specs.Program as problem;
-ghost use Rattle.cip_blocks.specs.PieceReaders.{HasTaken};
-ghost use Rattle.cip_input.specs.PointReaders.{HasCome};
-ghost use Rattle.cip_input.specs.PointTexts.{program_of};
+ghost use Rattle.std.specs.Prelude.{◌≡◌, MatchResult};
 ghost use Rattle.cip_input.specs.PointsRead.{ReadsPoint, PointCause};
-ghost use Rattle.cip_input.specs.declared.pulling.TheConstants.{PIECE};
 
-use crate::pulling::{PIECE, read_pieces};
+use crate::pulling::read_text;
 use crate::unread::Unread;
-use crate::{PointKind, PointReader, PointText};
+use crate::{PointKind, PointText};
 use cip_frac::Frac;
 use cip_io::Store;
 use cip_model::Program;
 use std::alloc::Global;
-
-/// Reads the current text, of which nothing was pulled yet.
-fn read_text<S: Store>(
-    store: &mut S,
-    mut reader: PointReader<'_>,
-    buffer: &mut [u8],
-) -> Result<Vec<Frac>, Unread<PointKind>>
-    requires room { length buffer.old ≡ PIECE }
-    ensures answer { (program : problem.Program) → HasTaken HasCome program_of reader.entry program []
-        → MatchResult result
-        (λ point. ReadsPoint program (S.tells store.old).left (S.tells store.old) (S.tells store.new) point.items)
-        (PointCause program (S.tells store.old).left (S.tells store.old) (S.tells store.new)) }
-    ensures holds { (S.tells store.new).holds ≡ (S.tells store.old).holds }
-{
-    match read_pieces::<S, PointText<'_>, PointKind>(store, &mut reader, buffer) {
-        Ok(()) => (),
-        Err(unread) => {
-            drop(reader);
-            return Err(unread);
-        }
-    }
-    Ok(reader.finish()?)
-}
 
 /// Reads the point of a program from the text of this name. The text is pulled in pieces of at most 4,096 bytes to its
 /// end, or to byte 67,108,865, a faulty one too.
@@ -57,8 +29,5 @@ pub fn read_point<S: Store>(
         (PointCause program.now text (S.tells store.old) (S.tells store.new)) }
     ensures holds { (S.tells store.new).holds ≡ (S.tells store.old).holds }
 {
-    let mut buffer = vec![in alloc; 0u8; PIECE]?;
-    store.choose(name)?;
-    let reader = PointReader::new((alloc, program));
-    read_text(store, reader, buffer.as_mut_slice())
+    read_text::<S, PointText<'_>, PointKind>(alloc, store, name, (alloc, program))
 }

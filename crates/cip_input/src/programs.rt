@@ -7,19 +7,12 @@ use crate::columns::{column_sides, drawn_costs, numbered_names};
 use crate::draws::Draws;
 use crate::rows::drawn_rows;
 use cip_frac::Frac;
-use cip_lin::{Bounds, Choices, Row};
+use cip_lin::{Bounds, Choices};
 use cip_model::{Names, Parts, Program, Sense};
 use std::alloc::{AllocError, Global};
 
 /// The most columns, and the most rows, of a program that is drawn.
 pub const MOST_DRAWN: usize = 256;
-
-/// What is drawn of a program.
-#[derive(Drop)]
-struct Figures {
-    costs: Vec<Frac>,
-    rows: Vec<Row>,
-}
 
 /// What is the same for each seed.
 #[derive(Drop)]
@@ -28,18 +21,6 @@ struct Frame {
     row_names: Names,
     bounds: Bounds,
     whole: Vec<bool>,
-}
-
-/// The costs, and then the rows, from the draws of a seed.
-fn drawn_figures(alloc: Global, seed: u64, cols: usize, count: usize) -> Result<Figures, AllocError>
-    requires { cols ≤ MOST_DRAWN }
-    ensures costs { IfOk result (λ figures. figures.costs.items ≡ (generated seed cols count).costs) }
-    ensures rows { IfOk result (λ figures. figures.rows.items ≡ (generated seed cols count).rows) }
-{
-    let mut draws = Draws { state: seed };
-    let costs = drawn_costs(alloc, &mut draws, cols)?;
-    let rows = drawn_rows(alloc, &mut draws, cols, count)?;
-    Ok(Figures { costs, rows })
 }
 
 /// The names, and the sides of the columns, which are all whole.
@@ -80,12 +61,13 @@ pub fn generate(alloc: Global, seed: u64, cols: usize, rows: usize) -> Result<Pr
     requires few_rows { rows ≤ MOST_DRAWN }
     ensures { IfOk result (λ program. program ≡ generated seed cols rows) }
 {
-    let figures = drawn_figures(alloc, seed, cols, rows)?;
+    let mut draws = Draws { state: seed };
+    let costs = drawn_costs(alloc, &mut draws, cols)?;
+    let drawn = drawn_rows(alloc, &mut draws, cols, rows)?;
     let Ok(frame) = frame_of(alloc, cols, rows) else {
-        drop(figures);
+        drop(drawn);
         return Err(AllocError);
     };
-    let Figures { costs, rows } = figures;
     let Frame {
         column_names,
         row_names,
@@ -95,7 +77,7 @@ pub fn generate(alloc: Global, seed: u64, cols: usize, rows: usize) -> Result<Pr
     Ok(Program::new(Parts {
         column_names,
         row_names,
-        rows,
+        rows: drawn,
         costs,
         constant: Frac::zero(),
         sense: Sense::Maximize,

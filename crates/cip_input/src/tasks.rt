@@ -1,13 +1,12 @@
 //! What the words and the texts of a job come to.
-ghost use Rattle.std.specs.Prelude.{◌≡◌, ◌<◌, ◌≤◌, ℕ, List, Option, Some, IfOk, MatchResult, map, option_map};
+ghost use Rattle.std.specs.Prelude.{◌≡◌, ◌<◌, ◌≤◌, Option, Some, IfOk, MatchResult, map, option_map};
 ghost use Rattle.std.specs.List.{list_all, list_any};
 ghost use Rattle.std.specs.Str.{bytes_eq};
 ghost use Rattle.cip_input.specs.Jobs.{Job as Asked, Limits as Wanted, Solve, Check, Generate, AsksForSome, are_among, off_in, job_of, job_for};
 ghost use Rattle.cip_input.specs.WordsRead.{meant, WordsCause};
 ghost use Rattle.cip_input.specs.Generated.{most_drawn};
 ghost use Rattle.cip_io.specs.Store.{StoreTells};
-ghost use Rattle.cip_input.specs.ModelsRead.{Reads};
-ghost use Rattle.cip_input.specs.Tasks.{labels_of, TakesBlocks, IsSolve, IsTask, TaskCause};
+ghost use Rattle.cip_input.specs.Tasks.{labels_of, IsSolve, IsTask, TaskCause};
 
 use crate::plain::Plain;
 use crate::refusals::FaultyText;
@@ -85,35 +84,7 @@ impl From<WordsFault> for Plain {
     }
 }
 
-/// Reads the text of blocks of this name, if one is named, behind that of the model.
-fn take_blocks<S: Store>(
-    alloc: Global,
-    store: &mut S,
-    blocks: Option<&str>,
-    program: &Program,
-) -> Result<(), Plain>
-    ensures { (job : Option Asked) (model : List ℕ) (limits : Wanted) (old : StoreTells)
-        → job ≡ Some (Solve model (option_map (λ text. text.now) blocks.entry) limits)
-        → Reads model (old.holds model) old (S.tells store.old) program.now
-        → (S.tells store.old).holds ≡ old.holds
-        → MatchResult result
-        (λ _. TakesBlocks program.now (option_map (λ text. text.now) blocks.entry) old (S.tells store.old)
-        (S.tells store.new))
-        (TaskCause job old (S.tells store.new)) }
-{
-    let Some(name) = blocks else {
-        return Ok(());
-    };
-    match read_blocks(alloc, store, name, program) {
-        Err(cause) => Err(Plain::from(cause)),
-        Ok(blocks) => {
-            drop(blocks);
-            Ok(())
-        }
-    }
-}
-
-/// Reads the texts of a model and of its blocks.
+/// Reads the texts of a model and of its blocks, if these are named.
 fn read_solve<S: Store>(
     alloc: Global,
     store: &mut S,
@@ -127,15 +98,19 @@ fn read_solve<S: Store>(
         (TaskCause job (S.tells store.old) (S.tells store.new)) }
 {
     let program = read_program(alloc, store, model)?;
-    match take_blocks(alloc, store, blocks, &program) {
-        Err(answer) => {
-            drop(program);
-            Err(answer)
-        }
-        Ok(()) => {
-            programs_are_limited();
-            Ok(program)
-        }
+    programs_are_limited();
+    match blocks {
+        None => Ok(program),
+        Some(name) => match read_blocks(alloc, store, name, &program) {
+            Err(cause) => {
+                drop(program);
+                Err(Plain::from(cause))
+            }
+            Ok(blocks) => {
+                drop(blocks);
+                Ok(program)
+            }
+        },
     }
 }
 

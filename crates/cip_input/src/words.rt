@@ -1,19 +1,16 @@
 //! The words of a command line.
 ghost use Rattle.std.specs.Prelude.{◌≡◌, ◌++◌, ◌∷◌, ◌&&◌, if◌then◌else◌, [], true, false, Some, None, map, IfOk, OnOk, OnErr, MatchResult, option_map, option_and_then};
-ghost use Rattle.clap.specs.Words.{App, Shape, app_of, kind_of, rows_of, found_of, new_rule, rule_of, subcommand_rows_of, with_rule, with_subcommand};
+ghost use Rattle.clap.specs.Words.{App, app_of, rows_of, found_of, new_rule, rule_of, subcommand_rows_of, with_rule};
 ghost use Rattle.clap.specs.declared.builder.action.ArgAction.TheVariants.{SetTrue};
-ghost use Rattle.clap.specs.declared.error.kind.ErrorKind.TheVariants.{OutOfMemory};
-ghost use Rattle.cip_input.specs.Jobs.{AsksForSome, IsAddedAs, solve_command, check_command, self_command, cip_command, begins_above_zero, begins_plainly, nodes_of, number_up_to, at_least_zero, gap_of, off_of, is_presolved, is_true, job_behind, check_behind, self_behind, job_at, job_of};
+ghost use Rattle.cip_input.specs.Jobs.{AsksForSome, cip_command, begins_above_zero, begins_plainly, nodes_of, number_up_to, gap_of, off_of, is_presolved, is_true, job_behind, check_behind, self_behind, job_at, job_of};
 ghost use Rattle.cip_input.specs.Generated.{most_drawn};
-ghost use Rattle.cip_rational.specs.Numeral.{value_of};
-ghost use Rattle.cip_rational.specs.FractionText.{fraction_of};
 ghost use Rattle.cip_input.specs.WordsRead.{meant, WordsCause};
 
 use crate::MOST_DRAWN;
 use cip_frac::Frac;
 use cip_text::fraction;
 use clap::error::ErrorKind;
-use clap::{Arg, ArgAction, ArgMatches, Command, Error};
+use clap::{Arg, ArgAction, ArgMatches, Command};
 use std::alloc::{AllocError, Global};
 use std::marker::Model;
 
@@ -158,78 +155,42 @@ fn with_word<'a>(
     }
 }
 
-/// The command with a subcommand more; `Err` comes where a growth was refused, now or before.
-fn with_subcommand<'a>(
-    command: Command<'a>,
-    subcommand: Result<Command<'a>, AllocError>,
-) -> Result<Command<'a>, AllocError>
-    ensures { (shape : Shape) → IfOk subcommand.entry (IsAddedAs shape)
-        → IfOk result (λ new. app_of new ≡ with_subcommand (app_of command.entry) shape) }
-{
-    match subcommand {
-        Ok(subcommand) => command.subcommand(subcommand),
-        Err(AllocError) => {
-            drop(command);
-            Err(AllocError)
-        }
-    }
-}
-
-/// The subcommand `solve MODEL [--blocks FILE] [--nodes N] [--gap G] [--off LIST] [--plain] [--trace]`.
-fn solving<'a>(alloc: Global) -> Result<Command<'a>, AllocError>
-    ensures { IfOk result (IsAddedAs solve_command.top) }
-{
-    let solve = with_word(
-        alloc,
-        Ok(Command::new(alloc, "solve")),
-        "model",
-        true,
-        false,
-    );
-    let solve = with_word(alloc, solve, "blocks", false, false);
-    let solve = with_word(alloc, solve, "nodes", false, false);
-    let solve = with_word(alloc, solve, "gap", false, false);
-    let solve = with_word(alloc, solve, "off", false, false);
-    let solve = with_word(alloc, solve, "plain", false, true);
-    with_word(alloc, solve, "trace", false, true)
-}
-
-/// The subcommand `check MODEL POINT`.
-fn checking<'a>(alloc: Global) -> Result<Command<'a>, AllocError>
-    ensures { IfOk result (IsAddedAs check_command.top) }
-{
-    let check = with_word(
-        alloc,
-        Ok(Command::new(alloc, "check")),
-        "model",
-        true,
-        false,
-    );
-    with_word(alloc, check, "point", true, false)
-}
-
-/// The subcommand `self SEED COLS ROWS`.
-fn drawing<'a>(alloc: Global) -> Result<Command<'a>, AllocError>
-    ensures { IfOk result (IsAddedAs self_command.top) }
-{
-    let draw = with_word(alloc, Ok(Command::new(alloc, "self")), "seed", true, false);
-    let draw = with_word(alloc, draw, "cols", true, false);
-    with_word(alloc, draw, "rows", true, false)
-}
-
 /// The command: `solve MODEL [--blocks FILE] [--nodes N] [--gap G] [--off LIST] [--plain] [--trace]`,
 /// `check MODEL POINT`, and `self SEED COLS ROWS`.
 fn command<'a>(alloc: Global) -> Result<Command<'a>, AllocError>
     ensures { IfOk result (λ command. app_of command ≡ cip_command) }
 {
+    let solve = Ok(Command::new(alloc, "solve"));
+    let solve = with_word(alloc, solve, "model", true, false);
+    let solve = with_word(alloc, solve, "blocks", false, false);
+    let solve = with_word(alloc, solve, "nodes", false, false);
+    let solve = with_word(alloc, solve, "gap", false, false);
+    let solve = with_word(alloc, solve, "off", false, false);
+    let solve = with_word(alloc, solve, "plain", false, true);
+    let Ok(solve) = with_word(alloc, solve, "trace", false, true) else {
+        return Err(AllocError);
+    };
     let bare = Command::new(alloc, "cip").no_binary_name(true);
-    let Ok(solver) = with_subcommand(bare, solving(alloc)) else {
+    let Ok(solver) = bare.subcommand(solve) else {
         return Err(AllocError);
     };
-    let Ok(checker) = with_subcommand(solver, checking(alloc)) else {
+    let check = Ok(Command::new(alloc, "check"));
+    let check = with_word(alloc, check, "model", true, false);
+    let Ok(check) = with_word(alloc, check, "point", true, false) else {
+        drop(solver);
         return Err(AllocError);
     };
-    with_subcommand(checker, drawing(alloc))
+    let Ok(checker) = solver.subcommand(check) else {
+        return Err(AllocError);
+    };
+    let draw = Ok(Command::new(alloc, "self"));
+    let draw = with_word(alloc, draw, "seed", true, false);
+    let draw = with_word(alloc, draw, "cols", true, false);
+    let Ok(draw) = with_word(alloc, draw, "rows", true, false) else {
+        drop(checker);
+        return Err(AllocError);
+    };
+    checker.subcommand(draw)
 }
 
 /// Whether a text begins with a digit from 1 to 9.
@@ -249,26 +210,19 @@ fn begins_plainly(text: &[u8]) -> bool
     text == b"0".as_slice() || begins_above_zero(text)
 }
 
-/// The number that a text says, up to the most, in digits without a sign or a 0 in front.
-fn natural_in(text: &str, most: u64) -> Option<u64>
-    ensures { result ≡ number_up_to most (Some text.now) }
+/// The number that a word says, up to the most, in digits without a sign or a 0 in front; none where there is no word.
+fn number_up_to(word: Option<&str>, most: u64) -> Option<u64>
+    ensures { result ≡ number_up_to most (option_map (λ text. text.now) word.entry) }
 {
+    let Some(text) = word else {
+        return None;
+    };
     if !begins_plainly(text.as_bytes()) {
         return None;
     }
     match text.parse::<u64>() {
         Ok(number) if number <= most => Some(number),
         _ => None,
-    }
-}
-
-/// The number that a word says, up to the most; none where there is no word.
-fn number_up_to(word: Option<&str>, most: u64) -> Option<u64>
-    ensures { result ≡ number_up_to most (option_map (λ text. text.now) word.entry) }
-{
-    match word {
-        Some(text) => natural_in(text, most),
-        None => None,
     }
 }
 
@@ -282,10 +236,14 @@ fn count_in(word: Option<&str>) -> Option<u32>
     }
 }
 
-/// The number of nodes that a word says, from 1 to the most, in digits without a sign or a 0 in front.
-fn number_in(text: &str) -> Option<u64>
-    ensures { result ≡ nodes_of (Some text.now) }
+/// The number of nodes that is asked for, from 1 to the most, in digits without a sign or a 0 in front; the usual one
+/// where there is no word.
+fn nodes_in(word: Option<&str>) -> Option<u64>
+    ensures { result ≡ nodes_of (option_map (λ text. text.now) word.entry) }
 {
+    let Some(text) = word else {
+        return Some(USUAL_NODES);
+    };
     if !begins_above_zero(text.as_bytes()) {
         return None;
     }
@@ -295,60 +253,32 @@ fn number_in(text: &str) -> Option<u64>
     }
 }
 
-/// The number of nodes that is asked for; the usual one where there is no word.
-fn nodes_in(word: Option<&str>) -> Option<u64>
-    ensures { result ≡ nodes_of (option_map (λ text. text.now) word.entry) }
-{
-    match word {
-        Some(text) => number_in(text),
-        None => Some(USUAL_NODES),
-    }
-}
-
-/// A number, if it is at least 0.
-fn at_least_zero(gap: Frac) -> Option<Frac>
-    ensures { result ≡ at_least_zero (Some gap) }
-{
-    if Frac::zero() <= gap { Some(gap) } else { None }
-}
-
-/// The gap that a word says: a fraction of at least 0.
-fn gap_said(text: &str) -> Option<Frac>
-    ensures { result ≡ at_least_zero (value_of (fraction_of text.now)) }
-{
-    match fraction(text.as_bytes()) {
-        Ok(gap) => at_least_zero(gap),
-        Err(_) => None,
-    }
-}
-
-/// The gap that is asked for; none where there is no word.
+/// The gap that is asked for, a fraction of at least 0; none where there is no word.
 fn gap_in(word: Option<&str>) -> Option<Option<Frac>>
     ensures { result ≡ gap_of (option_map (λ text. text.now) word.entry) }
 {
     let Some(text) = word else {
         return Some(None);
     };
-    match gap_said(text) {
-        Some(gap) => Some(Some(gap)),
-        None => None,
+    match fraction(text.as_bytes()) {
+        Ok(gap) => {
+            if Frac::zero() <= gap {
+                Some(Some(gap))
+            } else {
+                None
+            }
+        }
+        Err(_) => None,
     }
 }
 
-/// What stands between the commas of a text.
-fn cut_at_commas<'a>(alloc: Global, text: &'a str) -> Result<Vec<&'a str>, AllocError>
-    ensures { IfOk result (λ names. map (λ name. name.now) names.items ≡ off_of (Some text.now)) }
-{
-    text.split(',').collect(alloc)
-}
-
-/// The names of the plugins that are to be off; none where there is no word.
+/// The names of the plugins that are to be off, which stand between commas; none where there is no word.
 fn off_in<'a>(alloc: Global, word: Option<&'a str>) -> Result<Vec<&'a str>, AllocError>
     ensures { IfOk result (λ names.
         map (λ name. name.now) names.items ≡ off_of (option_map (λ text. text.now) word.entry)) }
 {
     match word {
-        Some(text) => cut_at_commas(alloc, text),
+        Some(text) => text.split(',').collect(alloc),
         None => Ok(Vec::new(alloc)),
     }
 }
@@ -463,16 +393,6 @@ fn job_in<'a>(alloc: Global, matches: &ArgMatches<'a>) -> Result<Job<'a>, WordsF
     }
 }
 
-/// What an error of the command says.
-fn fault_of(error: &Error) -> WordsFault
-    ensures { (result ≡ WordsFault.Refused) → (kind_of error.now ≡ OutOfMemory) → ⊥ }
-{
-    match error.kind() {
-        ErrorKind::OutOfMemory => WordsFault::NoMemory,
-        _ => WordsFault::Refused,
-    }
-}
-
 impl Words {
     /// No word yet.
     pub fn new(alloc: Global) -> Result<Words, AllocError>
@@ -513,9 +433,12 @@ impl Words {
                 job
             }
             Err(error) => {
-                let fault = fault_of(&error);
+                let kind = error.kind();
                 drop(error);
-                Err(fault)
+                match kind {
+                    ErrorKind::OutOfMemory => Err(WordsFault::NoMemory),
+                    _ => Err(WordsFault::Refused),
+                }
             }
         }
     }

@@ -7,10 +7,12 @@ use Rattle.std.proofs.lemmas.Option.{same_Some, slice_get_within}
 use Rattle.std.proofs.lemmas.List.{length-map, map-append, take_all}
 use Rattle.std.proofs.lemmas.List.Sums.{sum_by-cons}
 use Rattle.cip_plugin.specs.Who.{Who}
+use Rattle.cip_plugin.specs.declared.faults.WishFault.{WishFault}
+use Rattle.cip_plugin.specs.declared.faults.WishFault.TheVariants as faults
 use Rattle.cip_plugin.specs.declared.stages.Stage.TheVariants.{Gone}
 use Rattle.cip_plugin.specs.Seats.{Seat, State, held_count, is_alive, is_live, live_count}
 use Rattle.cip_plugin.specs.Steps.{Step, Runs}
-use Rattle.cip_plugin.specs.Wishing.{ends}
+use Rattle.cip_plugin.specs.Wishing.{ends, seat_fault}
 use Rattle.cip_plugin.proofs.Running.{Runs-append}
 use Rattle.cip_roster.specs.KeptRankings.{Room}
 use Rattle.cip_roster.specs.Turns.{IsSound, StandsAt}
@@ -132,6 +134,16 @@ ended_gone n a b room fits so_far =
 -- who was closed isn't live
 pub closed_there : (b : State) (id : ℕ) → StandsAt Gone b id → lives_there (slice_get b.seats id) ≡ false
 closed_there b id stands = ap lives_there stands.at ∙ ap is_alive stands.stands
+
+-- who was closed before, by what is wrong with it
+gone_by : (lives : Bool) (fault : WishFault) → cond lives None (Some faults.Gone) ≡ Some fault → lives ≡ false
+gone_by true fault is = cc
+gone_by false fault is = refl
+
+-- who isn't live, by what is wrong with its number
+pub gone_there : (o : Option Seat) (fault : WishFault) → seat_fault o ≡ Some fault → lives_there o ≡ false
+gone_there None fault is = refl
+gone_there (Some seat) fault is = gone_by (is_live seat) fault is
 
 -- what is left of slots is what went back of their seats
 pub numbered_backs : {A B : Type 0} (left : Option ℕ → A → B) (seat : A → Seat) (mean : B → Back)

@@ -5,14 +5,13 @@ ghost use Rattle.cip_plugin.specs.Asking.{asks, ask_of};
 ghost use Rattle.cip_plugin.specs.declared.kinds.Kind.TheVariants as kinds;
 ghost use Rattle.cip_plugin.specs.Calling.{Called, ids_of, is_ready, keys_from};
 ghost use Rattle.cip_plugin.specs.Ranks.{rank_order};
-ghost use Rattle.cip_plugin.specs.Seats.{live_count};
 ghost use Rattle.cip_roster.specs.KeptRankings.{IsRanking};
 ghost use Rattle.cip_roster.specs.Turns.{IsSound, CanBeAsked, CalledBoth, CalledKind, handed};
 ghost use Rattle.cip_roster.specs.Wished.{Ran};
 
 use crate::rosters::Seated;
 use crate::steps::Steps;
-use crate::turns::turn_into;
+use crate::turns::turn;
 use cip_plugin::{Given, Key, Kind, Question, View};
 use std::alloc::{AllocError, Global};
 
@@ -57,48 +56,6 @@ pub(crate) fn ranked<R: Steps>(
     }
 }
 
-/// A copy of the ranking of a kind, which stays as it is while wishes are granted. The state stays as it was; `Err`
-/// comes where a growth was refused.
-pub(crate) fn order_of<R: Steps>(
-    roster: &mut R,
-    alloc: Global,
-    kind: Kind,
-) -> Result<Vec<Key>, AllocError>
-    requires sound { IsSound (R.state roster.old) (R.room roster.old) }
-    ensures sound { IsSound (R.state roster.new) (R.room roster.new) }
-    ensures state { R.state roster.new ≡ R.state roster.old }
-    ensures ranking { IfOk result (λ order. IsRanking kind (R.state roster.old).seats order.items) }
-{
-    let Ok(keys) = ranked(roster, alloc, kind) else {
-        return Err(AllocError);
-    };
-    let Ok(order) = Vec::from_slice(alloc, keys.as_slice()) else {
-        return Err(AllocError);
-    };
-    roster.keep_ranking(kind, keys);
-    Ok(order)
-}
-
-/// Makes room for what so many plugins give, and for their lines. `Err` comes where a growth was refused. Neither
-/// changes the state or what was given.
-fn make_room<R: Steps>(
-    roster: &mut R,
-    given: &mut Vec<(u32, Given)>,
-    count: usize,
-) -> Result<(), AllocError>
-    ensures state { R.state roster.new ≡ R.state roster.old }
-    ensures given { given.new.items ≡ given.old.items }
-    ensures room { OnOk result (vec_len given.new + count ≤ vec_capacity given.new) }
-    ensures lines { OnOk result (2 * count + 2 * live_count (R.state roster.old).seats ≤ (R.room roster.new).lines) }
-    ensures grows { (R.room roster.old).lines ≤ (R.room roster.new).lines }
-    ensures rankings { (R.room roster.new).rankings ≡ (R.room roster.old).rankings }
-{
-    let Ok(()) = given.reserve(count) else {
-        return Err(AllocError);
-    };
-    roster.reserve_turns(count)
-}
-
 /// Asks these plugins, one after the other, and puts what they give behind what is there. `given` has room for all.
 fn call<R: Steps>(
     roster: &mut R,
@@ -118,7 +75,10 @@ fn call<R: Steps>(
     ensures rankings { (R.room roster.new).rankings ≡ (R.room roster.old).rankings }
 {
     for key in keys {
-        turn_into(roster, alloc, key.id, question, view, given);
+        match turn(roster, alloc, key.id, question, view) {
+            None => {}
+            Some(brought) => given.push_reserved((key.id, brought)),
+        }
     }
 }
 
@@ -142,7 +102,11 @@ pub(crate) fn call_kind<R: Steps>(
     let Ok(keys) = ranked(roster, alloc, kind) else {
         return Err(AllocError);
     };
-    let Ok(()) = make_room(roster, given, keys.len()) else {
+    let count = keys.len();
+    let Ok(()) = given.reserve(count) else {
+        return Err(AllocError);
+    };
+    let Ok(()) = roster.reserve_turns(count) else {
         return Err(AllocError);
     };
     call(roster, alloc, keys.as_slice(), question, view, given);

@@ -1,10 +1,9 @@
 //! How a roster ends.
-ghost use Rattle.std.specs.Prelude.{◌≡◌, ◌+◌, ◌≤◌, [], All, false, length, map, slice_get, if◌then◌else◌, vec_len, vec_capacity};
+ghost use Rattle.std.specs.Prelude.{◌≡◌, ◌+◌, ◌≤◌, [], All, false, length, map, vec_len, vec_capacity};
 ghost use Rattle.cip_plugin.specs.Seats.{held_count, is_live};
 ghost use Rattle.cip_plugin.specs.Steps.{Runs};
-ghost use Rattle.cip_plugin.specs.Wishing.{ends};
 ghost use Rattle.cip_roster.specs.Turns.{IsSound};
-ghost use Rattle.cip_roster.specs.Closed.{IsClosed, all_end, back, lives_there};
+ghost use Rattle.cip_roster.specs.Closed.{IsClosed, all_end, back};
 
 use crate::moves::{return_seated, return_shelved};
 use crate::rosters::{Roster, Seated};
@@ -15,30 +14,6 @@ use cip_plugin::{AnyPlugin, Kit, Tells};
 use std::alloc::Global;
 use std::mem;
 
-/// Whether a plugin is live; one that isn't there isn't.
-fn is_live<R: Steps>(roster: &R, id: u32) -> bool
-    ensures { result ≡ lives_there (slice_get (R.state roster.now).seats id) }
-{
-    match roster.liveness(id) {
-        None => false,
-        Some(lives) => lives,
-    }
-}
-
-/// Closes a plugin, if it is live.
-fn end_one<R: Steps>(roster: &mut R, id: u32)
-    requires sound { IsSound (R.state roster.old) (R.room roster.old) }
-    ensures sound { IsSound (R.state roster.new) (R.room roster.new) }
-    ensures run { Runs (R.state roster.old)
-        (if lives_there (slice_get (R.state roster.old).seats id) then ends id else []) (R.state roster.new) }
-    ensures gone { lives_there (slice_get (R.state roster.new).seats id) ≡ false }
-{
-    if !is_live(roster, id) {
-        return;
-    }
-    end(roster, id);
-}
-
 /// Closes each live plugin, by number.
 fn end_all<R: Steps>(roster: &mut R)
     requires sound { IsSound (R.state roster.old) (R.room roster.old) }
@@ -48,7 +23,10 @@ fn end_all<R: Steps>(roster: &mut R)
     ensures seats { length (R.state roster.new).seats ≡ length (R.state roster.old).seats }
 {
     for place in 0..roster.count() {
-        end_one(roster, place as u32);
+        match roster.live(place as u32) {
+            Ok(()) => end(roster, place as u32),
+            Err(_) => {}
+        }
     }
 }
 
@@ -79,7 +57,7 @@ impl Roster {
     {
         Trace {
             names: mem::replace(&mut self.names, Vec::new(alloc)),
-            lines: mem::replace(&mut self.journal.lines, Vec::new(alloc)),
+            lines: mem::replace(&mut self.lines, Vec::new(alloc)),
         }
     }
 }

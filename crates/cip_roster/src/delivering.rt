@@ -7,7 +7,7 @@ ghost use Rattle.cip_roster.specs.KeptRankings.{IsRanking};
 ghost use Rattle.cip_roster.specs.Turns.{IsSound};
 ghost use Rattle.cip_roster.specs.Wished.{Ran, TookQuietly, WasTold, WasToldOne};
 
-use crate::calling::order_of;
+use crate::calling::ranked;
 use crate::rosters::Seated;
 use crate::steps::Steps;
 use crate::turns::turn;
@@ -129,7 +129,8 @@ fn tell_each<R: Steps>(
     Ok(())
 }
 
-/// Tells an event to all handlers, in the order in which they stand as it is taken.
+/// Tells an event to all handlers, in the order in which they stand as it is taken: a copy of it, which stays as it is
+/// while wishes are granted.
 fn tell<R: Steps>(
     roster: &mut R,
     alloc: Global,
@@ -143,9 +144,13 @@ fn tell<R: Steps>(
         (R.state roster.new) queue.old queue.new) }
     ensures err { OnErr result (Ran (R.state roster.old) (R.state roster.new)) }
 {
-    let Ok(order) = order_of(roster, alloc, Kind::EventHandler) else {
+    let Ok(keys) = ranked(roster, alloc, Kind::EventHandler) else {
         return Err(AllocError);
     };
+    let Ok(order) = Vec::from_slice(alloc, keys.as_slice()) else {
+        return Err(AllocError);
+    };
+    roster.keep_ranking(Kind::EventHandler, keys);
     tell_each(roster, alloc, order.as_slice(), event, queue, view)
 }
 

@@ -5,7 +5,6 @@ mod calling;
 mod calls;
 mod closing;
 mod delivering;
-mod journals;
 mod laws;
 mod moves;
 mod nexts;

@@ -3,7 +3,7 @@ ghost use Rattle.std.specs.Prelude.{◌≡◌, IfOk, OnErr, true};
 ghost use Rattle.std.specs.List.{find};
 ghost use Rattle.cip_plugin.specs.Asking.{asks, ask_of};
 ghost use Rattle.cip_roster.specs.Turns.{IsSound};
-ghost use Rattle.cip_roster.specs.Nexts.{CalledNext, IsNext, is_behind, key_at};
+ghost use Rattle.cip_roster.specs.Nexts.{CalledNext, is_behind};
 
 use crate::calling::ranked;
 use crate::rosters::Seated;
@@ -34,36 +34,6 @@ fn first_behind(keys: &[Key], after: Option<Key>) -> Option<Key>
     None
 }
 
-/// The key of a plugin, as its priority is now, if one is named.
-fn key_at<R: Steps>(roster: &R, after: Option<u32>) -> Option<Key>
-    ensures { result ≡ key_at (R.state roster.now).seats after }
-{
-    match after {
-        None => None,
-        Some(id) => roster.key(id),
-    }
-}
-
-/// The next plugin of a kind; the state stays as it was. `Err` comes where a growth was refused.
-fn next<R: Steps>(
-    roster: &mut R,
-    alloc: Global,
-    kind: Kind,
-    after: Option<u32>,
-) -> Result<Option<Key>, AllocError>
-    requires sound { IsSound (R.state roster.old) (R.room roster.old) }
-    ensures sound { IsSound (R.state roster.new) (R.room roster.new) }
-    ensures state { R.state roster.new ≡ R.state roster.old }
-    ensures next { IfOk result (λ found. IsNext kind (R.state roster.old).seats after found) }
-{
-    let Ok(keys) = ranked(roster, alloc, kind) else {
-        return Err(AllocError);
-    };
-    let found = first_behind(keys.as_slice(), key_at(roster, after));
-    roster.keep_ranking(kind, keys);
-    Ok(found)
-}
-
 /// Asks the next plugin of a kind. `Err` comes where a growth was refused, and then nobody was called.
 pub(crate) fn call_next<R: Steps>(
     roster: &mut R,
@@ -80,9 +50,11 @@ pub(crate) fn call_next<R: Steps>(
         (R.state roster.old) (R.state roster.new) gave) }
     ensures err { OnErr result (R.state roster.new ≡ R.state roster.old) }
 {
-    let Ok(found) = next(roster, alloc, kind, after) else {
+    let Ok(keys) = ranked(roster, alloc, kind) else {
         return Err(AllocError);
     };
+    let found = first_behind(keys.as_slice(), roster.key(after));
+    roster.keep_ranking(kind, keys);
     let Some(key) = found else {
         return Ok(None);
     };

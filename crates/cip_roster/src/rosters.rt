@@ -4,7 +4,6 @@ ghost use Rattle.cip_plugin.specs.Seats.{State};
 ghost use Rattle.cip_roster.specs.KeptRankings.{Room};
 ghost use Rattle.cip_roster.specs.Shelves.{shown};
 
-use crate::journals::Journal;
 use crate::rankings::Rankings;
 use crate::slots::Slot;
 use cip_events::{Name, TraceLine};
@@ -21,7 +20,8 @@ pub struct Roster {
     pub(crate) slots: Vec<Slot>,
     pub(crate) shelf: Vec<Option<AnyPlugin>>,
     pub(crate) names: Vec<Name>,
-    pub(crate) journal: Journal,
+    pub(crate) kept: bool,
+    pub(crate) lines: Vec<TraceLine>,
     pub(crate) rankings: Rankings,
     pub(crate) boxes: PhantomData<
         (
@@ -134,16 +134,16 @@ impl Seated for Roster {
         }
       ])) r.shelf.items;
       names = r.names.items;
-      lines = r.journal.lines.items;
-      kept = r.journal.kept;
+      lines = r.lines.items;
+      kept = r.kept;
     } };
 
     ghost room = { λ r. record {
-      lines = vec_capacity r.journal.lines - vec_len r.journal.lines;
+      lines = vec_capacity r.lines - vec_len r.lines;
       rankings = r.rankings;
     } };
 
     fn trace(&self) -> &[TraceLine] {
-        self.journal.lines.as_slice()
+        self.lines.as_slice()
     }
 }

@@ -1,13 +1,12 @@
 //! The single steps of a roster of boxed plugins.
-ghost use Rattle.std.specs.Prelude.{◌≡◌, ◌-◌, ◌<◌, min, OnOk, vec_len, vec_capacity};
+ghost use Rattle.std.specs.Prelude.{◌≡◌, ◌-◌, ◌<◌, min, vec_len, vec_capacity};
 ghost use Rattle.cip_plugin.specs.Asking.{ask_of};
 ghost use Rattle.cip_plugin.specs.Lives.{word_of_ask};
-ghost use Rattle.cip_plugin.specs.Steps.{switch_word};
 
 use crate::rosters::{Roster, Seated};
 use crate::slots::{Sits, Slot};
 use crate::steps::{Seats, Steps};
-use cip_events::{Event, Name, Word};
+use cip_events::{Event, Name, TraceLine, Word};
 use cip_plugin::{AnyPlugin, Given, Key, Kind, Question, Stage, Tells, View, WishFault};
 use std::alloc::{AllocError, Global};
 use std::marker::PhantomData;
@@ -31,26 +30,6 @@ fn word_for(question: &Question<'_>) -> Word
     }
 }
 
-/// The word of being enabled or disabled.
-fn word_of_switch(on: bool) -> Word
-    ensures { result ≡ switch_word on }
-{
-    if on { Word::Enabled } else { Word::Disabled }
-}
-
-/// Makes room for one more seat and its name. `Err` comes where a growth was refused. Neither changes what is there.
-fn reserve_one(slots: &mut Vec<Slot>, names: &mut Vec<Name>) -> Result<(), AllocError>
-    ensures slots { slots.new.items ≡ slots.old.items }
-    ensures names { names.new.items ≡ names.old.items }
-    ensures seat { OnOk result (vec_len slots.new < vec_capacity slots.new) }
-    ensures name { OnOk result (vec_len names.new < vec_capacity names.new) }
-{
-    let Ok(()) = slots.reserve(1) else {
-        return Err(AllocError);
-    };
-    names.reserve(1)
-}
-
 impl Steps for Roster {
     ghost has_seat = { λ r. (vec_len r.slots < vec_capacity r.slots) × (vec_len r.names < vec_capacity r.names) };
 
@@ -58,10 +37,16 @@ impl Steps for Roster {
         self.slots.len()
     }
 
-    fn liveness(&self, id: u32) -> Option<bool> {
+    fn live(&self, id: u32) -> Result<(), WishFault> {
         match self.slots.get(id as usize) {
-            None => None,
-            Some(slot) => Some(slot.is_live()),
+            None => Err(WishFault::NoSuchPlugin),
+            Some(slot) => {
+                if slot.is_live() {
+                    Ok(())
+                } else {
+                    Err(WishFault::Gone)
+                }
+            }
         }
     }
 
@@ -79,10 +64,13 @@ impl Steps for Roster {
         }
     }
 
-    fn key(&self, id: u32) -> Option<Key> {
-        match self.slots.get(id as usize) {
+    fn key(&self, named: Option<u32>) -> Option<Key> {
+        match named {
             None => None,
-            Some(slot) => Some(slot.key(id)),
+            Some(id) => match self.slots.get(id as usize) {
+                None => None,
+                Some(slot) => Some(slot.key(id)),
+            },
         }
     }
 
@@ -109,7 +97,7 @@ impl Steps for Roster {
     fn reserve_turns(&mut self, turns: usize) -> Result<(), AllocError> {
         let seats = self.slots.len();
         match turns.checked_add(seats) {
-            Some(sum) if sum <= MOST_TURNS => self.journal.reserve(2 * sum),
+            Some(sum) if sum <= MOST_TURNS => self.lines.reserve(2 * sum),
             _ => Err(AllocError),
         }
     }
@@ -118,11 +106,16 @@ impl Steps for Roster {
         let Ok(()) = self.reserve_turns(3) else {
             return Err(AllocError);
         };
-        reserve_one(&mut self.slots, &mut self.names)
+        let Ok(()) = self.slots.reserve(1) else {
+            return Err(AllocError);
+        };
+        self.names.reserve(1)
     }
 
     fn note(&mut self, id: u32, word: Word) {
-        self.journal.write(id, word);
+        if self.kept {
+            self.lines.push_reserved(TraceLine { id, word });
+        }
     }
 
     fn init(&mut self, alloc: Global, id: u32) -> bool {
@@ -172,7 +165,8 @@ impl Steps for Roster {
     fn switch(&mut self, id: u32, on: bool) {
         self.rankings.clear();
         self.slots[id as usize].turn(on);
-        self.note(id, word_of_switch(on));
+        let word = if on { Word::Enabled } else { Word::Disabled };
+        self.note(id, word);
     }
 
     fn set_priority(&mut self, id: u32, priority: i32) {

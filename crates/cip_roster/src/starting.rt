@@ -8,13 +8,12 @@ ghost use Rattle.cip_roster.specs.KeptRankings.{no_rankings};
 ghost use Rattle.cip_roster.specs.Turns.{IsSound};
 ghost use Rattle.cip_roster.specs.Begun.{AreSeated, IsBegun, IsFresh, IsPlaying, all_begin};
 
-use crate::journals::Journal;
 use crate::moves::shelve;
 use crate::rankings::Rankings;
 use crate::rosters::{Roster, Seated};
 use crate::steps::{Seats, Steps};
 use crate::turns::begin;
-use cip_events::Name;
+use cip_events::{Name, TraceLine};
 use cip_plugin::{AnyPlugin, Kit, Tells, View};
 use std::alloc::{AllocError, Global};
 use std::marker::PhantomData;
@@ -86,7 +85,7 @@ fn make_room<S: Drop, P: Drop>(
     slots: &mut Vec<S>,
     shelf: &mut Vec<P>,
     names: &mut Vec<Name>,
-    journal: &mut Journal,
+    lines: &mut Vec<TraceLine>,
     start: usize,
     shelved: usize,
 ) -> Result<(), AllocError>
@@ -94,10 +93,9 @@ fn make_room<S: Drop, P: Drop>(
     ensures slots { OnOk result (start ≤ vec_capacity slots.new - vec_len slots.new) }
     ensures shelf { OnOk result (vec_len shelf.new + shelved ≤ vec_capacity shelf.new) }
     ensures names { OnOk result (start ≤ vec_capacity names.new - vec_len names.new) }
-    ensures lines { OnOk result (6 * start ≤ vec_capacity journal.new.lines - vec_len journal.new.lines) }
+    ensures lines { OnOk result (6 * start ≤ vec_capacity lines.new - vec_len lines.new) }
     ensures stays { (slots.new.items ≡ slots.old.items) × (shelf.new.items ≡ shelf.old.items)
-        × (names.new.items ≡ names.old.items) × (journal.new.lines.items ≡ journal.old.lines.items)
-        × (journal.new.kept ≡ journal.old.kept) }
+        × (names.new.items ≡ names.old.items) × (lines.new.items ≡ lines.old.items) }
 {
     let Ok(()) = slots.reserve(start) else {
         return Err(AllocError);
@@ -108,7 +106,7 @@ fn make_room<S: Drop, P: Drop>(
     let Ok(()) = names.reserve(start) else {
         return Err(AllocError);
     };
-    journal.reserve(6 * start)
+    lines.reserve(6 * start)
 }
 
 impl Roster {
@@ -129,12 +127,12 @@ impl Roster {
         let mut slots = Vec::new(alloc);
         let mut places = Vec::new(alloc);
         let mut names = Vec::new(alloc);
-        let mut journal = Journal::new(alloc, kept);
+        let mut lines = Vec::new(alloc);
         match make_room(
             &mut slots,
             &mut places,
             &mut names,
-            &mut journal,
+            &mut lines,
             start,
             shelf,
         ) {
@@ -142,7 +140,8 @@ impl Roster {
                 slots,
                 shelf: places,
                 names,
-                journal,
+                kept,
+                lines,
                 rankings: Rankings::none(),
                 boxes: PhantomData,
             }),

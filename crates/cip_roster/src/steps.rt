@@ -1,18 +1,18 @@
 //! Single steps of a roster, each by what it does to the state, and what is read of it. All that a roster does is put
 //! together from these, in functions that know nothing else of it.
-ghost use Rattle.std.specs.Prelude.{◌≡◌, ℕ, ◌+◌, ◌*◌, ◌++◌, ◌≤◌, [], ◌∷◌, None, Some, OnOk, MatchResult, true, false, length, option_map, slice_get, if◌then◌else◌};
+ghost use Rattle.std.specs.Prelude.{◌≡◌, ℕ, ◌+◌, ◌*◌, ◌++◌, ◌≤◌, [], ◌∷◌, None, Some, OnOk, MatchResult, true, false, length, slice_get, if◌then◌else◌};
 ghost use Rattle.cip_plugin.specs.Answers.{answer};
 ghost use Rattle.cip_plugin.specs.Asking.{ask_of, answer_of};
 ghost use Rattle.cip_plugin.specs.Calls.{Init, InitSolve, Asked, ExitSolve, Exit};
 ghost use Rattle.cip_events.specs.Names.{shown_name};
-ghost use Rattle.cip_plugin.specs.Seats.{Seat, is_live, live_count};
+ghost use Rattle.cip_plugin.specs.Seats.{Seat, live_count};
 ghost use Rattle.cip_plugin.specs.Steps.{IsSeated, Runs, Calls, Turns, Ranks, Takes, line};
 ghost use Rattle.cip_plugin.specs.Delivering.{hears_there};
-ghost use Rattle.cip_plugin.specs.Wishing.{is_enabled, place_fault};
+ghost use Rattle.cip_plugin.specs.Wishing.{is_enabled, place_fault, seat_fault};
 ghost use Rattle.cip_plugin.specs.declared.stages.Stage.TheVariants as stages;
 ghost use Rattle.cip_roster.specs.KeptRankings.{no_rankings, ranking_of, with_ranking, without_ranking};
-ghost use Rattle.cip_roster.specs.Nexts.{key_of};
-ghost use Rattle.cip_roster.specs.Turns.{CanBeAsked, StandsAt, ready_key};
+ghost use Rattle.cip_roster.specs.Nexts.{key_at};
+ghost use Rattle.cip_roster.specs.Turns.{CanBeAsked, IsLiveAt, StandsAt, ready_key};
 
 use crate::rosters::Seated;
 use cip_events::{Event, Word};
@@ -27,9 +27,10 @@ pub(crate) trait Steps: Seated {
     fn count(&self) -> usize
         ensures { result ≡ length (Self.state self.now).seats };
 
-    /// Whether a plugin is live; `None` where no plugin was given this number.
-    fn liveness(&self, id: u32) -> Option<bool>
-        ensures { result ≡ option_map is_live (slice_get (Self.state self.now).seats id) };
+    /// Whether a plugin is live; else why not.
+    fn live(&self, id: u32) -> Result<(), WishFault>
+        ensures { MatchResult result (λ _. IsLiveAt (Self.state self.now) id)
+            (λ fault. seat_fault (slice_get (Self.state self.now).seats id) ≡ Some fault) };
 
     /// Whether a plugin is a live and enabled event handler that wants events like this one.
     fn is_to_hear(&self, id: u32, event: &Event) -> bool
@@ -39,9 +40,9 @@ pub(crate) trait Steps: Seated {
     fn is_enabled(&self, id: u32) -> bool
         ensures { result ≡ is_enabled (slice_get (Self.state self.now).seats id) };
 
-    /// The key of a plugin, as its priority is now.
-    fn key(&self, id: u32) -> Option<Key>
-        ensures { result ≡ key_of id (slice_get (Self.state self.now).seats id) };
+    /// The key of a plugin, as its priority is now, if one is named.
+    fn key(&self, named: Option<u32>) -> Option<Key>
+        ensures { result ≡ key_at (Self.state self.now).seats named };
 
     /// That of one that is live, enabled, and of a kind.
     fn ready_key(&self, id: u32, kind: Kind) -> Option<Key>

@@ -1,12 +1,11 @@
 //! What begins a life and ends it, and a plugin's turn.
-ghost use Rattle.std.specs.Prelude.{◌≡◌, ◌++◌, [], ◌∷◌, ◌+◌, ◌≤◌, ◌<◌, if◌then◌else◌, Bool, Option, true, IsSome, slice_get, vec_len, vec_capacity};
+ghost use Rattle.std.specs.Prelude.{◌≡◌, [], ◌∷◌, ◌+◌, ◌≤◌, if◌then◌else◌, Bool, true, IsSome, slice_get};
 ghost use Rattle.cip_plugin.specs.Asking.{ask_of};
-ghost use Rattle.cip_plugin.specs.declared.asking.Given.{Given as Brought};
 ghost use Rattle.cip_plugin.specs.Steps.{Runs, Notes, is_note};
 ghost use Rattle.cip_plugin.specs.Wishing.{begins, ends};
 ghost use Rattle.cip_plugin.specs.declared.stages.Stage.TheVariants as stages;
 ghost use Rattle.cip_roster.specs.KeptRankings.{no_rankings};
-ghost use Rattle.cip_roster.specs.Turns.{CanBeAsked, HadTurn, StandsAt, entries};
+ghost use Rattle.cip_roster.specs.Turns.{CanBeAsked, HadTurn, StandsAt};
 
 use crate::rosters::Seated;
 use crate::steps::Steps;
@@ -84,31 +83,5 @@ pub(crate) fn turn<R: Steps>(
             note_unless(roster, id, false, Word::NoMemory);
             None
         }
-    }
-}
-
-/// Asks a plugin, and puts what it gives behind what is there, where there is room.
-pub(crate) fn turn_into<R: Steps>(
-    roster: &mut R,
-    alloc: Global,
-    id: u32,
-    question: Question<'_>,
-    view: &View<'_>,
-    given: &mut Vec<(u32, Given)>,
-)
-    requires ready { CanBeAsked (R.state roster.old) (ask_of question) id }
-    requires lines { 2 ≤ (R.room roster.old).lines }
-    requires room { vec_len given.old < vec_capacity given.old }
-    ensures turn { (brought : Option Brought)
-        × HadTurn id (ask_of question.entry) (R.state roster.old) (R.state roster.new) brought
-        × (given.new.items ≡ given.old.items ++ entries id brought) }
-    ensures lines { (R.room roster.old).lines ≤ (R.room roster.new).lines + 2 }
-    ensures rankings { (R.room roster.new).rankings ≡ (R.room roster.old).rankings }
-    ensures length { vec_len given.new ≤ vec_len given.old + 1 }
-    ensures capacity { vec_capacity given.new ≡ vec_capacity given.old }
-{
-    match turn(roster, alloc, id, question, view) {
-        None => {}
-        Some(brought) => given.push_reserved((id, brought)),
     }
 }

@@ -1,11 +1,10 @@
 //! Wishes: plugins come, are disabled and enabled, get priorities, and are freed.
-ghost use Rattle.std.specs.Prelude.{◌≡◌, ◌++◌, ◌+◌, ◌*◌, ◌≤◌, [], ◌∷◌, OnOk, OnErr, MatchResult, None, Some, IsSome, is_ok, slice_get, if◌then◌else◌};
+ghost use Rattle.std.specs.Prelude.{◌≡◌, ◌++◌, [], ◌∷◌, OnOk, OnErr, MatchResult, IsSome, is_ok, slice_get, if◌then◌else◌};
 ghost use Rattle.cip_events.specs.declared.words.Word.TheVariants as say;
 ghost use Rattle.cip_plugin.specs.declared.proposals.Wish.TheVariants.{Include, Disable, Enable, Free, Priority};
-ghost use Rattle.cip_plugin.specs.Seats.{live_count};
 ghost use Rattle.cip_plugin.specs.Steps.{Runs, Notes};
-ghost use Rattle.cip_plugin.specs.Wishing.{Granted, place_fault, seat_fault, raised_by};
-ghost use Rattle.cip_roster.specs.Turns.{IsSound, IsLiveAt};
+ghost use Rattle.cip_plugin.specs.Wishing.{raised_by};
+ghost use Rattle.cip_roster.specs.Turns.{IsSound};
 ghost use Rattle.cip_roster.specs.Wished.{WasGranted, WasRefused};
 
 use crate::rosters::Seated;
@@ -14,34 +13,6 @@ use crate::turns::{begin, end};
 use cip_events::{Event, EventKind, EventQueue, Word};
 use cip_plugin::{View, Wish, WishFault};
 use std::alloc::{AllocError, Global};
-
-/// Whether a plugin is live; else why not.
-fn live<R: Steps>(roster: &R, id: u32) -> Result<(), WishFault>
-    ensures { MatchResult result (λ _. IsLiveAt (R.state roster.now) id)
-        (λ fault. seat_fault (slice_get (R.state roster.now).seats id) ≡ Some fault) }
-{
-    match roster.liveness(id) {
-        None => Err(WishFault::NoSuchPlugin),
-        Some(true) => Ok(()),
-        Some(false) => Err(WishFault::Gone),
-    }
-}
-
-/// The plugin of a place of the shelf is included; there is room for it.
-fn welcome<R: Steps>(roster: &mut R, alloc: Global, place: u32, view: &View<'_>)
-    requires sound { IsSound (R.state roster.old) (R.room roster.old) }
-    requires held { place_fault (slice_get (R.state roster.old).places place) ≡ None }
-    requires seat { R.has_seat roster.old }
-    requires room { 6 + 2 * live_count (R.state roster.old).seats
-        ≤ (R.room roster.old).lines }
-    ensures sound { IsSound (R.state roster.new) (R.room roster.new) }
-    ensures granted { Granted (Include place) (R.state roster.old)
-        (R.state roster.new) }
-{
-    let id = roster.count() as u32;
-    roster.come(place);
-    begin(roster, alloc, id, view);
-}
 
 /// Includes the plugin of a place of the shelf.
 fn include<R: Steps>(
@@ -62,13 +33,15 @@ fn include<R: Steps>(
         ≡ queue.old ++ (if is_ok result then raised_by view.now.node (Include place) else []) }
 {
     roster.holds(place)?;
+    let id = roster.count() as u32;
     let Ok(()) = roster.reserve_seat() else {
         return Err(WishFault::NoMemory);
     };
     let Ok(()) = queue.push(Event::at(view.node, EventKind::PluginIncluded)) else {
         return Err(WishFault::NoMemory);
     };
-    welcome(roster, alloc, place, view);
+    roster.come(place);
+    begin(roster, alloc, id, view);
     Ok(())
 }
 
@@ -81,7 +54,7 @@ fn switch<R: Steps>(roster: &mut R, id: u32, on: bool) -> Result<(), WishFault>
         (λ fault. WasRefused (if on then Enable id else Disable id) fault (R.state roster.old)
         (R.state roster.new)) }
 {
-    match live(roster, id) {
+    match roster.live(id) {
         Ok(()) => {}
         Err(fault) => return Err(fault),
     }
@@ -105,7 +78,7 @@ fn rank<R: Steps>(roster: &mut R, id: u32, priority: i32) -> Result<(), WishFaul
         (λ fault. WasRefused (Priority id priority) fault (R.state roster.old)
         (R.state roster.new)) }
 {
-    live(roster, id)?;
+    roster.live(id)?;
     roster.set_priority(id, priority);
     Ok(())
 }
@@ -125,7 +98,7 @@ fn free<R: Steps>(
         (R.state roster.new)) }
     ensures queue { queue.new ≡ queue.old ++ (if is_ok result then raised_by node (Free id) else []) }
 {
-    live(roster, id)?;
+    roster.live(id)?;
     let Ok(()) = queue.push(Event::at(node, EventKind::PluginFreed)) else {
         return Err(WishFault::NoMemory);
     };

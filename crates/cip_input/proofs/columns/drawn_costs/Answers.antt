@@ -1,5 +1,5 @@
 use Rattle.std.proofs.lemmas.Grind.{common_steps}
-use Rattle.std.proofs.Common.{◌≡◌, ℕ, ◌+◌, ◌%◌, List, [], ◌∷◌, ◌++◌, map, sym, ap, ◌∙◌, zero-add, arith}
+use Rattle.std.proofs.Common.{◌≡◌, ℕ, ◌+◌, ◌%◌, List, [], ◌∷◌, ◌++◌, map, sym, subst, ap, ◌∙◌, zero-add, arith}
 use Rattle.std.specs.List.{range_with_len}
 use Rattle.std.proofs.lemmas.List.FromFn.{map-range_with_len_more}
 use Rattle.cip_rational.specs.Rational.{ℚ, negate}
@@ -12,10 +12,13 @@ loop-column-preserved c =
     let k : ℕ = c.loop-column._column in
     let start : ℕ = c.args.draws.now.state in
     let drawn : c.draw.result ≡ draw start k = c.draw.ensures.drawn ∙ ap (λ s. drawn_at (next_state s)) c.loop-column.invariant.state in
-    let cost : c.cost_of.result ≡ cost_from start k = c.cost_of.ensures ∙ ap (λ d. negate (natural (1 + d % 20))) drawn in
+    let drawn_cost : c.neg.result ≡ negate (natural (1 + c.draw.result % 20)) = grind (arith, common_steps) in
+    let cost : c.neg.result ≡ cost_from start k =
+    subst (λ (d : ℕ). c.neg.result ≡ negate (natural (1 + d % 20))) drawn drawn_cost in
+    let put : c.push.new.self.items ≡ c.loop-column.costs.items ++ c.neg.result ∷ [] = c.in_ok-push.ensures.items in
     record {
       costs =
-          c.in_ok-push.ensures.items ∙ ap (λ (xs : List ℚ). xs ++ c.cost_of.result ∷ []) c.loop-column.invariant.costs
+          put ∙ ap (λ (xs : List ℚ). xs ++ c.neg.result ∷ []) c.loop-column.invariant.costs
           ∙ ap (λ (q : ℚ). map (cost_from start) (range_with_len 0 k) ++ q ∷ []) cost
           ∙ sym (map-range_with_len_more (cost_from start) 0 k k (zero-add k));
       state = c.draw.ensures.state ∙ ap next_state c.loop-column.invariant.state ∙ sym (state_after_next k start);

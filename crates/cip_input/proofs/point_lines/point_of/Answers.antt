@@ -15,8 +15,8 @@ pub loop-value-preserved : goal.loop-value-preserved
 loop-value-preserved c =
     let values = c.args.values.now in
     let k = c.loop-value.value-index in
-    c.in_ok-push.ensures.items ∙ ap (λ (point : List ℚ). point ++ c.given.result ∷ []) c.loop-value.invariant
-    ∙ ap (λ (value : ℚ). map or_zero (take k values) ++ value ∷ []) (c.given.ensures ∙ ap or_zero c.value-item.is)
+    c.in_ok-push.ensures.items ∙ ap (λ (point : List ℚ). point ++ c.unwrap_or.result ∷ []) c.loop-value.invariant
+    ∙ ap (λ (value : ℚ). map or_zero (take k values) ++ value ∷ []) (c.unwrap_or.ensures ∙ ap (unwrap_or c.value-item.result) c.zero.ensures ∙ ap or_zero c.value-item.is)
     ∙ sym (map_more or_zero values k c.value-item.result c.loop-value-test.true)
 
 pub returns : goal.returns

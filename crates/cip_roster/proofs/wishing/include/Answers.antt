@@ -1,9 +1,14 @@
 use Rattle.std.proofs.lemmas.Grind.{common_steps}
-use Rattle.std.proofs.Common.{◌+◌, ◌*◌, ◌≤◌, ◌∙◌, ap, subst, sym, append-nil, inl, refl, arith}
+use Rattle.std.proofs.Common.{ℕ, ◌∙◌, ap, length, subst, sym, append-nil, inl, refl, arith}
 use Rattle.std.specs.Prelude.{slice_get}
 use Rattle.cip_plugin.specs.declared.proposals.Wish.TheVariants.{Include}
 use Rattle.cip_plugin.specs.Seats.{State, live_count}
-use Rattle.cip_plugin.specs.Wishing.{Granted, place_fault}
+use Rattle.cip_plugin.specs.declared.stages.Stage.TheVariants as stages
+use Rattle.cip_plugin.specs.Steps.{Runs}
+use Rattle.cip_plugin.specs.Wishing.{Granted, begins, place_fault}
+use Rattle.cip_roster.specs.Turns.{StandsAt}
+use Rattle.cip_roster.proofs.Sounding.{sound_included}
+use Rattle.cip_roster.proofs.Wishes.{included_once}
 use Rattle.cip_roster.proofs.Turning.{sound_more}
 use Rattle.cip_roster.proofs.wishing.include.Goals as goal
 
@@ -22,34 +27,52 @@ returns-in_default-push-clause-sound g c =
     (g.R.Seated.room c.args.roster.now) (g.R.Seated.room c.reserve_seat.new.self) c.reserve_seat.ensures.state
     c.reserve_seat.ensures.grows c.reserve_seat.ensures.rankings c.requires.sound
 
-pub welcome-requires-clause-sound : goal.welcome-requires-clause-sound
-welcome-requires-clause-sound g c =
-    sound_more (g.R.Seated.state c.args.roster.now) (g.R.Seated.state c.reserve_seat.new.self)
-    (g.R.Seated.room c.args.roster.now) (g.R.Seated.room c.reserve_seat.new.self) c.reserve_seat.ensures.state
-    c.reserve_seat.ensures.grows c.reserve_seat.ensures.rankings c.requires.sound
-
-pub welcome-requires-clause-held : goal.welcome-requires-clause-held
-welcome-requires-clause-held g c =
+pub come-requires-clause-held : goal.come-requires-clause-held
+come-requires-clause-held g c =
     ap (λ (s : State). place_fault (slice_get s.places c.args.place)) c.reserve_seat.ensures.state
     ∙ c.in_ok-holds.ensures
 
-pub welcome-requires-clause-seat : goal.welcome-requires-clause-seat
-welcome-requires-clause-seat g c = c.in-Ok.ensures.seat
+pub come-requires-clause-seat : goal.come-requires-clause-seat
+come-requires-clause-seat g c = c.in-Ok.ensures.seat
 
-pub welcome-requires-clause-room : goal.welcome-requires-clause-room
-welcome-requires-clause-room g c =
-    subst (λ (s : State). 6 + 2 * live_count s.seats ≤ (g.R.Seated.room c.reserve_seat.new.self).lines)
-    (sym c.reserve_seat.ensures.state) c.in-Ok.ensures.room
+pub begin-requires-clause-at : goal.begin-requires-clause-at
+begin-requires-clause-at g c =
+    subst (λ (n : ℕ). StandsAt stages.Fresh (g.R.Seated.state c.come.new.self) n)
+    (ap (λ (s : State). length s.seats) c.reserve_seat.ensures.state ∙ sym c.count-id.ensures) c.come.ensures.at
+
+pub begin-requires-clause-room : goal.begin-requires-clause-room
+begin-requires-clause-room g c = omega (arith, c.in-Ok.ensures.room, c.come.ensures.room)
 
 pub returns-clause-sound : goal.returns-clause-sound
-returns-clause-sound g c = c.welcome.ensures.sound
+returns-clause-sound g c =
+    let answered = c.begin.ensures.run.0 in
+    let same = c.count-id.ensures ∙ ap (λ (s : State). length s.seats) (sym c.reserve_seat.ensures.state) in
+    let live = ap (λ (s : State). live_count s.seats) c.reserve_seat.ensures.state in
+    sound_included c.args.place answered.0 answered.1 (g.R.Seated.state c.reserve_seat.new.self)
+    (g.R.Seated.state c.come.new.self) (g.R.Seated.state c.begin.new.roster) (g.R.Seated.room c.reserve_seat.new.self)
+    (g.R.Seated.room c.begin.new.roster) c.come.ensures.run
+    (subst (λ (n : ℕ). Runs (g.R.Seated.state c.come.new.self) (begins n answered.0 answered.1)
+    (g.R.Seated.state c.begin.new.roster)) same c.begin.ensures.run.1)
+    (sound_more (g.R.Seated.state c.args.roster.now) (g.R.Seated.state c.reserve_seat.new.self)
+    (g.R.Seated.room c.args.roster.now) (g.R.Seated.room c.reserve_seat.new.self) c.reserve_seat.ensures.state
+    c.reserve_seat.ensures.grows c.reserve_seat.ensures.rankings c.requires.sound)
+    (subst (λ (n : ℕ). StandsAt stages.Playing (g.R.Seated.state c.begin.new.roster) n) same c.begin.ensures.at)
+    (omega (arith, live, c.in-Ok.ensures.room, c.come.ensures.room, c.begin.ensures.room))
+    (c.begin.ensures.rankings ∙ c.come.ensures.rankings)
 
 pub returns-clause-came : goal.returns-clause-came
-returns-clause-came g c = record {
-  granted = subst (λ (s : State). Granted (Include c.args.place) s (g.R.Seated.state c.welcome.new.roster))
-      c.reserve_seat.ensures.state c.welcome.ensures.granted;
-  fine = c.in_ok-holds.ensures;
-}
+returns-clause-came g c =
+    let answered = c.begin.ensures.run.0 in
+    let same = c.count-id.ensures ∙ ap (λ (s : State). length s.seats) (sym c.reserve_seat.ensures.state) in
+    record {
+      granted = subst (λ (s : State). Granted (Include c.args.place) s (g.R.Seated.state c.begin.new.roster))
+          c.reserve_seat.ensures.state
+          (included_once (g.R.Seated.state c.reserve_seat.new.self) (g.R.Seated.state c.come.new.self)
+          (g.R.Seated.state c.begin.new.roster) c.args.place answered.0 answered.1 c.come.ensures.run
+          (subst (λ (n : ℕ). Runs (g.R.Seated.state c.come.new.self) (begins n answered.0 answered.1)
+          (g.R.Seated.state c.begin.new.roster)) same c.begin.ensures.run.1));
+      fine = c.in_ok-holds.ensures;
+    }
 
 pub returns-in_default-clause-came : goal.returns-in_default-clause-came
 returns-in_default-clause-came g c = record { cause = inl refl; same = c.reserve_seat.ensures.state }

@@ -1,5 +1,5 @@
 use Rattle.std.proofs.lemmas.Grind.{common_steps}
-use Rattle.std.proofs.Common.{◌∙◌, ap, map, arith}
+use Rattle.std.proofs.Common.{◌∙◌, ap, map, arith, refl}
 use Rattle.cip_roster.specs.Shelves.{shown}
 use Rattle.cip_roster.proofs.rosters.Roster.empty.Goals as goal
 
@@ -13,10 +13,10 @@ pub returns-in-Ok-clause-unnamed : goal.returns-in-Ok-clause-unnamed
 returns-in-Ok-clause-unnamed g c = c.make_room.ensures.stays.2 ∙ c.new-names.ensures.items
 
 pub returns-in-Ok-clause-lines : goal.returns-in-Ok-clause-lines
-returns-in-Ok-clause-lines g c = c.make_room.ensures.stays.3 ∙ c.new-journal.ensures.lines
+returns-in-Ok-clause-lines g c = c.make_room.ensures.stays.3 ∙ c.new-lines.ensures.items
 
 pub returns-in-Ok-clause-kept : goal.returns-in-Ok-clause-kept
-returns-in-Ok-clause-kept g c = c.make_room.ensures.stays.4 ∙ c.new-journal.ensures.kept
+returns-in-Ok-clause-kept g c = refl
 
 pub returns-in-Ok-clause-shelf : goal.returns-in-Ok-clause-shelf
 returns-in-Ok-clause-shelf g c = c.in-Ok.ensures.shelf

@@ -27,8 +27,8 @@ returns-clause-run g c =
       same = refl;
     }))
     c.note.ensures.places c.note.ensures.names c.note.ensures.kept (c.note.ensures.lines ∙ ap (λ (w : Word).
-    cond c.args.self.now.journal.kept (c.args.self.now.journal.lines.items ++ line c.args.id w ∷ [])
-    c.args.self.now.journal.lines.items) c.word_for-word.ensures)
+    cond c.args.self.now.kept (c.args.self.now.lines.items ++ line c.args.id w ∷ [])
+    c.args.self.now.lines.items) c.word_for-word.ensures)
 
 pub index_mut-requires : goal.index_mut-requires
 index_mut-requires g c =

@@ -32,8 +32,5 @@ returns-in_default-clause-room c = grind (arith, common_steps)
 pub returns-in_default-clause-seat : goal.returns-in_default-clause-seat
 returns-in_default-clause-seat c = grind (arith, common_steps)
 
-pub reserve_one-requires : goal.reserve_one-requires
-reserve_one-requires c = grind (arith, common_steps)
-
 pub reserve_turns-requires : goal.reserve_turns-requires
 reserve_turns-requires c = grind (arith, common_steps)

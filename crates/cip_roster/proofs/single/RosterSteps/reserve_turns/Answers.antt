@@ -6,7 +6,7 @@ use Rattle.cip_roster.proofs.single.RosterSteps.reserve_turns.Goals as goal
 pub returns-in-Some-clause-room : goal.returns-in-Some-clause-room
 returns-in-Some-clause-room g c =
     turns_room _ c.args.self.now.slots.items c.reserve.result c.args.turns c.len-seats.result c.in-Some.sum _ _
-    c.reserve.ensures.room c.in-Some.ensures.1 (search (rules, c.len-seats.ensures))
+    c.reserve.ensures.ok c.in-Some.ensures.1 (search (rules, c.len-seats.ensures))
 
 pub overflow_mul-sum : goal.overflow_mul-sum
 overflow_mul-sum g c = omega arith
