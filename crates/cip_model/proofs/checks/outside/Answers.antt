@@ -13,3 +13,18 @@ returns c = grind (arith, common_steps)
 
 pub overflow_cast-result : goal.overflow_cast-result
 overflow_cast-result c = grind (arith, common_steps)
+
+pub overflow_cast-at : goal.overflow_cast-at
+overflow_cast-at c = grind (arith, common_steps)
+
+pub bounds-bounds-at : goal.bounds-bounds-at
+bounds-bounds-at c = grind (arith, common_steps)
+
+pub bounds-point-at : goal.bounds-point-at
+bounds-point-at c = grind (arith, common_steps)
+
+pub offset_bounds-bounds-at : goal.offset_bounds-bounds-at
+offset_bounds-bounds-at c = grind (arith, common_steps)
+
+pub offset_bounds-point-at : goal.offset_bounds-point-at
+offset_bounds-point-at c = grind (arith, common_steps)

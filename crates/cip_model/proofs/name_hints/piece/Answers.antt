@@ -1,3 +1,4 @@
+use Rattle.std.proofs.lemmas.Grind.{common_steps}
 use Rattle.std.proofs.Common.{Some, length, arith, ap, sym, ◌∙◌}
 use Rattle.std.specs.Prelude.{slice_index, slice_range}
 use Rattle.cip_model.proofs.NamePieces.{piece_at, piece_within}
@@ -22,3 +23,12 @@ pub returns : goal.returns
 returns c =
     piece_at 0 c.args.bytes.now c.args.ends.now c.args.number c.requires.there
     ∙ ap (λ start. Some (slice_range c.args.bytes.now start (slice_index c.args.ends.now c.args.number))) (sym c.start_of-start.ensures)
+
+pub start_of-start-requires : goal.start_of-start-requires
+start_of-start-requires c = grind (arith, common_steps)
+
+pub bounds-ends-number : goal.bounds-ends-number
+bounds-ends-number c = grind (arith, common_steps)
+
+pub offset_bounds-ends-number : goal.offset_bounds-ends-number
+offset_bounds-ends-number c = grind (arith, common_steps)

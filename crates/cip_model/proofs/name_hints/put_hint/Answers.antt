@@ -7,3 +7,9 @@ overflow_mul-wider c = grind (arith, common_steps)
 
 pub piece-requires-clause-there : goal.piece-requires-clause-there
 piece-requires-clause-there c = grind (arith, common_steps)
+
+pub overflow_mul-count : goal.overflow_mul-count
+overflow_mul-count c = grind (arith, common_steps)
+
+pub loop-number-preserved : goal.loop-number-preserved
+loop-number-preserved c = grind (arith, common_steps)

@@ -14,3 +14,21 @@ returns c = grind (arith, common_steps)
 
 pub overflow_add-key : goal.overflow_add-key
 overflow_add-key c = grind (arith, common_steps)
+
+pub overflow_mul-key : goal.overflow_mul-key
+overflow_mul-key c = grind (arith, common_steps)
+
+pub overflow_add-result : goal.overflow_add-result
+overflow_add-result c = grind (arith, common_steps)
+
+pub overflow_cast-result : goal.overflow_cast-result
+overflow_cast-result c = grind (arith, common_steps)
+
+pub overflow_mul-result : goal.overflow_mul-result
+overflow_mul-result c = grind (arith, common_steps)
+
+pub returns-then-count-ge16 : goal.returns-then-count-ge16
+returns-then-count-ge16 c = grind (arith, common_steps)
+
+pub loop-byte-init : goal.loop-byte-init
+loop-byte-init c = grind (arith, common_steps)

@@ -22,3 +22,18 @@ returns-in_err-reserve-clause-ends c = grind (arith, common_steps)
 
 pub returns-in_err-put_hint-clause-ends : goal.returns-in_err-put_hint-clause-ends
 returns-in_err-put_hint-clause-ends c = grind (arith, common_steps)
+
+pub overflow_cast-end : goal.overflow_cast-end
+overflow_cast-end c = grind (arith, common_steps)
+
+pub returns-in_default-clause-ends : goal.returns-in_default-clause-ends
+returns-in_default-clause-ends c = grind (arith, common_steps)
+
+pub returns-in_default-clause-written : goal.returns-in_default-clause-written
+returns-in_default-clause-written c = grind (arith, common_steps)
+
+pub returns-in_default-2-clause-ends : goal.returns-in_default-2-clause-ends
+returns-in_default-2-clause-ends c = grind (arith, common_steps)
+
+pub returns-in_default-2-clause-written : goal.returns-in_default-2-clause-written
+returns-in_default-2-clause-written c = grind (arith, common_steps)

@@ -13,3 +13,12 @@ returns c = grind (arith, common_steps)
 
 pub bounds-ray-at : goal.bounds-ray-at
 bounds-ray-at c = grind (arith, common_steps)
+
+pub offset_bounds-ray-at : goal.offset_bounds-ray-at
+offset_bounds-ray-at c = grind (arith, common_steps)
+
+pub bounds-bounds-at : goal.bounds-bounds-at
+bounds-bounds-at c = grind (arith, common_steps)
+
+pub offset_bounds-bounds-at : goal.offset_bounds-bounds-at
+offset_bounds-bounds-at c = grind (arith, common_steps)

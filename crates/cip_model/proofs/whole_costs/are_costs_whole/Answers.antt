@@ -38,3 +38,12 @@ returns c =
     second_decides c.is_whole.result c.is_whole.ensures.0 c.is_whole.ensures.1
     (λ whole. record { costs = costs; constant = subst IsWhole c.constant.ensures whole })
     (λ h. subst IsWhole (sym c.constant.ensures) h.constant)
+
+pub bounds-costs-at : goal.bounds-costs-at
+bounds-costs-at c = grind (arith, common_steps)
+
+pub offset_bounds-costs-at : goal.offset_bounds-costs-at
+offset_bounds-costs-at c = grind (arith, common_steps)
+
+pub bounds-whole-at : goal.bounds-whole-at
+bounds-whole-at c = grind (arith, common_steps)

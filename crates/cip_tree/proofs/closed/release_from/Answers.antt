@@ -38,14 +38,5 @@ returns-clause-slots c = grind (arith, common_steps)
 pub offset_bounds-nodes-node-index : goal.offset_bounds-nodes-node-index
 offset_bounds-nodes-node-index c = grind (arith, common_steps)
 
-pub loop-node-init : goal.loop-node-init
-loop-node-init c = grind (arith, common_steps)
-
-pub release-requires-clause-kept : goal.release-requires-clause-kept
-release-requires-clause-kept c = grind (arith, common_steps)
-
 pub returns-clause-capacity : goal.returns-clause-capacity
 returns-clause-capacity c = grind (arith, common_steps)
-
-pub returns-clause-kept : goal.returns-clause-kept
-returns-clause-kept c = grind (arith, common_steps)

@@ -72,9 +72,6 @@ returns-clause-len c = grind (arith, common_steps)
 pub returns-then-lower-clause-len : goal.returns-then-lower-clause-len
 returns-then-lower-clause-len c = grind (arith, common_steps)
 
-pub returns-in_default-clause-slots : goal.returns-in_default-clause-slots
-returns-in_default-clause-slots c = grind (arith, common_steps)
-
 pub returns-in_default-clause-capacity : goal.returns-in_default-clause-capacity
 returns-in_default-clause-capacity c = grind (arith, common_steps)
 

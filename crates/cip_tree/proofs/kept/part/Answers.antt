@@ -11,12 +11,6 @@ returns-clause-capacity c = grind (arith, common_steps)
 pub insert_reserved-low_place-requires : goal.insert_reserved-low_place-requires
 insert_reserved-low_place-requires c = grind (arith, common_steps)
 
-pub returns-clause-slots : goal.returns-clause-slots
-returns-clause-slots c = grind (arith, common_steps)
-
-pub insert_reserved-high_place-requires : goal.insert_reserved-high_place-requires
-insert_reserved-high_place-requires c = grind (arith, common_steps)
-
 pub insert_reserved-requires : goal.insert_reserved-requires
 insert_reserved-requires c = grind (arith, common_steps)
 

@@ -23,17 +23,8 @@ let_go-next-requires-in-Some-clause-kept c = grind (arith, common_steps)
 pub let_go-next-requires-in-Some-clause-idle : goal.let_go-next-requires-in-Some-clause-idle
 let_go-next-requires-in-Some-clause-idle c = grind (arith, common_steps)
 
-pub let_go-next-requires-clause-kept : goal.let_go-next-requires-clause-kept
-let_go-next-requires-clause-kept c = grind (arith, common_steps)
-
-pub returns-clause-slots : goal.returns-clause-slots
-returns-clause-slots c = grind (arith, common_steps)
-
 pub loop-next-smaller : goal.loop-next-smaller
 loop-next-smaller c = grind (arith, common_steps)
-
-pub loop-next-init : goal.loop-next-init
-loop-next-init c = grind (arith, common_steps)
 
 pub let_go-next-requires-clause-idle : goal.let_go-next-requires-clause-idle
 let_go-next-requires-clause-idle c = grind (arith, common_steps)

@@ -50,14 +50,8 @@ returns-in_err-reserve-3-clause-log c = grind (arith, common_steps)
 pub overflow_add-in_work : goal.overflow_add-in_work
 overflow_add-in_work c = grind (arith, common_steps)
 
-pub returns-in_err-reserve-3-clause-room : goal.returns-in_err-reserve-3-clause-room
-returns-in_err-reserve-3-clause-room c = grind (arith, common_steps)
-
 pub returns-in_err-reserve-2-clause-kept : goal.returns-in_err-reserve-2-clause-kept
 returns-in_err-reserve-2-clause-kept c = grind (arith, common_steps)
-
-pub returns-in_err-reserve-2-clause-room : goal.returns-in_err-reserve-2-clause-room
-returns-in_err-reserve-2-clause-room c = grind (arith, common_steps)
 
 pub returns-in_err-reserve-2-clause-grows : goal.returns-in_err-reserve-2-clause-grows
 returns-in_err-reserve-2-clause-grows c = grind (arith, common_steps)
@@ -73,9 +67,6 @@ returns-in_err-reserve-2-clause-parked c = grind (arith, common_steps)
 
 pub returns-in_err-reserve-clause-kept : goal.returns-in_err-reserve-clause-kept
 returns-in_err-reserve-clause-kept c = grind (arith, common_steps)
-
-pub returns-in_err-reserve-clause-room : goal.returns-in_err-reserve-clause-room
-returns-in_err-reserve-clause-room c = grind (arith, common_steps)
 
 pub returns-in_err-reserve-clause-grows : goal.returns-in_err-reserve-clause-grows
 returns-in_err-reserve-clause-grows c = grind (arith, common_steps)

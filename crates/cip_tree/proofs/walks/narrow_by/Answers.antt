@@ -53,6 +53,3 @@ returns-clause-marks c = c.loop-note.invariant.marks
 
 pub offset_bounds-notes-note-index : goal.offset_bounds-notes-note-index
 offset_bounds-notes-note-index c = grind (arith, common_steps)
-
-pub returns-in_err-narrow-clause-narrowed : goal.returns-in_err-narrow-clause-narrowed
-returns-in_err-narrow-clause-narrowed c = grind (arith, common_steps)

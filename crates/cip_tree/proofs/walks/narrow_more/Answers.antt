@@ -24,9 +24,3 @@ returns-else-branch-clause-narrowed c = λ p.
 
 pub returns-else-branch-clause-marks : goal.returns-else-branch-clause-marks
 returns-else-branch-clause-marks c = grind (arith, common_steps)
-
-pub returns-in_err-narrow_by-clause-marks : goal.returns-in_err-narrow_by-clause-marks
-returns-in_err-narrow_by-clause-marks c = grind (arith, common_steps)
-
-pub returns-in_err-narrow_by-clause-narrowed : goal.returns-in_err-narrow_by-clause-narrowed
-returns-in_err-narrow_by-clause-narrowed c = grind (arith, common_steps)

@@ -10,3 +10,12 @@ of-requires-2-clause-below c = grind (arith, common_steps)
 
 pub returns : goal.returns
 returns c = grind (arith, common_steps)
+
+pub of-requires-2-clause-few : goal.of-requires-2-clause-few
+of-requires-2-clause-few c = grind (arith, common_steps)
+
+pub of-requires-clause-below : goal.of-requires-clause-below
+of-requires-clause-below c = grind (arith, common_steps)
+
+pub of-requires-clause-few : goal.of-requires-clause-few
+of-requires-clause-few c = grind (arith, common_steps)

@@ -1,4 +1,5 @@
-use Rattle.std.proofs.Common.{ℕ, List, Vec, Global, ◌≡◌, ◌==◌, ◌∙◌, None, Some, refl, sym, ap}
+use Rattle.std.proofs.lemmas.Grind.{common_steps}
+use Rattle.std.proofs.Common.{ℕ, List, Vec, Global, ◌≡◌, ◌==◌, ◌∙◌, None, Some, refl, sym, ap, arith}
 use Rattle.std.specs.BTreeMap.{get_by, insert_entry}
 use Rattle.std.specs.Cmp.Lexicographic.{slice_cmp}
 use Rattle.std.specs.Ordering.{nat_cmp}
@@ -34,3 +35,9 @@ returns-in_ok-insert-in-None-clause-ok c =
     long_put old (record { short = old.short; long = c.insert-in-None.new.self }) name c.args.number has (λ key other. refl) (λ other.
     ap (λ es. in_order items cmp bytes_eq is_eq-slice_cmp same es other) entries
     ∙ order_push items cmp bytes_eq is_eq-slice_cmp same old.long.entries c.args.name c.args.number other absent)
+
+pub returns-in_ok-insert-in-Some-clause-err : goal.returns-in_ok-insert-in-Some-clause-err
+returns-in_ok-insert-in-Some-clause-err c = grind (arith, common_steps)
+
+pub returns-in_ok-insert-in-None-clause-err : goal.returns-in_ok-insert-in-None-clause-err
+returns-in_ok-insert-in-None-clause-err c = grind (arith, common_steps)

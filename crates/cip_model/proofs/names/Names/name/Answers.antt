@@ -11,3 +11,6 @@ piece-requires-clause-there c =
 
 pub piece-requires-clause-rising : goal.piece-requires-clause-rising
 piece-requires-clause-rising c = grind (arith, common_steps)
+
+pub returns : goal.returns
+returns c = grind (arith, common_steps)

@@ -17,3 +17,21 @@ returns-in_default-clause-meaning c = bound_is_right c.args.self.now c.args.boun
 
 pub returns-clause-meaning : goal.returns-clause-meaning
 returns-clause-meaning c = bound_is_right c.args.self.now c.args.bounds.now _ (returns-clause-steps c)
+
+pub loop-at-preserved-then-eq : goal.loop-at-preserved-then-eq
+loop-at-preserved-then-eq c = grind (arith, common_steps)
+
+pub bounds-sides-at : goal.bounds-sides-at
+bounds-sides-at c = grind (arith, common_steps)
+
+pub offset_bounds-sides-at : goal.offset_bounds-sides-at
+offset_bounds-sides-at c = grind (arith, common_steps)
+
+pub bounds-costs-at : goal.bounds-costs-at
+bounds-costs-at c = grind (arith, common_steps)
+
+pub offset_bounds-costs-at : goal.offset_bounds-costs-at
+offset_bounds-costs-at c = grind (arith, common_steps)
+
+pub loop-at-init : goal.loop-at-init
+loop-at-init c = grind (arith, common_steps)

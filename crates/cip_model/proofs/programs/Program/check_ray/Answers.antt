@@ -86,3 +86,6 @@ returns-then-not-keeps_bounds-clause-falls c = grind (arith, common_steps)
 
 pub keeps_bounds-requires : goal.keeps_bounds-requires
 keeps_bounds-requires c = grind (arith, common_steps)
+
+pub check-requires : goal.check-requires
+check-requires c = grind (arith, common_steps)

@@ -4,3 +4,6 @@ use Rattle.cip_model.proofs.programs.Program.whole.Goals as goal
 
 pub returns-clause-formed : goal.returns-clause-formed
 returns-clause-formed c = grind (arith, common_steps)
+
+pub returns-clause-whole : goal.returns-clause-whole
+returns-clause-whole c = grind (arith, common_steps)

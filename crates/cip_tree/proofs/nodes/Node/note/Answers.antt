@@ -5,11 +5,5 @@ use Rattle.cip_tree.proofs.nodes.Node.note.Goals as goal
 pub returns-clause-ok : goal.returns-clause-ok
 returns-clause-ok c = grind (arith, common_steps)
 
-pub returns-in_err-push-clause-err : goal.returns-in_err-push-clause-err
-returns-in_err-push-clause-err c = grind (arith, common_steps)
-
 pub returns-clause-err : goal.returns-clause-err
 returns-clause-err c = grind (arith, common_steps)
-
-pub returns-in_err-push-clause-ok : goal.returns-in_err-push-clause-ok
-returns-in_err-push-clause-ok c = grind (arith, common_steps)

@@ -17,6 +17,3 @@ invariant_of-self c = grind (arith, common_steps)
 
 pub returns-clause-room : goal.returns-clause-room
 returns-clause-room c = grind (arith, common_steps)
-
-pub retain-requires : goal.retain-requires
-retain-requires c = grind (arith, common_steps)

@@ -1,6 +1,5 @@
-use Rattle.std.proofs.lemmas.Grind.{common_steps}
 use Rattle.cip_tree.specs.Nodes.{node_in}
-use Rattle.std.proofs.Common.{None, map, get_or, sym, ap, ◌∙◌, subst, arith}
+use Rattle.std.proofs.Common.{None, map, get_or, sym, ap, ◌∙◌, subst}
 use Rattle.std.proofs.lemmas.List.{map-append}
 use Rattle.cip_tree.specs.Entries.{entry_of}
 use Rattle.cip_tree.specs.Nodes.{filled_base, Nodes, TakenNode, base_at}
@@ -54,6 +53,3 @@ returns-clause-rest c =
     let log = ap (λ l. map entry_of l) c.push_reserved.ensures.items ∙ map-append entry_of c.self.inside.log.items _ in
     rw (← c.self.view_is, ← c.node.view_is)
     (nodes_equal _ _ _ _ _ _ _ _ _ _ _ (closed_open c.self.inside.root c.self.inside.kept.slots c.release.new.kept.slots c.node.inside.place c.self.inside.queue.nodes c.self.inside.parked.items c.self.inside.ids c.self.inside.in_work base.raw c.self.invariant.0 base.found c.release.ensures.slots c.release.ensures.kept) (closed_parked c.self.inside.root c.self.inside.kept.slots c.release.new.kept.slots c.node.inside.place c.self.inside.queue.nodes c.self.inside.parked.items c.self.inside.ids c.self.inside.in_work base.raw c.self.invariant.0 base.found c.release.ensures.slots c.release.ensures.kept) log)
-
-pub release-requires-clause-kept : goal.release-requires-clause-kept
-release-requires-clause-kept c = grind (arith, common_steps)

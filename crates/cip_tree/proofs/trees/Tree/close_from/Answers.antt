@@ -53,9 +53,6 @@ returns-else-reaches-clause-nodes c =
 pub release_from-requires-clause-waiting : goal.release_from-requires-clause-waiting
 release_from-requires-clause-waiting c = grind (arith, common_steps)
 
-pub release_from-requires-clause-kept : goal.release_from-requires-clause-kept
-release_from-requires-clause-kept c = grind (arith, common_steps)
-
 pub returns-else-reaches-clause-taken : goal.returns-else-reaches-clause-taken
 returns-else-reaches-clause-taken c = grind (arith, common_steps)
 

@@ -41,6 +41,3 @@ returns-clause-entered c =
 
 pub returns-clause-rest : goal.returns-clause-rest
 returns-clause-rest c = grind (arith, common_steps)
-
-pub enter-requires-clause-kept : goal.enter-requires-clause-kept
-enter-requires-clause-kept c = grind (arith, common_steps)

@@ -191,15 +191,3 @@ same-self-in_err-notes c = grind (arith, common_steps)
 
 pub same-self : goal.same-self
 same-self c = grind (arith, common_steps)
-
-pub returns-in_err-parting : goal.returns-in_err-parting
-returns-in_err-parting c = grind (arith, common_steps)
-
-pub returns-in_err-make_room : goal.returns-in_err-make_room
-returns-in_err-make_room c = grind (arith, common_steps)
-
-pub make_room-requires : goal.make_room-requires
-make_room-requires c = grind (arith, common_steps)
-
-pub returns-in_err-notes : goal.returns-in_err-notes
-returns-in_err-notes c = grind (arith, common_steps)

@@ -50,15 +50,3 @@ returns-clause-outcome c = grind (arith, common_steps)
 
 pub push_reserved-requires : goal.push_reserved-requires
 push_reserved-requires c = grind (arith, common_steps)
-
-pub returns-in_err-answer-clause-tightened : goal.returns-in_err-answer-clause-tightened
-returns-in_err-answer-clause-tightened c = grind (arith, common_steps)
-
-pub returns-in_err-reserve-clause-tightened : goal.returns-in_err-reserve-clause-tightened
-returns-in_err-reserve-clause-tightened c = grind (arith, common_steps)
-
-pub returns-in_err-answer-clause-outcome : goal.returns-in_err-answer-clause-outcome
-returns-in_err-answer-clause-outcome c = grind (arith, common_steps)
-
-pub returns-in_err-reserve-clause-outcome : goal.returns-in_err-reserve-clause-outcome
-returns-in_err-reserve-clause-outcome c = grind (arith, common_steps)

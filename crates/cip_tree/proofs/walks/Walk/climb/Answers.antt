@@ -45,23 +45,8 @@ returns-in_err-push-clause-domain c = grind (arith, common_steps)
 pub returns-clause-climbs : goal.returns-clause-climbs
 returns-clause-climbs c = grind (arith, common_steps)
 
-pub returns-in_err-push-clause-ends : goal.returns-in_err-push-clause-ends
-returns-in_err-push-clause-ends c = grind (arith, common_steps)
-
 pub returns-in_err-parent-clause-domain : goal.returns-in_err-parent-clause-domain
 returns-in_err-parent-clause-domain c = grind (arith, common_steps)
 
 pub parent_past-requires-clause-slot : goal.parent_past-requires-clause-slot
 parent_past-requires-clause-slot c = grind (arith, common_steps)
-
-pub returns-in_err-push-clause-climbs : goal.returns-in_err-push-clause-climbs
-returns-in_err-push-clause-climbs c = grind (arith, common_steps)
-
-pub parent_past-requires-clause-kept : goal.parent_past-requires-clause-kept
-parent_past-requires-clause-kept c = grind (arith, common_steps)
-
-pub returns-in_err-parent-clause-ends : goal.returns-in_err-parent-clause-ends
-returns-in_err-parent-clause-ends c = grind (arith, common_steps)
-
-pub returns-in_err-parent-clause-climbs : goal.returns-in_err-parent-clause-climbs
-returns-in_err-parent-clause-climbs c = grind (arith, common_steps)

@@ -62,17 +62,5 @@ returns-clause-entered c = λ ids slot w f.
 pub invariant_of-self : goal.invariant_of-self
 invariant_of-self c = grind (arith, common_steps)
 
-pub descend-requires : goal.descend-requires
-descend-requires c = grind (arith, common_steps)
-
-pub returns-in_err-descend-clause-entered : goal.returns-in_err-descend-clause-entered
-returns-in_err-descend-clause-entered c = grind (arith, common_steps)
-
 pub climb-requires-clause-slot : goal.climb-requires-clause-slot
 climb-requires-clause-slot c = grind (arith, common_steps)
-
-pub climb-requires-clause-kept : goal.climb-requires-clause-kept
-climb-requires-clause-kept c = grind (arith, common_steps)
-
-pub returns-in_err-places-clause-entered : goal.returns-in_err-places-clause-entered
-returns-in_err-places-clause-entered c = grind (arith, common_steps)

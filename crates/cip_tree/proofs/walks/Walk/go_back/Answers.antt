@@ -28,6 +28,3 @@ returns-in-Some c = λ root slots ids place w e.
 
 pub returns-in_default : goal.returns-in_default
 returns-in_default c = grind (arith, common_steps)
-
-pub undo_to-requires : goal.undo_to-requires
-undo_to-requires c = grind (arith, common_steps)

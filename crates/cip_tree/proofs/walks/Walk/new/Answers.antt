@@ -4,6 +4,3 @@ use Rattle.cip_tree.proofs.walks.Walk.new.Goals as goal
 
 pub returns : goal.returns
 returns c = grind (arith, common_steps)
-
-pub invariant_of-result : goal.invariant_of-result
-invariant_of-result c = grind (arith, common_steps)

@@ -60,17 +60,8 @@ returns-then-turn_back-clause-domain c = grind (arith, common_steps)
 pub invariant_of-self-in-None : goal.invariant_of-self-in-None
 invariant_of-self-in-None c = grind (arith, common_steps)
 
-pub returns-in_err-push-in-None-clause-walked : goal.returns-in_err-push-in-None-clause-walked
-returns-in_err-push-in-None-clause-walked c = grind (arith, common_steps)
-
 pub returns-in_err-push-in-None-clause-domain : goal.returns-in_err-push-in-None-clause-domain
 returns-in_err-push-in-None-clause-domain c = grind (arith, common_steps)
-
-pub invariant_of-self : goal.invariant_of-self
-invariant_of-self c = grind (arith, common_steps)
-
-pub returns-in_err-push-in-None-clause-next : goal.returns-in_err-push-in-None-clause-next
-returns-in_err-push-in-None-clause-next c = grind (arith, common_steps)
 
 pub same-self : goal.same-self
 same-self c = grind (arith, common_steps)

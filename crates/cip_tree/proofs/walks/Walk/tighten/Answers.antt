@@ -28,12 +28,3 @@ returns-clause-outcome c = grind (arith, common_steps)
 
 pub tighten-requires-clause-room : goal.tighten-requires-clause-room
 tighten-requires-clause-room c = grind (arith, common_steps)
-
-pub returns-in_err-reserve-clause-walked : goal.returns-in_err-reserve-clause-walked
-returns-in_err-reserve-clause-walked c = grind (arith, common_steps)
-
-pub returns-in_err-reserve-clause-region : goal.returns-in_err-reserve-clause-region
-returns-in_err-reserve-clause-region c = grind (arith, common_steps)
-
-pub returns-in_err-reserve-clause-outcome : goal.returns-in_err-reserve-clause-outcome
-returns-in_err-reserve-clause-outcome c = grind (arith, common_steps)

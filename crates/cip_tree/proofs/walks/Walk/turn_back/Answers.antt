@@ -36,14 +36,8 @@ returns-clause-ends c = grind (arith, common_steps)
 pub returns-then-stop-number-clause-domain : goal.returns-then-stop-number-clause-domain
 returns-then-stop-number-clause-domain c = grind (arith, common_steps)
 
-pub returns-then-stop-number-clause-walked : goal.returns-then-stop-number-clause-walked
-returns-then-stop-number-clause-walked c = grind (arith, common_steps)
-
 pub returns-clause-domain : goal.returns-clause-domain
 returns-clause-domain c = grind (arith, common_steps)
-
-pub returns-clause-walked : goal.returns-clause-walked
-returns-clause-walked c = grind (arith, common_steps)
 
 pub loop-stop-init : goal.loop-stop-init
 loop-stop-init c = grind (arith, common_steps)
