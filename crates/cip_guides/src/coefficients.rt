@@ -6,11 +6,9 @@ use cip_lin::{Row, Sides};
 pub(crate) fn coefficient(row: &Row, col: u32) -> Option<Frac> {
     let terms = row.terms();
     let place = terms.partition_point(|term| term.col < col);
-    let term = terms.get(place)?;
-    if term.col == col {
-        Some(term.coef)
-    } else {
-        None
+    match terms.get(place) {
+        Some(term) if term.col == col => Some(term.coef),
+        _ => None,
     }
 }
 

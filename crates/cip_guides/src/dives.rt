@@ -24,7 +24,7 @@ struct Turn {
 /// A box in work, and what is needed to go back to an earlier one.
 #[derive(Drop)]
 pub(crate) struct Dive {
-    watched: Watched,
+    pub(crate) watched: Watched,
     sides: Vec<Sides>,
     before: Vec<(u32, Sides)>,
     implied: Vec<Implied>,
@@ -92,19 +92,6 @@ impl Dive {
         }
     }
 
-    /// Takes the rows of a program. `Err` where memory was refused.
-    pub(crate) fn take(&mut self, view: &View<'_>) -> Result<(), AllocError> {
-        self.watched
-            .take(view.own, view.whole, view.bounds.as_slice())?;
-        self.watched.calm();
-        Ok(())
-    }
-
-    /// Has no row wait.
-    pub(crate) fn calm(&mut self) {
-        self.watched.calm();
-    }
-
     /// The sides of a column.
     fn sides_of(&self, col: u32) -> Sides {
         match self.sides.get(col as usize) {
@@ -146,8 +133,18 @@ impl Dive {
         Ok(!sides.cross())
     }
 
-    /// Takes the sides that were listed, and answers whether each column has a value left.
-    fn set_implied(&mut self) -> Result<bool, AllocError> {
+    /// Takes what a row by one of its sides implies, and answers whether the box may have a point.
+    fn narrow_by(&mut self, whole: &[bool], row: &Row, source: Source) -> Result<bool, AllocError> {
+        let region = Region {
+            sides: self.sides.as_slice(),
+            whole,
+            is_exact: true,
+        };
+        self.implied.clear();
+        let narrowing = list_implied(row, source, &region, usize::MAX, &mut self.implied)?;
+        if narrowing == Narrowing::Contradiction {
+            return Ok(false);
+        }
         for place in 0..self.implied.len() {
             let Some(item) = self.implied.get(place).copied() else {
                 return Ok(false);
@@ -164,23 +161,22 @@ impl Dive {
         Ok(true)
     }
 
-    /// Takes what a row by one of its sides implies, and answers whether the box may have a point.
-    fn narrow_by(&mut self, whole: &[bool], row: &Row, source: Source) -> Result<bool, AllocError> {
-        let region = Region {
-            sides: self.sides.as_slice(),
-            whole,
-            is_exact: true,
+    /// Fixes a column, takes what the rows imply that wait, and answers whether the box may have a point; not where the
+    /// share is spent.
+    fn fix(
+        &mut self,
+        view: &View<'_>,
+        col: u32,
+        value: Frac,
+        share: &mut Share,
+    ) -> Result<bool, AllocError> {
+        let sides = Sides {
+            low: Some(value),
+            high: Some(value),
         };
-        self.implied.clear();
-        let narrowing = list_implied(row, source, &region, usize::MAX, &mut self.implied)?;
-        if narrowing == Narrowing::Contradiction {
+        if !self.set(col, sides)? {
             return Ok(false);
         }
-        self.set_implied()
-    }
-
-    /// Takes what the rows imply that wait, and answers whether the box may have a point; not where the share is spent.
-    fn narrow(&mut self, view: &View<'_>, share: &mut Share) -> Result<bool, AllocError> {
         for _ in 0..MOST_ROWS {
             let Some(number) = self.watched.next() else {
                 return Ok(true);
@@ -199,36 +195,6 @@ impl Dive {
             }
         }
         Ok(false)
-    }
-
-    /// Fixes a column, and answers whether the box may have a point.
-    fn fix(
-        &mut self,
-        view: &View<'_>,
-        col: u32,
-        value: Frac,
-        share: &mut Share,
-    ) -> Result<bool, AllocError> {
-        let sides = Sides {
-            low: Some(value),
-            high: Some(value),
-        };
-        if !self.set(col, sides)? {
-            return Ok(false);
-        }
-        self.narrow(view, share)
-    }
-
-    /// Goes back to the box with so many changes.
-    fn go_back(&mut self, mark: usize) {
-        for _ in mark..self.before.len() {
-            if let Some((col, old)) = self.before.pop() {
-                if let Some(own) = self.sides.get_mut(col as usize) {
-                    *own = old;
-                }
-            }
-        }
-        self.watched.calm();
     }
 
     /// Fixes a column near its value, or a whole one at the value next to that where no point is left, and answers
@@ -252,7 +218,14 @@ impl Dive {
         if self.fix(view, col, first, share)? {
             return Ok(true);
         }
-        self.go_back(mark);
+        for _ in mark..self.before.len() {
+            if let Some((changed, old)) = self.before.pop() {
+                if let Some(own) = self.sides.get_mut(changed as usize) {
+                    *own = old;
+                }
+            }
+        }
+        self.watched.calm();
         if self.turned >= MOST_TURNS || !is_whole {
             return Ok(false);
         }

@@ -30,20 +30,6 @@ impl DiveHeuristic {
             share: Share::new(PART),
         }
     }
-
-    /// Dives where that may pay, and answers whether the box that is left may be a point of the program.
-    fn has_gone(&mut self, view: &View<'_>) -> Result<bool, AllocError> {
-        let Some(point) = view.point else {
-            return Ok(false);
-        };
-        if has_long_rest(view.whole, point) || !self.share.may_begin() {
-            return Ok(false);
-        }
-        let before = self.share.left();
-        let is_there = self.dive.go(view, point, &mut self.share)?;
-        self.share.end(before, is_there);
-        Ok(is_there)
-    }
 }
 
 impl Plugin for DiveHeuristic {
@@ -65,11 +51,14 @@ impl Plugin for DiveHeuristic {
 
     fn init_solve(&mut self, _alloc: Global, view: &View<'_>) -> Result<(), AllocError> {
         self.share.begin(view.own, view.costs.len());
-        self.dive.take(view)
+        let watched = &mut self.dive.watched;
+        watched.take(view.own, view.whole, view.bounds.as_slice())?;
+        watched.calm();
+        Ok(())
     }
 
     fn exit_solve(&mut self) {
-        self.dive.calm();
+        self.dive.watched.calm();
     }
 
     fn exit(&mut self) {}
@@ -79,7 +68,16 @@ impl Heuristic for DiveHeuristic {
     fn search(&mut self, alloc: Global, view: &View<'_>) -> Result<Vec<Guess>, AllocError>
         ensures full { IfOk result (λ guesses. AreFull (length view.now.costs.now) guesses.items) }
     {
-        if !self.has_gone(view)? {
+        let is_there = match view.point {
+            Some(point) if !has_long_rest(view.whole, point) && self.share.may_begin() => {
+                let before = self.share.left;
+                let is_there = self.dive.go(view, point, &mut self.share)?;
+                self.share.end(before, is_there);
+                is_there
+            }
+            _ => false,
+        };
+        if !is_there {
             return Ok(Vec::new(alloc));
         }
         let values = self.dive.values(alloc)?;

@@ -9,16 +9,9 @@ use std::alloc::{AllocError, Global};
 /// A point, and what each row comes to at it.
 #[derive(Drop)]
 pub(crate) struct Placed {
-    columns: ColumnRows,
-    values: Vec<Frac>,
+    pub(crate) columns: ColumnRows,
+    pub(crate) values: Vec<Frac>,
     activities: Vec<Frac>,
-}
-
-/// A move of a column.
-#[derive(Clone, Copy)]
-pub(crate) struct Move {
-    pub(crate) col: u32,
-    pub(crate) by: Frac,
 }
 
 impl Placed {
@@ -29,11 +22,6 @@ impl Placed {
             values: Vec::new(alloc),
             activities: Vec::new(alloc),
         }
-    }
-
-    /// Takes the rows of a program. `Err` where memory was refused.
-    pub(crate) fn take(&mut self, view: &View<'_>) -> Result<(), AllocError> {
-        self.columns.take(view.own, view.whole, false)
     }
 
     /// Takes a point, and answers whether no row leaves the range at it.
@@ -50,11 +38,6 @@ impl Placed {
         Ok(true)
     }
 
-    /// The values.
-    pub(crate) fn values(&self) -> &[Frac] {
-        self.values.as_slice()
-    }
-
     /// How many rows a column has.
     pub(crate) fn count(&self, col: u32) -> usize {
         self.columns.rows_of(col).len()
@@ -68,9 +51,13 @@ impl Placed {
         place: usize,
     ) -> Option<(&'a Row, Frac, Frac)> {
         let number = *self.columns.rows_of(col).get(place)? as usize;
-        let row = own.get(number)?;
-        let sum = *self.activities.get(number)?;
-        Some((row, sum, coefficient(row, col)?))
+        let (Some(row), Some(sum)) = (own.get(number), self.activities.get(number)) else {
+            return None;
+        };
+        match coefficient(row, col) {
+            Some(coef) => Some((row, *sum, coef)),
+            None => None,
+        }
     }
 
     /// How far a column may go on, with the place of the first of its rows that keeps it from going farther, where one
@@ -106,23 +93,24 @@ impl Placed {
         Some((least?, kept_by))
     }
 
-    /// Moves a column, and answers whether nothing left the range; else it is of no use until a point is taken.
-    pub(crate) fn go(&mut self, own: &[Row], step: Move) -> bool {
-        let Some(value) = self.values.get_mut(step.col as usize) else {
+    /// Moves a column by so much, and answers whether nothing left the range; else it is of no use until a point is
+    /// taken.
+    pub(crate) fn go(&mut self, own: &[Row], col: u32, by: Frac) -> bool {
+        let Some(value) = self.values.get_mut(col as usize) else {
             return false;
         };
-        if !value.add_assign(step.by) {
+        if !value.add_assign(by) {
             return false;
         }
-        for number in self.columns.rows_of(step.col) {
+        for number in self.columns.rows_of(col) {
             let Some(row) = own.get(*number as usize) else {
                 return false;
             };
             let Some(sum) = self.activities.get_mut(*number as usize) else {
                 return false;
             };
-            let coef = coefficient(row, step.col).unwrap_or(Frac::zero());
-            if !sum.add_product(&coef, &step.by) {
+            let coef = coefficient(row, col).unwrap_or(Frac::zero());
+            if !sum.add_product(&coef, &by) {
                 return false;
             }
         }

@@ -2,13 +2,12 @@
 ghost use Rattle.std.specs.Prelude.{None, codes, length, IfOk};
 ghost use Rattle.cip_guides.specs.FullGuesses.{AreFull};
 
-use crate::exchanges::{Move, Placed};
+use crate::exchanges::Placed;
 use crate::guesses::only_guess;
 use crate::lengths::MOST_UNDER;
 use crate::shares::Share;
 use crate::wholes::is_whole_at;
 use cip_frac::Frac;
-use cip_lin::Term;
 use cip_plugin::{Guess, Heuristic, Plugin, View};
 use cip_tighten::{is_long, rough, short};
 use std::alloc::{AllocError, Global};
@@ -42,26 +41,6 @@ fn cost_of(view: &View<'_>, col: u32) -> Frac {
     }
 }
 
-/// A column by 1 up or down.
-fn unit(col: u32, is_up: bool) -> Move {
-    Move {
-        col,
-        by: signed(Frac::one(), is_up),
-    }
-}
-
-/// Lists the columns with a cost, the costliest first.
-fn list_costs(costs: &[Frac], order: &mut Vec<(i64, u32)>) -> Result<(), AllocError> {
-    order.clear();
-    for (column, cost) in costs.iter().enumerate() {
-        if !cost.is_zero() {
-            order.push((rough(cost.abs()).wrapping_neg(), short(column)))?;
-        }
-    }
-    order.sort_unstable();
-    Ok(())
-}
-
 impl ExchangeHeuristic {
     /// One that was never called. It takes no memory.
     pub fn new(alloc: Global) -> ExchangeHeuristic {
@@ -74,63 +53,47 @@ impl ExchangeHeuristic {
         }
     }
 
-    /// Moves a column, and notes where that leaves the range.
-    fn go(&mut self, view: &View<'_>, step: Move) {
-        if !self.placed.go(view.own, step) {
+    /// Moves a column by so much, up or down, and notes where that leaves the range.
+    fn go(&mut self, view: &View<'_>, col: u32, by: Frac, is_up: bool) {
+        if !self.placed.go(view.own, col, signed(by, is_up)) {
             self.is_lost = true;
         }
     }
 
-    /// Takes the work of looking at a column's rows, and answers whether it was there.
-    fn spend(&mut self, col: u32) -> bool {
-        let rows = self.placed.count(col).saturating_add(1);
-        !self.is_lost && self.share.spend(rows)
-    }
-
-    /// Moves a column by 1, and that of a term of a row the other way, where they cost less together; and back again
-    /// where a row isn't kept then. The column has a coefficient in the row. Answers whether they were moved.
-    fn exchange_with(
-        &mut self,
-        view: &View<'_>,
-        first: (u32, bool),
-        coef: Frac,
-        term: &Term,
-    ) -> bool {
-        if term.col == first.0 || !is_whole_at(view.whole, term.col) {
-            return false;
-        }
-        let rises = coef.is_positive() == first.1;
-        let other = (term.col, term.coef.is_positive() != rises);
-        let cost = signed(cost_of(view, first.0), first.1);
-        let costs_less = match cost.add(signed(cost_of(view, other.0), other.1)) {
-            Ok(sum) => sum.is_negative(),
-            Err(_) => false,
-        };
-        if !costs_less || !self.spend(first.0) || !self.spend(term.col) {
-            return false;
-        }
-        self.go(view, unit(first.0, first.1));
-        self.go(view, unit(other.0, other.1));
-        if self.placed.keeps(view, first.0) && self.placed.keeps(view, other.0) {
-            return true;
-        }
-        self.go(view, unit(first.0, !first.1));
-        self.go(view, unit(other.0, !other.1));
-        false
-    }
-
-    /// Moves a column together with another one of the row that keeps it. Answers whether they were moved.
+    /// Moves a column by 1, and another one of the row that keeps it the other way, where they cost less together; and
+    /// back again where a row isn't kept then. Answers whether they were moved.
     fn exchange(&mut self, view: &View<'_>, first: (u32, bool), place: usize) -> bool {
         let Some((row, _, coef)) = self.placed.row_at(view.own, first.0, place) else {
             return false;
         };
+        let rises = coef.is_positive() == first.1;
+        let cost = signed(cost_of(view, first.0), first.1);
         for term in row.terms() {
             if !self.share.spend(1) || self.is_lost {
                 return false;
             }
-            if self.exchange_with(view, first, coef, term) {
+            if term.col == first.0 || !is_whole_at(view.whole, term.col) {
+                continue;
+            }
+            let is_up = term.coef.is_positive() != rises;
+            let costs_less = match cost.add(signed(cost_of(view, term.col), is_up)) {
+                Ok(sum) => sum.is_negative(),
+                Err(_) => false,
+            };
+            let rows = self
+                .placed
+                .count(first.0)
+                .saturating_add(self.placed.count(term.col));
+            if !costs_less || !self.share.spend(rows.saturating_add(2)) {
+                continue;
+            }
+            self.go(view, first.0, Frac::one(), first.1);
+            self.go(view, term.col, Frac::one(), is_up);
+            if self.placed.keeps(view, first.0) && self.placed.keeps(view, term.col) {
                 return true;
             }
+            self.go(view, first.0, Frac::one(), !first.1);
+            self.go(view, term.col, Frac::one(), !is_up);
         }
         false
     }
@@ -139,7 +102,8 @@ impl ExchangeHeuristic {
     /// whether it was moved.
     fn improve(&mut self, view: &View<'_>, col: u32) -> bool {
         let is_up = cost_of(view, col).is_negative();
-        if !self.spend(col) {
+        let rows = self.placed.count(col).saturating_add(1);
+        if self.is_lost || !self.share.spend(rows) {
             return false;
         }
         let Some((reach, kept_by)) = self.placed.reach(view, col, is_up) else {
@@ -152,12 +116,11 @@ impl ExchangeHeuristic {
             reach
         };
         if step.is_positive() {
-            let by = signed(step, is_up);
-            self.go(view, Move { col, by });
+            self.go(view, col, step, is_up);
             if self.placed.keeps(view, col) {
                 return true;
             }
-            self.go(view, Move { col, by: by.neg() });
+            self.go(view, col, step, !is_up);
             return false;
         }
         match kept_by {
@@ -182,10 +145,9 @@ impl ExchangeHeuristic {
         }
         let mut is_better = false;
         for place in 0..self.order.len() {
-            let Some((_, col)) = self.order.get(place).copied() else {
-                return Ok(false);
-            };
-            is_better |= self.improve(view, col);
+            if let Some((_, col)) = self.order.get(place).copied() {
+                is_better |= self.improve(view, col);
+            }
         }
         Ok(is_better && !self.is_lost)
     }
@@ -211,8 +173,15 @@ impl Plugin for ExchangeHeuristic {
     fn init_solve(&mut self, _alloc: Global, view: &View<'_>) -> Result<(), AllocError> {
         self.share.begin(view.own, view.costs.len());
         self.held = None;
-        list_costs(view.costs, &mut self.order)?;
-        self.placed.take(view)
+        self.order.clear();
+        for (column, cost) in view.costs.iter().enumerate() {
+            if !cost.is_zero() {
+                let rank = rough(cost.abs()).wrapping_neg();
+                self.order.push((rank, short(column)))?;
+            }
+        }
+        self.order.sort_unstable();
+        self.placed.columns.take(view.own, view.whole, false)
     }
 
     fn exit_solve(&mut self) {
@@ -229,7 +198,7 @@ impl Heuristic for ExchangeHeuristic {
         if !self.has_improved(view)? {
             return Ok(Vec::new(alloc));
         }
-        let values = self.placed.values().to_vec(alloc)?;
+        let values = self.placed.values.to_vec(alloc)?;
         only_guess(alloc, view.costs.len(), values)
     }
 }

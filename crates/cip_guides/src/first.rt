@@ -1,10 +1,8 @@
 //! The rule that takes the first column.
-ghost use Rattle.std.specs.Prelude.{None, codes, IfOk, IfSome, option_map};
-ghost use Rattle.cip_guides.specs.PointSplits.{IsAtValue, IsByPoint};
+ghost use Rattle.std.specs.Prelude.{None, codes, IfOk, option_map};
+ghost use Rattle.cip_guides.specs.PointSplits.{IsByPoint};
 
 use crate::splits::split_at;
-use cip_frac::Frac;
-use cip_lin::Sides;
 use cip_plugin::{BranchRule, Plugin, Split, View};
 use cip_tighten::short;
 use std::alloc::{AllocError, Global};
@@ -12,18 +10,6 @@ use std::alloc::{AllocError, Global};
 /// A branching rule: the first whole column whose value at the last point isn't whole, at that value rounded down.
 #[derive(Clone, Copy, Drop)]
 pub struct FirstRule;
-
-/// The split of the first column that has one.
-fn first_split(whole: &[bool], sides: &[Sides], point: &[Frac]) -> Option<Split>
-    ensures { IfSome result (λ split. IsAtValue whole.now point.now split) }
-{
-    for col in 0..short(point.len()) {
-        if let Some(split) = split_at(whole, sides, point, col) {
-            return Some(split);
-        }
-    }
-    None
-}
 
 impl FirstRule {
     /// The rule. It keeps nothing.
@@ -63,9 +49,15 @@ impl BranchRule for FirstRule {
         ensures split { IfOk result (λ split.
             IsByPoint view.now.whole.now (option_map (λ values. values.now) view.now.point) split) }
     {
-        match view.point {
-            Some(point) => Ok(first_split(view.whole, view.bounds.as_slice(), point)),
-            None => Ok(None),
+        let Some(point) = view.point else {
+            return Ok(None);
+        };
+        for col in 0..short(point.len()) {
+            let split = split_at(view.whole, view.bounds.as_slice(), point, col);
+            if split.is_some() {
+                return Ok(split);
+            }
         }
+        Ok(None)
     }
 }

@@ -16,92 +16,62 @@ struct Mean {
     count: u32,
 }
 
-// No cost.
-const NONE: Mean = Mean { sum: 0, count: 0 };
-
-impl Mean {
-    /// Adds a cost.
-    fn add(&mut self, cost: i64) {
-        self.sum = self.sum.saturating_add(cost);
-        self.count = self.count.saturating_add(1);
-    }
-
-    /// The mean, where there is one.
-    fn value(&self) -> Option<i64> {
-        self.sum.checked_div(i64::from(self.count))
-    }
-}
-
-/// The means of one direction: by column, and of all columns.
-#[derive(Drop)]
+/// A mean for each direction.
+#[derive(Clone, Copy)]
 struct Means {
-    by_column: Vec<Mean>,
-    all: Mean,
+    down: Mean,
+    up: Mean,
 }
+
+// No cost.
+const NONE: Means = Means {
+    down: Mean { sum: 0, count: 0 },
+    up: Mean { sum: 0, count: 0 },
+};
 
 impl Means {
-    /// Of no column.
-    fn new(alloc: Global) -> Means {
-        Means {
-            by_column: Vec::new(alloc),
-            all: NONE,
-        }
-    }
-
-    /// Begins with so many columns.
-    fn begin(&mut self, columns: usize) -> Result<(), AllocError> {
-        self.all = NONE;
-        self.by_column.clear();
-        self.by_column.resize(columns, NONE)
-    }
-
-    /// Adds a cost of a column.
-    fn add(&mut self, col: u32, cost: i64) {
-        self.all.add(cost);
-        if let Some(mean) = self.by_column.get_mut(col as usize) {
-            mean.add(cost);
-        }
-    }
-
-    /// The mean of a column; of all where it has none, and 1 where those have none.
-    fn of(&self, col: u32) -> i64 {
-        let own = match self.by_column.get(col as usize) {
-            Some(mean) => mean.value(),
-            None => None,
+    /// Adds a cost of a direction.
+    fn add(&mut self, direction: Direction, cost: i64) {
+        let mean = match direction {
+            Direction::Down => &mut self.down,
+            Direction::Up => &mut self.up,
         };
-        match own {
-            Some(cost) => cost,
-            None => self.all.value().unwrap_or(UNIT),
-        }
+        mean.sum = mean.sum.saturating_add(cost);
+        mean.count = mean.count.saturating_add(1);
+    }
+
+    /// The mean of a direction, where there is one.
+    fn value(&self, direction: Direction) -> Option<i64> {
+        let mean = match direction {
+            Direction::Down => self.down,
+            Direction::Up => self.up,
+        };
+        mean.sum.checked_div(i64::from(mean.count))
     }
 }
 
-/// What the linear program's cost rose by for each 1 by which a column was moved, roughly, by column and direction.
+/// What the linear program's cost rose by for each 1 by which a column was moved, roughly, by column and direction, and
+/// for all columns.
 #[derive(Drop)]
 pub(crate) struct Learnt {
-    downs: Means,
-    ups: Means,
-}
-
-/// The product of a cost and of a part of 1, at least 1.
-fn risen(cost: i64, part: i64) -> i128 {
-    let raised = i128::from(cost).wrapping_mul(i128::from(part));
-    raised.checked_div(i128::from(UNIT)).unwrap_or(0).max(1)
+    by_column: Vec<Means>,
+    all: Means,
 }
 
 impl Learnt {
     /// Nothing. It takes no memory.
     pub(crate) fn new(alloc: Global) -> Learnt {
         Learnt {
-            downs: Means::new(alloc),
-            ups: Means::new(alloc),
+            by_column: Vec::new(alloc),
+            all: NONE,
         }
     }
 
     /// Begins with so many columns. `Err` where memory was refused.
     pub(crate) fn begin(&mut self, columns: usize) -> Result<(), AllocError> {
-        self.downs.begin(columns)?;
-        self.ups.begin(columns)
+        self.all = NONE;
+        self.by_column.clear();
+        self.by_column.resize(columns, NONE)
     }
 
     /// Adds that a cost rose by so much as a column was moved by so much in a direction.
@@ -109,17 +79,32 @@ impl Learnt {
         let raised = i128::from(rise.max(0)).wrapping_mul(i128::from(UNIT));
         let cost = raised.checked_div(i128::from(way.max(1))).unwrap_or(0);
         let short = i64::try_from(cost).unwrap_or(i64::MAX);
-        match direction {
-            Direction::Down => self.downs.add(col, short),
-            Direction::Up => self.ups.add(col, short),
+        self.all.add(direction, short);
+        if let Some(means) = self.by_column.get_mut(col as usize) {
+            means.add(direction, short);
         }
+    }
+
+    /// What moving a column is expected to cost, by a part of 1, at least 1: by its own mean; by that of all where
+    /// it has none, and by 1 where those have none.
+    fn expected(&self, col: u32, direction: Direction, part: i64) -> i128 {
+        let own = match self.by_column.get(col as usize) {
+            Some(means) => means.value(direction),
+            None => None,
+        };
+        let cost = match own {
+            Some(cost) => cost,
+            None => self.all.value(direction).unwrap_or(UNIT),
+        };
+        let raised = i128::from(cost).wrapping_mul(i128::from(part));
+        raised.checked_div(i128::from(UNIT)).unwrap_or(0).max(1)
     }
 
     /// How good a split of a column is whose value lies so far above a whole number: the product of what both halves
     /// are expected to cost.
     pub(crate) fn score(&self, col: u32, part: i64) -> i128 {
-        let down = risen(self.downs.of(col), part);
-        let up = risen(self.ups.of(col), UNIT.wrapping_sub(part));
+        let down = self.expected(col, Direction::Down, part);
+        let up = self.expected(col, Direction::Up, UNIT.wrapping_sub(part));
         down.saturating_mul(up)
     }
 }

@@ -10,7 +10,6 @@ mod first;
 mod guesses;
 mod learnt;
 mod lengths;
-mod locks;
 mod most_fractional;
 mod past;
 mod pseudo_costs;

@@ -1,6 +1,6 @@
 //! The rule that takes the column that is farthest from a whole value.
-ghost use Rattle.std.specs.Prelude.{None, codes, IfOk, IfSome, option_map};
-ghost use Rattle.cip_guides.specs.PointSplits.{IsAtValue, IsByPoint};
+ghost use Rattle.std.specs.Prelude.{None, codes, IfOk, option_map};
+ghost use Rattle.cip_guides.specs.PointSplits.{IsByPoint};
 
 use crate::splits::split_at;
 use cip_frac::Frac;
@@ -14,26 +14,22 @@ use std::alloc::{AllocError, Global};
 #[derive(Clone, Copy, Drop)]
 pub struct MostFractionalRule;
 
-/// How far a value is from the nearest whole number; 0 where that leaves the range.
-fn distance(value: Frac) -> Frac {
-    let Ok(below) = value.sub(value.rounded_down()) else {
-        return Frac::zero();
-    };
-    match Frac::one().sub(below) {
-        Ok(above) if above < below => above,
-        Ok(_) => below,
-        Err(_) => Frac::zero(),
-    }
-}
-
-/// The column that can be split and is farthest from a whole value, if there is one.
+/// The column that can be split and is farthest from a whole value, if there is one. A distance that leaves the range
+/// counts as 0.
 fn farthest(whole: &[bool], sides: &[Sides], point: &[Frac]) -> Option<u32> {
     let mut best = None;
     let mut most = Frac::zero();
     for (column, value) in point.iter().enumerate() {
         let col = short(column);
         if split_at(whole, sides, point, col).is_some() {
-            let far = distance(*value);
+            let Ok(below) = value.sub(value.rounded_down()) else {
+                continue;
+            };
+            let far = match Frac::one().sub(below) {
+                Ok(above) if above < below => above,
+                Ok(_) => below,
+                Err(_) => Frac::zero(),
+            };
             if far > most {
                 best = Some(col);
                 most = far;
@@ -41,14 +37,6 @@ fn farthest(whole: &[bool], sides: &[Sides], point: &[Frac]) -> Option<u32> {
         }
     }
     best
-}
-
-/// Its split.
-fn farthest_split(whole: &[bool], sides: &[Sides], point: &[Frac]) -> Option<Split>
-    ensures { IfSome result (λ split. IsAtValue whole.now point.now split) }
-{
-    let col = farthest(whole, sides, point)?;
-    split_at(whole, sides, point, col)
 }
 
 impl MostFractionalRule {
@@ -89,8 +77,11 @@ impl BranchRule for MostFractionalRule {
         ensures split { IfOk result (λ split.
             IsByPoint view.now.whole.now (option_map (λ values. values.now) view.now.point) split) }
     {
-        match view.point {
-            Some(point) => Ok(farthest_split(view.whole, view.bounds.as_slice(), point)),
+        let (sides, Some(point)) = (view.bounds.as_slice(), view.point) else {
+            return Ok(None);
+        };
+        match farthest(view.whole, sides, point) {
+            Some(col) => Ok(split_at(view.whole, sides, point, col)),
             None => Ok(None),
         }
     }

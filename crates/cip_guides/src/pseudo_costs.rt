@@ -1,6 +1,6 @@
 //! The rule of pseudo-costs.
-ghost use Rattle.std.specs.Prelude.{None, codes, IfOk, IfSome, option_map};
-ghost use Rattle.cip_guides.specs.PointSplits.{IsAtValue, IsByPoint};
+ghost use Rattle.std.specs.Prelude.{None, codes, IfOk, option_map};
+ghost use Rattle.cip_guides.specs.PointSplits.{IsByPoint};
 
 use crate::learnt::{Direction, Learnt};
 use crate::past::{PastSplit, PastSplits};
@@ -20,20 +20,6 @@ pub struct PseudoCostRule {
     past: PastSplits,
 }
 
-/// How far a column was moved, roughly, to a half of a split; none where its sides don't lie there.
-fn way_of(sides: Sides, split: PastSplit, direction: Direction) -> Option<i64> {
-    match direction {
-        Direction::Down => match sides.high {
-            Some(high) if high.floor() <= split.at => Some(split.part),
-            _ => None,
-        },
-        Direction::Up => match sides.low {
-            Some(low) if low.ceil() > split.at => Some(UNIT.wrapping_sub(split.part)),
-            _ => None,
-        },
-    }
-}
-
 /// The column whose split is best, the first of such columns; none where none can be split.
 fn best_column(learnt: &Learnt, whole: &[bool], sides: &[Sides], point: &[Frac]) -> Option<u32> {
     let mut best = None;
@@ -51,14 +37,6 @@ fn best_column(learnt: &Learnt, whole: &[bool], sides: &[Sides], point: &[Frac])
     best
 }
 
-/// Its split.
-fn best_split(learnt: &Learnt, whole: &[bool], sides: &[Sides], point: &[Frac]) -> Option<Split>
-    ensures { IfSome result (λ split. IsAtValue whole.now point.now split) }
-{
-    let col = best_column(learnt, whole, sides, point)?;
-    split_at(whole, sides, point, col)
-}
-
 impl PseudoCostRule {
     /// One that was never called. It takes no memory.
     pub fn new(alloc: Global) -> PseudoCostRule {
@@ -68,7 +46,8 @@ impl PseudoCostRule {
         }
     }
 
-    /// Learns what the split above a node cost, where that was seen, by what the node's own point costs.
+    /// Learns what the split above a node cost, by what the node's own point costs and how far the column was moved,
+    /// roughly: where the split was seen, and the column's sides lie in the node's half.
     fn learn(&mut self, view: &View<'_>, cost: Option<i64>) {
         let (Some(cost), Some((split, direction))) = (cost, self.past.above(view.node)) else {
             return;
@@ -76,10 +55,13 @@ impl PseudoCostRule {
         let Some(sides) = view.bounds.as_slice().get(split.col as usize) else {
             return;
         };
-        if let Some(way) = way_of(*sides, split, direction) {
-            let rise = cost.saturating_sub(split.cost);
-            self.learnt.add(split.col, direction, rise, way);
-        }
+        let way = match (direction, sides.low, sides.high) {
+            (Direction::Down, _, Some(high)) if high.floor() <= split.at => split.part,
+            (Direction::Up, Some(low), _) if low.ceil() > split.at => UNIT.wrapping_sub(split.part),
+            _ => return,
+        };
+        let rise = cost.saturating_sub(split.cost);
+        self.learnt.add(split.col, direction, rise, way);
     }
 
     /// Keeps a split with what its point costs, so that its halves are known again.
@@ -146,7 +128,11 @@ impl BranchRule for PseudoCostRule {
         };
         let cost = cost_of(view.costs, point);
         self.learn(view, cost);
-        let split = best_split(&self.learnt, view.whole, view.bounds.as_slice(), point);
+        let sides = view.bounds.as_slice();
+        let split = match best_column(&self.learnt, view.whole, sides, point) {
+            Some(col) => split_at(view.whole, sides, point, col),
+            None => None,
+        };
         self.keep(number, split, point, cost)?;
         Ok(split)
     }

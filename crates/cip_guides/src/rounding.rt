@@ -4,8 +4,9 @@ ghost use Rattle.cip_guides.specs.FullGuesses.{AreFull};
 
 use crate::guesses::only_guess;
 use crate::lengths::has_long_rest;
-use crate::locks::Locks;
+use crate::wholes::nearest;
 use cip_frac::Frac;
+use cip_lin::Row;
 use cip_plugin::{Guess, Heuristic, Plugin, View};
 use cip_tighten::{cost_of, has_fraction, most_cost, rough};
 use std::alloc::{AllocError, Global};
@@ -18,7 +19,35 @@ const FAR: i64 = 1 << 58;
 /// than what is held, or where continuous columns have long denominators.
 #[derive(Drop)]
 pub struct RoundHeuristic {
-    locks: Locks,
+    locks: Vec<Lock>,
+}
+
+/// How many sides of rows keep a column from going down, and from going up.
+#[derive(Clone, Copy)]
+struct Lock {
+    down: u32,
+    up: u32,
+}
+
+// No side.
+const FREE: Lock = Lock { down: 0, up: 0 };
+
+/// Adds the locks of a row.
+fn lock_row(row: &Row, locks: &mut [Lock]) {
+    let low = u32::from(row.low().is_some());
+    let high = u32::from(row.high().is_some());
+    for term in row.terms() {
+        let is_negative = term.coef.is_negative();
+        if let Some(lock) = locks.get_mut(term.col as usize) {
+            let (down, up) = if is_negative {
+                (high, low)
+            } else {
+                (low, high)
+            };
+            lock.down = lock.down.saturating_add(down);
+            lock.up = lock.up.saturating_add(up);
+        }
+    }
 }
 
 /// Whether a point may cost less than what is held, roughly.
@@ -34,7 +63,17 @@ impl RoundHeuristic {
     /// One that was never called. It takes no memory.
     pub fn new(alloc: Global) -> RoundHeuristic {
         RoundHeuristic {
-            locks: Locks::new(alloc),
+            locks: Vec::new(alloc),
+        }
+    }
+
+    /// The whole number to which a column goes: to where no row keeps it from going, down before up, else to the nearer
+    /// one.
+    fn rounded(&self, column: usize, value: Frac) -> Frac {
+        match self.locks.get(column) {
+            Some(lock) if lock.down > 0 && lock.up > 0 => nearest(value),
+            Some(lock) if lock.down > 0 => value.rounded_up(),
+            _ => value.rounded_down(),
         }
     }
 
@@ -49,7 +88,7 @@ impl RoundHeuristic {
         for (column, value) in point.iter().enumerate() {
             let mut own = *value;
             if !value.is_whole() && whole.get(column) == Some(&true) {
-                own = self.locks.rounded(column, own);
+                own = self.rounded(column, own);
             }
             values.push(own)?;
         }
@@ -75,7 +114,12 @@ impl Plugin for RoundHeuristic {
     }
 
     fn init_solve(&mut self, _alloc: Global, view: &View<'_>) -> Result<(), AllocError> {
-        self.locks.take(view.own, view.costs.len())
+        self.locks.clear();
+        self.locks.resize(view.costs.len(), FREE)?;
+        for row in view.own {
+            lock_row(row, self.locks.as_mut_slice());
+        }
+        Ok(())
     }
 
     fn exit_solve(&mut self) {}

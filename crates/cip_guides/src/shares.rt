@@ -17,7 +17,7 @@ const MOST_MORE: usize = 1 << 18;
 pub(crate) struct Share {
     part: usize,
     pass: usize,
-    left: usize,
+    pub(crate) left: usize,
     wanted: usize,
 }
 
@@ -61,11 +61,6 @@ impl Share {
         let is_there = terms <= self.left;
         self.left = self.left.saturating_sub(terms);
         is_there
-    }
-
-    /// How much is left.
-    pub(crate) fn left(&self) -> usize {
-        self.left
     }
 
     /// Notes what work took that began with so much, and whether it brought something.

@@ -10,20 +10,8 @@ use cip_tighten::{UNIT, rough};
 // The greatest size of a number at which a column is split.
 const MOST: u128 = 1 << 100;
 
-/// Whether a number and the next one lie between two sides, and the first isn't far from 0.
-fn leaves_both(sides: Sides, at: i128) -> bool {
-    let is_above = match sides.low {
-        Some(low) => low.ceil() <= at,
-        None => true,
-    };
-    let is_below = match sides.high {
-        Some(high) => high.floor() > at,
-        None => true,
-    };
-    is_above && is_below && at.unsigned_abs() <= MOST
-}
-
-/// The split of a column at its value, where the column is whole, the value isn't, and both halves keep a whole value.
+/// The split of a column at its value, where the column is whole, the value isn't, both halves keep a whole value, and
+/// the value isn't far from 0.
 pub(crate) fn split_at(whole: &[bool], sides: &[Sides], point: &[Frac], col: u32) -> Option<Split>
     ensures { IfSome result (λ split. IsAtValue whole.now point.now split) }
 {
@@ -36,7 +24,16 @@ pub(crate) fn split_at(whole: &[bool], sides: &[Sides], point: &[Frac], col: u32
         return None;
     }
     let at = value.floor();
-    if leaves_both(sides[place], at) {
+    let own = sides[place];
+    let is_above = match own.low {
+        Some(low) => low.ceil() <= at,
+        None => true,
+    };
+    let is_below = match own.high {
+        Some(high) => high.floor() > at,
+        None => true,
+    };
+    if is_above && is_below && at.unsigned_abs() <= MOST {
         Some(Split { col, at })
     } else {
         None
@@ -46,12 +43,4 @@ pub(crate) fn split_at(whole: &[bool], sides: &[Sides], point: &[Frac], col: u32
 /// How far a value roughly lies above the next whole number below it, over 2^24.
 pub(crate) fn rough_part(value: Frac) -> i64 {
     rough(value).checked_rem_euclid(UNIT).unwrap_or(0)
-}
-
-/// Whether a column is whole.
-pub(crate) fn is_whole_at(whole: &[bool], col: u32) -> bool {
-    match whole.get(col as usize) {
-        Some(is_whole) => *is_whole,
-        None => false,
-    }
 }

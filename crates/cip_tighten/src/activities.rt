@@ -4,7 +4,7 @@ ghost use Rattle.std.specs.Prelude.{None, codes};
 use crate::budgets::Budget;
 use crate::implied::{Implied, Region, Source};
 use crate::patience::Patience;
-use crate::reductions::{MOST_REDUCTIONS, add_side, multiple_of};
+use crate::reductions::{MOST_REDUCTIONS, add_side};
 use crate::watched::Watched;
 use cip_frac::Frac;
 use cip_lin::{Row, RowId, Side, Sides};
@@ -29,18 +29,6 @@ pub struct ActivityPropagator {
     budget: Budget,
 }
 
-/// Takes a side of a column, and answers whether the column has a value left.
-fn narrowed(sides: &mut [Sides], implied: Implied) -> bool {
-    let Some(own) = sides.get_mut(implied.col as usize) else {
-        return true;
-    };
-    match implied.side {
-        Side::Low => own.low = Some(implied.value),
-        Side::High => own.high = Some(implied.value),
-    }
-    !own.cross()
-}
-
 impl ActivityPropagator {
     /// One that was never called. It takes no memory.
     pub fn new(alloc: Global) -> ActivityPropagator {
@@ -58,8 +46,14 @@ impl ActivityPropagator {
     /// value left.
     fn take_sides(&mut self) -> Result<bool, AllocError> {
         for item in &self.implied {
-            if !narrowed(self.sides.as_mut_slice(), *item) {
-                return Ok(false);
+            if let Some(own) = self.sides.get_mut(item.col as usize) {
+                match item.side {
+                    Side::Low => own.low = Some(item.value),
+                    Side::High => own.high = Some(item.value),
+                }
+                if own.cross() {
+                    return Ok(false);
+                }
             }
             self.watched.wait_for_column(item.col)?;
         }
@@ -82,8 +76,8 @@ impl ActivityPropagator {
                 whole: view.whole,
                 is_exact: false,
             };
-            let multiple = multiple_of(id, source);
-            let ends = add_side(alloc, &region, multiple, row, &mut self.implied, reductions)?;
+            let implied = &mut self.implied;
+            let ends = add_side(alloc, &region, (id, source), row, implied, reductions)?;
             let times = self.implied.len().saturating_add(1);
             self.budget.spend(row.terms().len().saturating_mul(times));
             if ends || !self.take_sides()? {
@@ -103,10 +97,10 @@ impl ActivityPropagator {
         let mut terms = 0usize;
         for _ in 0..MOST_TERMS {
             let Some(number) = self.watched.next() else {
-                return Ok(());
+                break;
             };
             let Some(row) = view.own.get(number as usize) else {
-                return Ok(());
+                break;
             };
             terms = terms.saturating_add(row.terms().len());
             let ends = self.narrow(alloc, view, RowId::Own(number), row, reductions)?;
@@ -115,7 +109,7 @@ impl ActivityPropagator {
                 return self.watched.wait_for(number);
             }
             if terms > MOST_TERMS {
-                return Ok(());
+                break;
             }
         }
         Ok(())

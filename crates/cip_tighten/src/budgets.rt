@@ -39,13 +39,8 @@ impl Budget {
     /// Begins with a program.
     pub(crate) fn begin(&mut self, own: &[Row]) {
         self.pass = terms_of(own);
-        self.left = self.most();
+        self.left = self.pass.saturating_mul(FIRST_PASSES);
         self.owed = 0;
-    }
-
-    /// The most that is left over.
-    fn most(&self) -> usize {
-        self.pass.saturating_mul(FIRST_PASSES)
     }
 
     /// Adds what a call adds, and answers whether nothing is owed.
@@ -53,7 +48,8 @@ impl Budget {
         let more = self.pass.checked_div(PART).unwrap_or(0).saturating_add(1);
         let rest = more.saturating_sub(self.owed);
         self.owed = self.owed.saturating_sub(more);
-        self.left = self.left.saturating_add(rest).min(self.most());
+        let most = self.pass.saturating_mul(FIRST_PASSES);
+        self.left = self.left.saturating_add(rest).min(most);
         self.owed == 0
     }
 

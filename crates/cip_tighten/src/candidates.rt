@@ -81,28 +81,24 @@ pub struct Candidate {
 /// The product of two cuts' coefficients.
 fn product_of(terms: &[(u32, i64)], others: &[(u32, i64)]) -> i128 {
     let mut sum = 0i128;
+    let mut here = 0usize;
     let mut there = 0usize;
-    for term in terms {
-        there = first_from(others, there, term.0);
-        if let Some(other) = others.get(there) {
-            if other.0 == term.0 {
-                let both = i128::from(term.1).wrapping_mul(i128::from(other.1));
-                sum = sum.wrapping_add(both);
-            }
+    for _ in 0..terms.len().saturating_add(others.len()) {
+        let (Some(term), Some(other)) = (terms.get(here), others.get(there)) else {
+            return sum;
+        };
+        if term.0 == other.0 {
+            let both = i128::from(term.1).wrapping_mul(i128::from(other.1));
+            sum = sum.wrapping_add(both);
+        }
+        if term.0 <= other.0 {
+            here = here.wrapping_add(1);
+        }
+        if other.0 <= term.0 {
+            there = there.wrapping_add(1);
         }
     }
     sum
-}
-
-/// The first place from this one on whose column is at least that.
-fn first_from(terms: &[(u32, i64)], start: usize, col: u32) -> usize {
-    for place in start..terms.len() {
-        match terms.get(place) {
-            Some(term) if term.0 < col => {}
-            _ => return place,
-        }
-    }
-    terms.len()
 }
 
 /// Whether a cut is nearly parallel to one of these: the cosine of their angle is above .9.
@@ -123,26 +119,8 @@ fn is_like_one(list: &[Candidate], picked: &[usize], place: usize) -> bool {
     false
 }
 
-/// Picks the cut at a place and brings it, unless it is nearly parallel to one that was picked, or was brought before.
-fn pick(
-    list: &mut [Candidate],
-    picked: &mut Vec<usize>,
-    place: usize,
-    cuts: &mut Vec<Cut>,
-) -> Result<(), AllocError> {
-    if is_like_one(list, picked.as_slice(), place) {
-        return Ok(());
-    }
-    picked.push(place)?;
-    if let Some(candidate) = list.get_mut(place) {
-        if let Some(cut) = candidate.cut.take() {
-            cuts.push(cut)?;
-        }
-    }
-    Ok(())
-}
-
-/// Brings the best cuts, at most so many; the last of the ranks is the best.
+/// Picks cuts in the order of their ranks and brings them, at most so many: those that are nearly parallel to none that
+/// was picked, and weren't brought before.
 fn bring_best(
     ranks: &[(u128, usize)],
     list: &mut [Candidate],
@@ -150,11 +128,20 @@ fn bring_best(
     most: usize,
     cuts: &mut Vec<Cut>,
 ) -> Result<(), AllocError> {
-    for rank in ranks.iter().rev() {
+    for rank in ranks {
         if cuts.len() >= most {
-            return Ok(());
+            break;
         }
-        pick(list, picked, rank.1, cuts)?;
+        if is_like_one(list, picked.as_slice(), rank.1) {
+            continue;
+        }
+        picked.push(rank.1)?;
+        let Some(candidate) = list.get_mut(rank.1) else {
+            continue;
+        };
+        if let Some(cut) = candidate.cut.take() {
+            cuts.push(cut)?;
+        }
     }
     Ok(())
 }
@@ -215,6 +202,7 @@ impl Candidates {
     /// was refused.
     pub fn choose(&mut self, alloc: Global, most: usize) -> Result<Vec<Cut>, AllocError> {
         self.ranks.sort_unstable();
+        self.ranks.reverse();
         let mut cuts = Vec::new(alloc);
         bring_best(
             self.ranks.as_slice(),

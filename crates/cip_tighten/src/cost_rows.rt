@@ -13,19 +13,6 @@ pub(crate) struct CostRow {
     right: Frac,
 }
 
-/// Adds a multiple of these terms to a sum by column, and answers whether it stayed in range.
-fn add_terms(sums: &mut [Frac], terms: &[Term], factor: Frac) -> bool {
-    for term in terms {
-        let Some(sum) = sums.get_mut(term.col as usize) else {
-            return false;
-        };
-        if !sum.add_product(&factor, &term.coef) {
-            return false;
-        }
-    }
-    true
-}
-
 /// Adds these coefficients to a row.
 fn append_all(row: &mut Row, sums: &[Frac]) -> Result<(), RowFault> {
     for (place, sum) in sums.iter().enumerate() {
@@ -56,27 +43,18 @@ impl CostRow {
         } else {
             row.low()
         };
-        match side {
-            Some(side) => {
-                add_terms(self.sums.as_mut_slice(), row.terms(), factor)
-                    && self.right.add_product(&factor, &side)
+        let Some(side) = side else {
+            return false;
+        };
+        for term in row.terms() {
+            let Some(sum) = self.sums.get_mut(term.col as usize) else {
+                return false;
+            };
+            if !sum.add_product(&factor, &term.coef) {
+                return false;
             }
-            None => false,
         }
-    }
-
-    /// Takes the names of the rows of a combination, and that of the cutoff row. `Err` where memory was refused.
-    fn take_names(&mut self, combo: &Combo, columns: usize) -> Result<(), AllocError> {
-        self.rows.clear();
-        self.rows.extend_from_slice(combo.rows.as_slice())?;
-        self.rows.push(RowMultiple {
-            row: RowId::Cutoff,
-            factor: Frac::one().neg(),
-        })?;
-        self.sums.clear();
-        self.sums.resize(columns, Frac::zero())?;
-        self.right = Frac::zero();
-        Ok(())
+        self.right.add_product(&factor, &side)
     }
 
     /// The rows of a combination without the cutoff row, added up with that by -1; none where one isn't there or has no
@@ -88,22 +66,31 @@ impl CostRow {
         combo: &Combo,
         cutoff: &Row,
     ) -> Result<Option<Row>, AllocError> {
-        if cutoff.high().is_none() {
-            return Ok(None);
-        }
-        self.take_names(combo, view.costs.len())?;
+        let factor = Frac::one().neg();
+        self.rows.clear();
+        self.rows.extend_from_slice(combo.rows.as_slice())?;
+        self.rows.push(RowMultiple {
+            row: RowId::Cutoff,
+            factor,
+        })?;
+        self.sums.clear();
+        self.sums.resize(view.costs.len(), Frac::zero())?;
+        self.right = Frac::zero();
+        let mut is_kept = true;
         for multiple in &combo.rows {
-            match row_of(view, multiple.row) {
-                Some(row) if self.add(row, multiple.factor) => {}
-                _ => return Ok(None),
+            is_kept = match row_of(view, multiple.row) {
+                Some(row) => self.add(row, multiple.factor),
+                None => false,
+            };
+            if !is_kept {
+                break;
             }
         }
-        if !self.add(cutoff, Frac::one().neg()) {
+        if !is_kept || !self.add(cutoff, factor) {
             return Ok(None);
         }
         let mut row = Row::empty(alloc, Some(self.right), None);
-        let outcome = append_all(&mut row, self.sums.as_slice());
-        match outcome {
+        match append_all(&mut row, self.sums.as_slice()) {
             Ok(()) => Ok(Some(row)),
             Err(fault) => {
                 drop(row);

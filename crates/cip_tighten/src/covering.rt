@@ -2,7 +2,7 @@
 ghost use Rattle.std.specs.Prelude.{None, codes};
 
 use crate::candidates::Candidates;
-use crate::covers::Covers;
+use crate::covers::{Covers, Order};
 use crate::gains::Gains;
 use crate::stops::{Stop, unless_refused};
 use crate::sums::{Standing, Sum};
@@ -48,22 +48,13 @@ impl CoverSeparator {
             return Err(Stop::GaveUp);
         };
         self.sum.begin_at_most(&row)?;
+        let (sum, candidates) = (&self.sum, &mut self.candidates);
+        unless_refused(
+            self.covers
+                .keep_by(alloc, view, sum, Order::ByRate, candidates),
+        )?;
         self.covers
-            .search(alloc, view, &self.sum, &mut self.candidates)?;
-        Ok(())
-    }
-
-    /// Keeps the cuts of covers of all rows.
-    fn search(&mut self, alloc: Global, view: &View<'_>) -> Result<(), AllocError> {
-        self.candidates.clear();
-        for place in 0..view.own.len() {
-            if self.candidates.is_full() {
-                return Ok(());
-            }
-            unless_refused(self.search_side(alloc, view, place, Standing::High))?;
-            unless_refused(self.search_side(alloc, view, place, Standing::Low))?;
-        }
-        Ok(())
+            .keep_by(alloc, view, sum, Order::ByWay, candidates)
     }
 }
 
@@ -101,7 +92,14 @@ impl Separator for CoverSeparator {
         if !self.gains.may_pay(view) {
             return Ok(Vec::new(alloc));
         }
-        self.search(alloc, view)?;
+        self.candidates.clear();
+        for place in 0..view.own.len() {
+            if self.candidates.is_full() {
+                break;
+            }
+            unless_refused(self.search_side(alloc, view, place, Standing::High))?;
+            unless_refused(self.search_side(alloc, view, place, Standing::Low))?;
+        }
         self.candidates.choose(alloc, MOST_CUTS)
     }
 }

@@ -5,11 +5,11 @@ use crate::mixing::best_division;
 use crate::numbers::UNIT;
 use crate::roundings::rounded_cut;
 use crate::shifts::{Aim, Shift, Shifted};
-use crate::split_cuts::mixed_cut;
-use crate::stops::{Stop, unless_refused};
+use crate::split_cuts::keep_mixed;
+use crate::stops::Stop;
 use crate::sums::{Sum, Terms};
 use cip_plugin::View;
-use std::alloc::{AllocError, Global};
+use std::alloc::Global;
 
 // The most coefficients of a cover by which a row is divided.
 const MOST_DIVISORS: usize = 8;
@@ -36,23 +36,11 @@ pub(crate) struct Covers {
 
 /// In which order columns come into a cover.
 #[derive(Clone, Copy)]
-enum Order {
+pub(crate) enum Order {
     /// What is left of the way for the coefficient, the least first.
     ByRate,
     /// The way, the longest first.
     ByWay,
-}
-
-/// By what a column stands in an order.
-fn key_of(shift: Shift, order: Order) -> i64 {
-    let left = UNIT.saturating_sub(shift.way);
-    match order {
-        Order::ByWay => left,
-        Order::ByRate => {
-            let rate = (i128::from(left) << 24).checked_div(i128::from(shift.coef));
-            i64::try_from(rate.unwrap_or(i128::MAX)).unwrap_or(i64::MAX)
-        }
-    }
 }
 
 /// Lists the columns that may stand in a cover, in an order.
@@ -60,8 +48,13 @@ fn list_picks(items: &[Shift], order: Order, picks: &mut Vec<Pick>) -> Result<()
     picks.clear();
     for (place, shift) in items.iter().enumerate() {
         if shift.is_unit {
+            let left = UNIT.saturating_sub(shift.way);
+            let rate = match order {
+                Order::ByWay => Some(i128::from(left)),
+                Order::ByRate => (i128::from(left) << 24).checked_div(i128::from(shift.coef)),
+            };
             picks.push(Pick {
-                key: key_of(*shift, order),
+                key: i64::try_from(rate.unwrap_or(i128::MAX)).unwrap_or(i64::MAX),
                 place,
                 coef: shift.coef,
                 way: shift.way,
@@ -78,7 +71,7 @@ fn fill(picks: &[Pick], limit: i128, cover: &mut Vec<Pick>) -> Result<i128, Stop
     let mut sum = 0i128;
     for pick in picks {
         if sum > limit {
-            return Ok(sum);
+            break;
         }
         sum = sum.wrapping_add(i128::from(pick.coef));
         let mut taken = *pick;
@@ -151,9 +144,10 @@ impl Covers {
         turn(self.kept.as_slice(), &mut self.shifted, &mut self.divisors)
     }
 
-    /// Keeps the cuts of a cover, if one is found in this order: the row by the greatest of its coefficients and
-    /// rounded, and the best mixed rounding by one of them, which leaves the columns outside of the cover more.
-    fn keep_by(
+    /// Keeps the cuts of a cover of a row that is at most its right side, if one is found in this order: the row by the
+    /// greatest of its coefficients and rounded, and the best mixed rounding by one of them, which leaves the columns
+    /// outside of the cover more.
+    pub(crate) fn keep_by(
         &mut self,
         alloc: Global,
         view: &View<'_>,
@@ -162,24 +156,11 @@ impl Covers {
         candidates: &mut Candidates,
     ) -> Result<(), Stop> {
         self.find(view, sum, order)?;
-        let divisors = self.divisors.as_slice();
+        let (shifted, divisors) = (&self.shifted, self.divisors.as_slice());
         if let Some(by) = divisors.first() {
-            candidates.keep(rounded_cut(alloc, sum, &self.shifted, *by))?;
+            candidates.keep(rounded_cut(alloc, sum, shifted, *by))?;
         }
-        let best = best_division(&self.shifted, divisors, &mut self.terms)?;
-        candidates.keep(mixed_cut(alloc, view, sum, &self.shifted, best))?;
-        Ok(())
-    }
-
-    /// Keeps the cuts of covers of a row that is at most its right side.
-    pub(crate) fn search(
-        &mut self,
-        alloc: Global,
-        view: &View<'_>,
-        sum: &Sum,
-        candidates: &mut Candidates,
-    ) -> Result<(), AllocError> {
-        unless_refused(self.keep_by(alloc, view, sum, Order::ByRate, candidates))?;
-        unless_refused(self.keep_by(alloc, view, sum, Order::ByWay, candidates))
+        let best = best_division(shifted, divisors, &mut self.terms)?;
+        keep_mixed(alloc, view, sum, shifted, best, candidates)
     }
 }

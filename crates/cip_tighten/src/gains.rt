@@ -27,8 +27,9 @@ pub fn cost_of(costs: &[Frac], point: &[Frac]) -> Option<i64> {
     for (column, value) in point.iter().enumerate() {
         if let Some(cost) = costs.get(column) {
             if !cost.is_zero() && !value.is_zero() {
-                let product = cost.numerator().checked_mul(i128::from(rough(*value)))?;
-                sum = sum.checked_add(product.checked_div(cost.denominator())?)?;
+                let product = cost.numerator().checked_mul(i128::from(rough(*value)));
+                let quotient = product?.checked_div(cost.denominator()).unwrap_or(0);
+                sum = sum.checked_add(quotient)?;
             }
         }
     }
@@ -74,19 +75,6 @@ fn has_whole_costs(view: &View<'_>) -> bool {
     true
 }
 
-/// Whether a cost rose by less than a ten-thousandth.
-fn is_small(before: Option<i64>, now: Option<i64>) -> bool {
-    match (before, now) {
-        (Some(before), Some(now)) => {
-            let gain = i128::from(now).wrapping_sub(i128::from(before));
-            let size = i128::from(before).wrapping_abs();
-            gain.wrapping_mul(10_000) < size.max(i128::from(UNIT))
-        }
-        (None, _) => false,
-        _ => true,
-    }
-}
-
 impl Gains {
     /// No round yet.
     pub fn new() -> Gains {
@@ -117,11 +105,19 @@ impl Gains {
             return false;
         }
         let cost = cost_of(view.costs, point);
-        if is_small(self.cost, cost) {
-            self.stale = self.stale.saturating_add(1);
+        let has_gained = match (self.cost, cost) {
+            (Some(before), Some(now)) => {
+                let gain = i128::from(now).wrapping_sub(i128::from(before));
+                let size = i128::from(before).wrapping_abs();
+                gain.wrapping_mul(10_000) >= size.max(i128::from(UNIT))
+            }
+            (before, _) => before.is_none(),
+        };
+        self.stale = if has_gained {
+            0
         } else {
-            self.stale = 0;
-        }
+            self.stale.saturating_add(1)
+        };
         self.cost = cost;
         true
     }

@@ -62,57 +62,23 @@ struct AtMost<'a> {
     region: Region<'a>,
 }
 
-/// The side at which the product of a coefficient is least.
-fn least_side(coef: Frac, sides: Sides) -> Option<Frac> {
-    if coef.is_negative() {
-        sides.high
-    } else {
-        sides.low
-    }
-}
-
-/// What is left for the product of a term where the others are least; none where one of those has no least value.
-fn left_for(coef: Frac, sides: Sides, least: Least) -> Option<Frac> {
-    let mut left = least.slack;
-    let is_there = match least_side(coef, sides) {
-        Some(side) => least.open == 0 && left.add_product(&coef, &side),
-        None => least.open == 1,
-    };
-    if is_there { Some(left) } else { None }
-}
-
-/// Whether the product of a term may come to more than what is left for it.
-fn may_narrow(coef: Frac, sides: Sides, left: Frac) -> bool {
-    let greatest = if coef.is_negative() {
-        sides.low
-    } else {
-        sides.high
-    };
-    match greatest {
-        Some(side) => match coef.mul(side) {
-            Ok(most) => most > left,
-            Err(_) => false,
-        },
-        None => true,
-    }
-}
-
 impl<'a> AtMost<'a> {
-    /// The coefficient of a term.
-    fn coefficient(&self, term: &Term) -> Frac {
-        if self.is_negated {
+    /// The coefficient of a term, and the sides of its column: as low side the one at which their product is least.
+    fn lent(&self, term: &Term) -> (Frac, Sides) {
+        let sides = match self.region.sides.get(term.col as usize) {
+            Some(sides) => *sides,
+            None => Sides::open(),
+        };
+        let coef = if self.is_negated {
             term.coef.neg()
         } else {
             term.coef
-        }
-    }
-
-    /// The sides of a column.
-    fn sides_of(&self, col: u32) -> Sides {
-        match self.region.sides.get(col as usize) {
-            Some(sides) => *sides,
-            None => Sides::open(),
-        }
+        };
+        let turned = Sides {
+            low: sides.high,
+            high: sides.low,
+        };
+        (coef, if coef.is_negative() { turned } else { sides })
     }
 
     /// A side of a column, rounded: inward for a whole column, and outward for another.
@@ -132,8 +98,8 @@ impl<'a> AtMost<'a> {
         let mut sum = Frac::zero();
         let mut open = 0usize;
         for term in self.terms {
-            let coef = self.coefficient(term);
-            match least_side(coef, self.sides_of(term.col)) {
+            let (coef, sides) = self.lent(term);
+            match sides.low {
                 Some(side) if !sum.add_product(&coef, &side) => return None,
                 Some(_) => {}
                 None => open = open.saturating_add(1),
@@ -145,47 +111,42 @@ impl<'a> AtMost<'a> {
         }
     }
 
-    /// The side of the first term's column that is implied, as it is.
-    fn first_exact(&self, least: Least) -> Option<Implied> {
-        let term = self.terms.first()?;
-        let coef = self.coefficient(term);
-        let left = left_for(coef, self.sides_of(term.col), least)?;
-        if coef.is_zero() {
+    /// The side of a term's column that is implied by what the others leave where they are least: as it is, or else
+    /// rounded, and only if it is stronger.
+    fn implied_by(&self, term: &Term, least: Least, as_it_is: bool) -> Option<Implied> {
+        let (coef, sides) = self.lent(term);
+        if coef.is_zero() || (!as_it_is && sides.is_fixed()) {
             return None;
         }
-        let value = left.div(coef).ok()?;
-        let side = if coef.is_positive() {
-            Side::High
-        } else {
-            Side::Low
+        let mut left = least.slack;
+        let is_left = match sides.low {
+            Some(side) => least.open == 0 && left.add_product(&coef, &side),
+            None => least.open == 1,
         };
-        Some(Implied {
-            col: term.col,
-            side,
-            value,
-        })
-    }
-
-    /// The side of a term's column that is implied, if it is stronger.
-    fn implied_by(&self, term: &Term, least: Least) -> Option<Implied> {
-        let coef = self.coefficient(term);
-        let sides = self.sides_of(term.col);
-        if coef.is_zero() || sides.is_fixed() {
-            return None;
-        }
-        let left = left_for(coef, sides, least)?;
-        if !may_narrow(coef, sides, left) {
+        let may_narrow = match sides.high {
+            Some(side) if is_left && !as_it_is => match coef.mul(side) {
+                Ok(most) => most > left,
+                Err(_) => false,
+            },
+            _ => is_left,
+        };
+        if !may_narrow {
             return None;
         }
         let is_high = coef.is_positive();
-        let value = self.rounded(term.col, left.div(coef).ok()?, is_high);
-        let is_stronger = match if is_high { sides.high } else { sides.low } {
-            Some(own) if is_high => value < own,
-            Some(own) => value > own,
-            None => true,
-        };
-        if !is_stronger || value.numerator().unsigned_abs() > MOST as u128 {
+        let Ok(mut value) = left.div(coef) else {
             return None;
+        };
+        if !as_it_is {
+            value = self.rounded(term.col, value, is_high);
+            let is_stronger = match sides.high {
+                Some(own) if is_high => value < own,
+                Some(own) => value > own,
+                None => true,
+            };
+            if !is_stronger || value.numerator().unsigned_abs() > MOST as u128 {
+                return None;
+            }
         }
         Some(Implied {
             col: term.col,
@@ -218,16 +179,18 @@ pub fn list_implied(
         return Ok(Narrowing::Sides);
     };
     if least.open == 0 && least.slack < Frac::zero() {
-        if let Some(implied) = lent.first_exact(least) {
-            out.push(implied)?;
+        if let Some(term) = lent.terms.first() {
+            if let Some(implied) = lent.implied_by(term, least, true) {
+                out.push(implied)?;
+            }
         }
         return Ok(Narrowing::Contradiction);
     }
     for term in row.terms() {
         if out.len() >= most {
-            return Ok(Narrowing::Sides);
+            break;
         }
-        if let Some(implied) = lent.implied_by(term, least) {
+        if let Some(implied) = lent.implied_by(term, least, false) {
             out.push(implied)?;
         }
     }

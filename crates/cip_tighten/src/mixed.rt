@@ -7,10 +7,10 @@ use crate::gains::Gains;
 use crate::mixing::{best_division, list_divisors};
 use crate::paths::go_on;
 use crate::shifts::{Shift, Shifted, list_nearest};
-use crate::split_cuts::mixed_cut;
+use crate::split_cuts::keep_mixed;
 use crate::stops::{Stop, unless_refused};
-use crate::sums::{Sum, Terms};
-use crate::tight::{Standings, tight_at};
+use crate::sums::{Standing, Sum, Terms};
+use crate::tight::{list_standings, tight_at};
 use cip_frac::Frac;
 use cip_plugin::{Cut, Plugin, Separator, View};
 use std::alloc::{AllocError, Global};
@@ -29,7 +29,7 @@ const MOST_WORK: usize = 1 << 23;
 #[derive(Drop)]
 pub struct MixedSeparator {
     gains: Gains,
-    standings: Standings,
+    standings: Vec<Standing>,
     columns: ColumnRows,
     sum: Sum,
     ways: Vec<Option<Shift>>,
@@ -46,7 +46,7 @@ impl MixedSeparator {
     pub fn new(alloc: Global) -> MixedSeparator {
         MixedSeparator {
             gains: Gains::new(),
-            standings: Standings::new(alloc),
+            standings: Vec::new(alloc),
             columns: ColumnRows::new(alloc),
             sum: Sum::new(alloc),
             ways: Vec::new(alloc),
@@ -66,9 +66,8 @@ impl MixedSeparator {
         let looked_at = items.len().saturating_mul(self.divisors.len());
         self.work = self.work.saturating_add(looked_at);
         let best = best_division(&self.shifted, self.divisors.as_slice(), &mut self.terms)?;
-        let cut = mixed_cut(alloc, view, &self.sum, &self.shifted, best);
-        self.candidates.keep(cut)?;
-        Ok(())
+        let (sum, candidates) = (&self.sum, &mut self.candidates);
+        keep_mixed(alloc, view, sum, &self.shifted, best, candidates)
     }
 
     /// Keeps the best mixed roundings of the sum with both signs.
@@ -96,7 +95,7 @@ impl MixedSeparator {
         point: &[Frac],
         place: usize,
     ) -> Result<(), Stop> {
-        let Some(row) = tight_at(view, &self.standings, place) else {
+        let Some(row) = tight_at(view, self.standings.as_slice(), place) else {
             return Err(Stop::GaveUp);
         };
         self.sum.begin(&row)?;
@@ -106,32 +105,10 @@ impl MixedSeparator {
             if self.candidates.len() > before {
                 return Ok(());
             }
-            go_on(view, point, &self.standings, &self.columns, &mut self.sum)?;
+            let standings = self.standings.as_slice();
+            go_on(view, point, standings, &self.columns, &mut self.sum)?;
         }
         self.mix_both(alloc, view)
-    }
-
-    /// Keeps cuts that begin with any row that stands at a side, as far as the work of a round goes.
-    fn search_all(
-        &mut self,
-        alloc: Global,
-        view: &View<'_>,
-        point: &[Frac],
-    ) -> Result<(), AllocError> {
-        self.candidates.clear();
-        self.work = 0;
-        for _ in 0..self.standings.len() {
-            if self.candidates.is_full() || self.work > MOST_WORK {
-                return Ok(());
-            }
-            let place = self.next;
-            self.next = place.wrapping_add(1);
-            if self.next >= self.standings.len() {
-                self.next = 0;
-            }
-            unless_refused(self.search_from(alloc, view, point, place))?;
-        }
-        Ok(())
     }
 }
 
@@ -171,9 +148,21 @@ impl Separator for MixedSeparator {
             return Ok(Vec::new(alloc));
         }
         let point = view.point.unwrap_or(&[]);
-        self.standings.take(view, point)?;
+        list_standings(view, point, &mut self.standings)?;
         list_nearest(view, point, &mut self.ways)?;
-        self.search_all(alloc, view, point)?;
+        self.candidates.clear();
+        self.work = 0;
+        for _ in 0..self.standings.len() {
+            if self.candidates.is_full() || self.work > MOST_WORK {
+                break;
+            }
+            let place = self.next;
+            self.next = place.wrapping_add(1);
+            if self.next >= self.standings.len() {
+                self.next = 0;
+            }
+            unless_refused(self.search_from(alloc, view, point, place))?;
+        }
         self.candidates.choose(alloc, MOST_CUTS)
     }
 }

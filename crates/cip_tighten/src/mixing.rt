@@ -8,7 +8,6 @@ use crate::numbers::kept;
 use crate::shifts::{Shift, Shifted};
 use crate::stops::Stop;
 use crate::sums::Terms;
-use cip_frac::Frac;
 
 // The greatest denominator of a right side.
 const MOST_UNDER: i128 = 1 << 20;
@@ -27,27 +26,6 @@ pub(crate) struct Division {
     pub(crate) part: i128,
     /// What is left to the next one.
     pub(crate) rest: i128,
-}
-
-/// A right side divided by a number above 0, where that leaves something.
-pub(crate) fn divided(right: Frac, by: i64) -> Option<Division> {
-    let under = right.denominator();
-    if by <= 0 || under > MOST_UNDER {
-        return None;
-    }
-    let over = right.numerator();
-    let whole = under.wrapping_mul(i128::from(by));
-    let part = over.checked_rem_euclid(whole).unwrap_or(0);
-    if part == 0 {
-        return None;
-    }
-    Some(Division {
-        by,
-        under,
-        floor: over.checked_div_euclid(whole).unwrap_or(0),
-        part,
-        rest: whole.wrapping_sub(part),
-    })
 }
 
 impl Division {
@@ -111,17 +89,24 @@ pub(crate) fn write_terms(
     Ok(())
 }
 
-/// A division with the score of its mixed rounding.
-#[derive(Clone, Copy)]
-pub(crate) struct Scored {
-    pub(crate) division: Division,
-    pub(crate) score: u128,
-}
-
-/// The mixed rounding of a row that is divided by a number, where it has a score.
-fn score_by(shifted: &Shifted, by: i64, terms: &mut Terms) -> Result<Scored, Stop> {
-    let Some(division) = divided(shifted.right, by) else {
+/// The mixed rounding of a row that is divided by a number above 0, which leaves something of its right side, and its
+/// score, where it has one.
+fn score_by(shifted: &Shifted, by: i64, terms: &mut Terms) -> Result<(Division, u128), Stop> {
+    let (over, under) = (shifted.right.numerator(), shifted.right.denominator());
+    if by <= 0 || under > MOST_UNDER {
         return Err(Stop::GaveUp);
+    }
+    let whole = under.wrapping_mul(i128::from(by));
+    let part = over.checked_rem_euclid(whole).unwrap_or(0);
+    if part == 0 {
+        return Err(Stop::GaveUp);
+    }
+    let division = Division {
+        by,
+        under,
+        floor: over.checked_div_euclid(whole).unwrap_or(0),
+        part,
+        rest: whole.wrapping_sub(part),
     };
     let items = shifted.items.as_slice();
     let broken = division.broken(items);
@@ -130,33 +115,9 @@ fn score_by(shifted: &Shifted, by: i64, terms: &mut Terms) -> Result<Scored, Sto
     }
     write_terms(division, items, terms)?;
     match measure_of(terms, broken) {
-        Some(size) => Ok(Scored {
-            division,
-            score: size.score,
-        }),
+        Some(size) => Ok((division, size.score)),
         None => Err(Stop::GaveUp),
     }
-}
-
-/// The best mixed rounding of a row that is divided by one of these numbers.
-fn best_of(
-    shifted: &Shifted,
-    divisors: &[i64],
-    start: Option<Scored>,
-    terms: &mut Terms,
-) -> Result<Option<Scored>, Stop> {
-    let mut best = start;
-    for by in divisors {
-        match score_by(shifted, *by, terms) {
-            Ok(one) => match best {
-                Some(before) if before.score >= one.score => {}
-                _ => best = Some(one),
-            },
-            Err(Stop::GaveUp) => {}
-            Err(stop) => return Err(stop),
-        }
-    }
-    Ok(best)
 }
 
 /// The best mixed rounding of a row that is divided by one of these numbers, or by the best of them times 2, 4 or 8.
@@ -164,18 +125,30 @@ pub(crate) fn best_division(
     shifted: &Shifted,
     divisors: &[i64],
     terms: &mut Terms,
-) -> Result<Scored, Stop> {
-    let Some(first) = best_of(shifted, divisors, None, terms)? else {
-        return Err(Stop::GaveUp);
-    };
-    let by = first.division.by;
-    let more = [
-        by.saturating_mul(2),
-        by.saturating_mul(4),
-        by.saturating_mul(8),
-    ];
-    match best_of(shifted, &more, Some(first), terms)? {
-        Some(best) => Ok(best),
+) -> Result<Division, Stop> {
+    let mut best = None;
+    let mut most = 0u128;
+    let mut doubled = 0i64;
+    for place in 0..divisors.len().saturating_add(3) {
+        let by = match divisors.get(place) {
+            Some(by) => *by,
+            None => doubled.saturating_mul(2),
+        };
+        let is_better = match score_by(shifted, by, terms) {
+            Ok((division, score)) if score > most => {
+                best = Some(division);
+                most = score;
+                true
+            }
+            Err(Stop::NoMemory) => return Err(Stop::NoMemory),
+            _ => false,
+        };
+        if is_better || place >= divisors.len() {
+            doubled = by;
+        }
+    }
+    match best {
+        Some(division) => Ok(division),
         None => Err(Stop::GaveUp),
     }
 }
@@ -187,7 +160,7 @@ pub(crate) fn list_divisors(items: &[Shift], divisors: &mut Vec<i64>) -> Result<
     divisors.push(1)?;
     for shift in items {
         if divisors.len() >= 32 {
-            return Ok(());
+            break;
         }
         let size = shift.coef.saturating_abs();
         if shift.is_whole && shift.is_between() && !divisors.contains(&size) {

@@ -1,5 +1,5 @@
 //! Whole numbers of rows, and what numbers roughly are.
-use cip_frac::{Frac, short_gcd};
+use cip_frac::Frac;
 
 /// 1, of rough values.
 pub const UNIT: i64 = 1 << 24;
@@ -34,16 +34,6 @@ pub fn kept(number: i128) -> Option<i64> {
 /// The product of two numbers, where its size is at most 2^40.
 pub fn product(a: i64, b: i64) -> Option<i64> {
     kept(i128::from(a).wrapping_mul(i128::from(b)))
-}
-
-/// The least common multiple of a number of at most 2^40 and a denominator, where it is at most 2^40.
-pub(crate) fn common_multiple(number: i64, denominator: i128) -> Option<i64> {
-    let Ok(under) = u64::try_from(denominator) else {
-        return None;
-    };
-    let size = number.unsigned_abs();
-    let part = under.checked_div(short_gcd(size, under)).unwrap_or(0);
-    kept(i128::from(size).wrapping_mul(i128::from(part)))
 }
 
 /// A fraction times a number that its denominator divides, where the product's size is at most 2^40.

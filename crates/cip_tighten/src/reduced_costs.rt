@@ -6,8 +6,8 @@ use crate::gains::{cost_of, most_cost};
 use crate::implied::{Implied, Narrowing, Region, Source, list_implied};
 use crate::numbers::{UNIT, rough};
 use crate::patience::Patience;
-use crate::reductions::reduction_of;
-use cip_lin::{Combo, Row, RowId, RowMultiple};
+use crate::reductions::push_reduction;
+use cip_lin::{Combo, Row, RowId};
 use cip_plugin::{Plugin, Propagator, Reduction, View};
 use std::alloc::{AllocError, Global};
 
@@ -59,28 +59,6 @@ fn may_add(combo: &Combo) -> bool {
     true
 }
 
-/// Adds sides of whole columns, or all of them where they show that the box has no point.
-fn add_sides(
-    alloc: Global,
-    view: &View<'_>,
-    implied: &[Implied],
-    rows: &[RowMultiple],
-    narrowing: Narrowing,
-    reductions: &mut Vec<Reduction>,
-) -> Result<(), AllocError> {
-    for item in implied {
-        if reductions.len() >= MOST_SIDES {
-            return Ok(());
-        }
-        if narrowing == Narrowing::Contradiction
-            || view.whole.get(item.col as usize) == Some(&true)
-        {
-            reductions.push(reduction_of(alloc, *item, rows)?)?;
-        }
-    }
-    Ok(())
-}
-
 impl ReducedCostPropagator {
     /// One that was never called. It takes no memory.
     pub fn new(alloc: Global) -> ReducedCostPropagator {
@@ -91,7 +69,8 @@ impl ReducedCostPropagator {
         }
     }
 
-    /// Adds what the row of reduced costs implies.
+    /// Adds the sides of whole columns that the row of reduced costs implies, or all of them where they show that the
+    /// box has no point.
     fn narrow(
         &mut self,
         alloc: Global,
@@ -107,25 +86,17 @@ impl ReducedCostPropagator {
         self.implied.clear();
         let most = view.costs.len();
         let narrowing = list_implied(row, Source::AtLeast, &region, most, &mut self.implied)?;
-        let rows = self.cost_row.rows.as_slice();
-        add_sides(
-            alloc,
-            view,
-            self.implied.as_slice(),
-            rows,
-            narrowing,
-            reductions,
-        )
-    }
-
-    /// The row of reduced costs, where the last linear program has a combination.
-    fn row(&mut self, alloc: Global, view: &View<'_>) -> Result<Option<Row>, AllocError> {
-        match (view.combo, view.cutoff) {
-            (Some(combo), Some(cutoff)) if may_add(combo) => self
-                .cost_row
-                .take(alloc, view, combo, cutoff),
-            _ => Ok(None),
+        for item in &self.implied {
+            if reductions.len() >= MOST_SIDES {
+                break;
+            }
+            if narrowing == Narrowing::Contradiction
+                || view.whole.get(item.col as usize) == Some(&true)
+            {
+                push_reduction(alloc, *item, self.cost_row.rows.as_slice(), reductions)?;
+            }
         }
+        Ok(())
     }
 
     /// Adds what is implied, where that may pay, and notes whether there was anything.
@@ -138,7 +109,13 @@ impl ReducedCostPropagator {
         if !self.patience.is_turn() || !may_pay(view) {
             return Ok(());
         }
-        if let Some(row) = self.row(alloc, view)? {
+        let row = match (view.combo, view.cutoff) {
+            (Some(combo), Some(cutoff)) if may_add(combo) => self
+                .cost_row
+                .take(alloc, view, combo, cutoff)?,
+            _ => None,
+        };
+        if let Some(row) = row {
             let outcome = self.narrow(alloc, view, &row, reductions);
             drop(row);
             outcome?;

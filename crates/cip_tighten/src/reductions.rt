@@ -8,53 +8,51 @@ use std::alloc::{AllocError, Global};
 /// The most reductions that a call brings.
 pub const MOST_REDUCTIONS: usize = 64;
 
-/// A row by one of its sides: once where it is at least that, minus once where it is at most that.
-pub fn multiple_of(row: RowId, source: Source) -> RowMultiple {
-    let factor = match source {
-        Source::AtLeast => Frac::one(),
-        Source::AtMost => Frac::one().neg(),
-    };
-    RowMultiple { row, factor }
-}
-
-/// A side that these rows imply, with them as its combination. `Err` where memory was refused.
-pub fn reduction_of(
+/// Adds a side that these rows imply to the reductions, with them as its combination. `Err` where memory was refused.
+pub fn push_reduction(
     alloc: Global,
     implied: Implied,
     rows: &[RowMultiple],
-) -> Result<Reduction, AllocError> {
-    Ok(Reduction {
+    reductions: &mut Vec<Reduction>,
+) -> Result<(), AllocError> {
+    let combo = Combo {
+        rows: rows.to_vec(alloc)?,
+        lows: Vec::new(alloc),
+        highs: Vec::new(alloc),
+    };
+    reductions.push(Reduction {
         col: implied.col,
         side: implied.side,
         value: implied.value,
-        combo: Combo {
-            rows: rows.to_vec(alloc)?,
-            lows: Vec::new(alloc),
-            highs: Vec::new(alloc),
-        },
-    })
+        combo,
+    })?;
+    Ok(())
 }
 
 /// Adds the sides that a side of a row implies in a box to the reductions, and answers whether no point of the box
-/// keeps it. What is implied is listed.
+/// keeps it. What is implied is listed. The combination is the row once where it is at least that side, and minus once
+/// where it is at most that.
 pub(crate) fn add_side(
     alloc: Global,
     region: &Region<'_>,
-    multiple: RowMultiple,
+    side: (RowId, Source),
     row: &Row,
     implied: &mut Vec<Implied>,
     reductions: &mut Vec<Reduction>,
 ) -> Result<bool, AllocError> {
     implied.clear();
-    let source = if multiple.factor.is_negative() {
-        Source::AtMost
-    } else {
-        Source::AtLeast
+    let (id, source) = side;
+    let multiple = RowMultiple {
+        row: id,
+        factor: match source {
+            Source::AtLeast => Frac::one(),
+            Source::AtMost => Frac::one().neg(),
+        },
     };
     let most = MOST_REDUCTIONS.saturating_sub(reductions.len());
     let narrowing = list_implied(row, source, region, most, implied)?;
     for item in implied.as_slice() {
-        reductions.push(reduction_of(alloc, *item, &[multiple])?)?;
+        push_reduction(alloc, *item, &[multiple], reductions)?;
     }
     Ok(narrowing == Narrowing::Contradiction)
 }
@@ -75,13 +73,10 @@ pub fn add_reductions(
         whole: view.whole,
         is_exact: false,
     };
-    let low = multiple_of(id, Source::AtLeast);
-    if add_side(alloc, &region, low, row, implied, reductions)? {
-        return Ok(Some(Source::AtLeast));
-    }
-    let high = multiple_of(id, Source::AtMost);
-    if add_side(alloc, &region, high, row, implied, reductions)? {
-        return Ok(Some(Source::AtMost));
+    for source in [Source::AtLeast, Source::AtMost] {
+        if add_side(alloc, &region, (id, source), row, implied, reductions)? {
+            return Ok(Some(source));
+        }
     }
     Ok(None)
 }

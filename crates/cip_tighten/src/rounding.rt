@@ -7,7 +7,7 @@ use crate::roundings::rounded_cut;
 use crate::shifts::{Aim, Shifted};
 use crate::stops::{Stop, unless_refused};
 use crate::sums::{Standing, Sum};
-use crate::tight::{Standings, tight_at};
+use crate::tight::{list_standings, tight_at};
 use cip_plugin::{Cut, Plugin, Separator, View};
 use std::alloc::{AllocError, Global};
 
@@ -22,7 +22,7 @@ const DIVISORS: [i64; 2] = [2, 3];
 #[derive(Drop)]
 pub struct RoundingSeparator {
     gains: Gains,
-    standings: Standings,
+    standings: Vec<Standing>,
     sum: Sum,
     shifted: Shifted,
     candidates: Candidates,
@@ -33,7 +33,7 @@ impl RoundingSeparator {
     pub fn new(alloc: Global) -> RoundingSeparator {
         RoundingSeparator {
             gains: Gains::new(),
-            standings: Standings::new(alloc),
+            standings: Vec::new(alloc),
             sum: Sum::new(alloc),
             shifted: Shifted::new(alloc),
             candidates: Candidates::new(alloc),
@@ -56,7 +56,7 @@ impl RoundingSeparator {
 
     /// Keeps the cuts of a row.
     fn search_row(&mut self, alloc: Global, view: &View<'_>, place: usize) -> Result<(), Stop> {
-        let Some(row) = tight_at(view, &self.standings, place) else {
+        let Some(row) = tight_at(view, self.standings.as_slice(), place) else {
             return Err(Stop::GaveUp);
         };
         self.sum.begin_at_most(&row)?;
@@ -66,21 +66,6 @@ impl RoundingSeparator {
         }
         self.sum.turn();
         self.divide_all(alloc, view)
-    }
-
-    /// Keeps the cuts of all rows.
-    fn search(&mut self, alloc: Global, view: &View<'_>) -> Result<(), AllocError> {
-        self.candidates.clear();
-        if let Some(point) = view.point {
-            self.standings.take(view, point)?;
-        }
-        for place in 0..view.own.len() {
-            if self.candidates.is_full() {
-                return Ok(());
-            }
-            unless_refused(self.search_row(alloc, view, place))?;
-        }
-        Ok(())
     }
 }
 
@@ -118,7 +103,16 @@ impl Separator for RoundingSeparator {
         if !self.gains.may_pay(view) {
             return Ok(Vec::new(alloc));
         }
-        self.search(alloc, view)?;
+        self.candidates.clear();
+        if let Some(point) = view.point {
+            list_standings(view, point, &mut self.standings)?;
+        }
+        for place in 0..view.own.len() {
+            if self.candidates.is_full() {
+                break;
+            }
+            unless_refused(self.search_row(alloc, view, place))?;
+        }
         self.candidates.choose(alloc, MOST_CUTS)
     }
 }

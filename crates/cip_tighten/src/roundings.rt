@@ -3,29 +3,22 @@
 use crate::candidates::{Candidate, Measure, broken_by, measure_of};
 use crate::combos::{empty_combo, push_row, push_way};
 use crate::numbers::kept;
-use crate::shifts::{Shift, Shifted};
+use crate::shifts::Shifted;
 use crate::stops::Stop;
 use crate::sums::{Sum, Terms};
 use cip_lin::Combo;
 use cip_plugin::Cut;
 use std::alloc::Global;
 
-/// The coefficient of a way after the row was divided and rounded.
-fn rounded(shift: Shift, by: i64) -> Option<i64> {
-    if shift.is_whole {
-        shift.coef.checked_div_euclid(by)
-    } else if shift.coef < 0 {
-        None
-    } else {
-        Some(0)
-    }
-}
-
-/// Writes the coefficients of the rounded row; answers what it roughly comes to at the last point.
-fn write_rounded(ways: &[Shift], by: i64, terms: &mut Terms) -> Result<i128, Stop> {
+/// Writes the coefficients of the row divided and rounded, without their common divisor; answers what they measured.
+fn write_cut(shifted: &Shifted, by: i64, terms: &mut Terms) -> Result<Measure, Stop> {
     let mut sum = 0i128;
-    for shift in ways {
-        let Some(number) = rounded(*shift, by) else {
+    for shift in &shifted.items {
+        if !shift.is_whole && shift.coef < 0 {
+            return Err(Stop::GaveUp);
+        }
+        let coef = if shift.is_whole { shift.coef } else { 0 };
+        let Some(number) = coef.checked_div_euclid(by) else {
             return Err(Stop::GaveUp);
         };
         let way = i128::from(number).wrapping_mul(i128::from(shift.way));
@@ -34,12 +27,6 @@ fn write_rounded(ways: &[Shift], by: i64, terms: &mut Terms) -> Result<i128, Sto
             terms.push((shift.col, shift.column_coefficient(number)))?;
         }
     }
-    Ok(sum)
-}
-
-/// Writes the coefficients of the rounded row without their common divisor; answers what they measured.
-fn write_cut(shifted: &Shifted, by: i64, terms: &mut Terms) -> Result<Measure, Stop> {
-    let sum = write_rounded(shifted.items.as_slice(), by, terms)?;
     let under = shifted.right.denominator().checked_mul(i128::from(by));
     let right = shifted.right.numerator();
     match right.checked_div_euclid(under.unwrap_or(0)) {

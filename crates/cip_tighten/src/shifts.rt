@@ -44,11 +44,6 @@ impl Shift {
         self.way > 0 && !(self.is_unit && self.way >= UNIT)
     }
 
-    /// Whether the column is whole and its value isn't.
-    fn is_fractional(&self) -> bool {
-        self.is_whole && self.way.checked_rem(UNIT) != Some(0)
-    }
-
     /// What the column's coefficient is where that of its way is this one.
     pub fn column_coefficient(&self, number: i64) -> i64 {
         if self.is_turned {
@@ -62,24 +57,11 @@ impl Shift {
 /// The sides of a column in the node's box, its value at a point, and whether it is whole; none where there is no such
 /// column, or no value.
 pub fn place_of(view: &View<'_>, point: &[Frac], col: u32) -> Option<(Sides, Frac, bool)> {
-    let sides = view.bounds.as_slice().get(col as usize)?;
-    let value = point.get(col as usize)?;
-    let whole = view.whole.get(col as usize)?;
-    Some((*sides, *value, *whole))
-}
-
-/// Whether a way is told from the high side.
-fn is_from_high(sides: Sides, value: Frac, is_positive: bool, by_sign: bool) -> bool {
-    if by_sign {
-        return !is_positive;
-    }
-    match (sides.low, sides.high) {
-        (Some(low), Some(high)) => {
-            let at = rough(value);
-            rough(high).wrapping_sub(at) < at.wrapping_sub(rough(low))
-        }
-        (None, Some(_)) => true,
-        _ => false,
+    let place = col as usize;
+    let sides = view.bounds.as_slice().get(place);
+    match (sides, point.get(place), view.whole.get(place)) {
+        (Some(sides), Some(value), Some(whole)) => Some((*sides, *value, *whole)),
+        _ => None,
     }
 }
 
@@ -102,25 +84,24 @@ fn shift_of(view: &View<'_>, point: &[Frac], term: (u32, i64), aim: Aim) -> Opti
         Aim::Positive => true,
         Aim::Rounding => !is_whole,
     };
-    let is_turned = is_from_high(sides, value, term.1 > 0, by_sign);
+    let at = rough(value);
+    let is_turned = match (sides.low, sides.high) {
+        _ if by_sign => term.1 <= 0,
+        (Some(low), Some(high)) => rough(high).wrapping_sub(at) < at.wrapping_sub(rough(low)),
+        (_, high) => high.is_some(),
+    };
     let side = if is_turned { sides.high } else { sides.low };
-    match side {
+    let way = match side {
         None if !is_whole || by_sign => return None,
         Some(side) if is_whole && !side.is_whole() => return None,
-        _ => {}
-    }
-    let mut way = rough(value);
-    if let Some(from) = side {
-        way = way.wrapping_sub(rough(from));
-    }
+        Some(from) => at.wrapping_sub(rough(from)),
+        None => at,
+    };
+    let sign = if is_turned { -1 } else { 1 };
     Some(Shift {
         col: term.0,
-        coef: if is_turned {
-            term.1.wrapping_neg()
-        } else {
-            term.1
-        },
-        way: if is_turned { way.wrapping_neg() } else { way },
+        coef: term.1.wrapping_mul(sign),
+        way: way.wrapping_mul(sign),
         side,
         is_whole,
         is_turned,
@@ -221,7 +202,7 @@ impl Shifted {
                 return Err(Stop::GaveUp);
             }
         }
-        self.is_fractional |= item.is_fractional();
+        self.is_fractional |= item.is_whole && item.way.checked_rem(UNIT) != Some(0);
         self.items.push(item)?;
         Ok(())
     }

@@ -2,13 +2,13 @@
 //! it leaves more than the right side does. On the left the form is at most the right side rounded down: that, with
 //! ways of at least 0, is the cut. On the right it is at least the next number: the row, with ways of at least 0, is
 //! the cut.
-use crate::candidates::{Candidate, Measure};
+use crate::candidates::{Candidate, Candidates, Measure};
 use crate::combos::{empty_combo, push_row, push_way};
-use crate::mixing::{Division, Scored, write_terms};
+use crate::mixing::{Division, write_terms};
 use crate::roundings::lower;
 use crate::shifts::{Shift, Shifted};
 use crate::stops::Stop;
-use crate::sums::{Multiple, Sum, Terms, Used, write_sum};
+use crate::sums::{Multiple, Sum, Terms, write_sum};
 use crate::tight::row_of;
 use cip_cert::{FormTerm, SplitCut};
 use cip_frac::Frac;
@@ -17,49 +17,35 @@ use cip_plugin::{Cut, View};
 use std::alloc::Global;
 use std::mem;
 
-/// Adds a column to the form; answers the number that the form is at most on the left then.
-fn add_to_form(
-    division: Division,
-    number: i128,
-    shift: &Shift,
-    form: &mut Vec<FormTerm>,
-) -> Result<i128, Stop> {
-    let mut coefficient = division.floor_of(*shift);
-    if division.part_of(*shift) > division.part {
-        coefficient = coefficient.wrapping_add(1);
-    }
-    if coefficient == 0 {
-        return Ok(number);
-    }
-    let coef = if shift.is_turned {
-        coefficient.wrapping_neg()
-    } else {
-        coefficient
-    };
-    form.push(FormTerm {
-        col: shift.col,
-        coef,
-    })?;
-    let side = match shift.side {
-        Some(side) => side.numerator(),
-        None => 0,
-    };
-    let behind = match coef.checked_mul(side) {
-        Some(product) => number.checked_add(product),
-        None => None,
-    };
-    match behind {
-        Some(sum) => Ok(sum),
-        None => Err(Stop::GaveUp),
-    }
-}
-
 /// Writes the form, and answers the number that it is at most on the left.
 fn write_form(division: Division, items: &[Shift], form: &mut Vec<FormTerm>) -> Result<i128, Stop> {
     let mut number = division.floor;
     for shift in items {
-        if shift.is_whole {
-            number = add_to_form(division, number, shift, form)?;
+        if !shift.is_whole {
+            continue;
+        }
+        let mut coefficient = division.floor_of(*shift);
+        if division.part_of(*shift) > division.part {
+            coefficient = coefficient.wrapping_add(1);
+        }
+        if coefficient == 0 {
+            continue;
+        }
+        let (col, coef) = if shift.is_turned {
+            (shift.col, coefficient.wrapping_neg())
+        } else {
+            (shift.col, coefficient)
+        };
+        form.push(FormTerm { col, coef })?;
+        if let Some(side) = shift.side {
+            let behind = match coef.checked_mul(side.numerator()) {
+                Some(product) => number.checked_add(product),
+                None => None,
+            };
+            let Some(sum) = behind else {
+                return Err(Stop::GaveUp);
+            };
+            number = sum;
         }
     }
     Ok(number)
@@ -84,56 +70,38 @@ fn push_ways(
         } else {
             part
         };
-        if weight < 0 {
-            push_way(left, *shift, weight.wrapping_neg(), divisor)?;
-        } else {
-            push_way(right, *shift, weight, divisor)?;
-        }
+        let combo = if weight < 0 { &mut *left } else { &mut *right };
+        push_way(combo, *shift, weight.wrapping_abs(), divisor)?;
     }
     Ok(())
 }
 
-/// Adds a row that doesn't fit its side to the coefficients of the cut, which are those of a row that is at most its
-/// right side.
-fn add_unfit(
-    view: &View<'_>,
-    division: Division,
-    used: &Used,
-    terms: &mut Terms,
-    spare: &mut Terms,
-) -> Result<(), Stop> {
-    let Some(row) = row_of(view, used.id) else {
-        return Err(Stop::GaveUp);
-    };
-    let under = i64::try_from(division.under).unwrap_or(i64::MAX);
-    let Some(times) = used.times.checked_mul(under) else {
-        return Err(Stop::GaveUp);
-    };
-    let multiple = Multiple {
-        terms: row.terms(),
-        common: used.common,
-        times: times.wrapping_neg(),
-    };
-    write_sum(terms.as_slice(), 1, multiple, spare)?;
-    mem::swap(terms, spare);
-    Ok(())
-}
-
-/// The coefficients of the cut by column; answers what they measured before the common divisor was taken out.
+/// The coefficients of the cut by column, those of the rows that don't fit their sides among them; answers what they
+/// measured before the common divisor was taken out.
 fn write_cut(
-    alloc: Global,
     view: &View<'_>,
     division: Division,
     sum: &Sum,
     items: &[Shift],
     terms: &mut Terms,
+    spare: &mut Terms,
 ) -> Result<Measure, Stop> {
     write_terms(division, items, terms)?;
-    let mut spare = Vec::new(alloc);
+    let under = i64::try_from(division.under).unwrap_or(i64::MAX);
     for used in &sum.used {
-        if !used.fits() {
-            add_unfit(view, division, used, terms, &mut spare)?;
+        if used.fits() {
+            continue;
         }
+        let (Some(row), Some(times)) = (row_of(view, used.id), used.times.checked_mul(under)) else {
+            return Err(Stop::GaveUp);
+        };
+        let multiple = Multiple {
+            terms: row.terms(),
+            common: used.common,
+            times: times.wrapping_neg(),
+        };
+        write_sum(terms.as_slice(), 1, multiple, spare)?;
+        mem::swap(terms, spare);
     }
     lower(terms, division.broken(items))
 }
@@ -152,11 +120,10 @@ fn push_all(
             return Err(Stop::GaveUp);
         };
         let times = i128::from(factor).wrapping_mul(division.under);
-        if used.fits() {
-            push_row(right, used.id, times.wrapping_neg(), divisor)?;
-        } else {
-            push_row(left, used.id, times, divisor)?;
-        }
+        let fits = used.fits();
+        let combo = if fits { &mut *right } else { &mut *left };
+        let over = if fits { times.wrapping_neg() } else { times };
+        push_row(combo, used.id, over, divisor)?;
     }
     push_ways(division, items, divisor, left, right)
 }
@@ -191,20 +158,20 @@ fn split_of(
     })
 }
 
-/// The cut of a mixed rounding.
-pub(crate) fn mixed_cut(
+/// Keeps the cut of a mixed rounding.
+pub(crate) fn keep_mixed(
     alloc: Global,
     view: &View<'_>,
     sum: &Sum,
     shifted: &Shifted,
-    best: Scored,
-) -> Result<Candidate, Stop> {
-    let division = best.division;
+    division: Division,
+    candidates: &mut Candidates,
+) -> Result<(), Stop> {
     let items = shifted.items.as_slice();
     let mut terms = Vec::new(alloc);
-    let size = write_cut(alloc, view, division, sum, items, &mut terms)?;
+    let size = write_cut(view, division, sum, items, &mut terms, &mut Vec::new(alloc))?;
     let split = split_of(alloc, division, sum, items, size)?;
-    Ok(Candidate {
+    candidates.push(Candidate {
         terms,
         square: size.square,
         score: size.score,
@@ -214,5 +181,6 @@ pub(crate) fn mixed_cut(
             local: true,
             split: Some(split),
         }),
-    })
+    })?;
+    Ok(())
 }

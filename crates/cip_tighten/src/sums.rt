@@ -80,53 +80,6 @@ pub struct Multiple<'a> {
     pub times: i64,
 }
 
-/// What stands at the next column of two rows: the sum there, and how far each list goes on.
-#[derive(Clone, Copy)]
-struct Next {
-    col: u32,
-    value: i64,
-    own: usize,
-    other: usize,
-}
-
-/// The next column of the two rows, of which one goes on at least; none where a number is above 2^40 in size.
-#[inline]
-fn next_of(
-    own: Option<&(u32, i64)>,
-    other: Option<&Term>,
-    factor: i64,
-    multiple: Multiple<'_>,
-) -> Option<Next> {
-    let mine = match own {
-        Some(item) => item.0,
-        None => u32::MAX,
-    };
-    let col = match other {
-        Some(term) => mine.min(term.col),
-        None => mine,
-    };
-    let mut next = Next {
-        col,
-        value: 0,
-        own: 0,
-        other: 0,
-    };
-    if let Some(item) = own {
-        if item.0 == col {
-            next.value = product(item.1, factor)?;
-            next.own = 1;
-        }
-    }
-    if let Some(term) = other {
-        if term.col == col {
-            let more = product(raised(term.coef, multiple.common)?, multiple.times)?;
-            next.value = next.value.wrapping_add(more);
-            next.other = 1;
-        }
-    }
-    Some(next)
-}
-
 /// Writes a row times a factor with a multiple of another one added, without coefficients of 0. `GaveUp` where a number
 /// is above 2^40 in size, `NoMemory` where memory was refused; a front part is written then.
 pub fn write_sum(
@@ -139,36 +92,39 @@ pub fn write_sum(
     let mut here = 0usize;
     let mut there = 0usize;
     for _ in 0..own.len().saturating_add(multiple.terms.len()) {
-        if here >= own.len() && there >= multiple.terms.len() {
-            return Ok(());
-        }
-        let next = next_of(own.get(here), multiple.terms.get(there), factor, multiple);
-        let Some(step) = next else {
-            return Err(Stop::GaveUp);
+        let (mine, other) = (own.get(here), multiple.terms.get(there));
+        let col = match (mine, other) {
+            (Some(item), Some(term)) => item.0.min(term.col),
+            (Some(item), None) => item.0,
+            (None, Some(term)) => term.col,
+            (None, None) => return Ok(()),
         };
-        if step.value != 0 {
-            out.push((step.col, step.value))?;
+        let mut value = 0i64;
+        if let Some(item) = mine {
+            if item.0 == col {
+                let Some(scaled) = product(item.1, factor) else {
+                    return Err(Stop::GaveUp);
+                };
+                value = scaled;
+                here = here.wrapping_add(1);
+            }
         }
-        here = here.wrapping_add(step.own);
-        there = there.wrapping_add(step.other);
+        if let Some(term) = other {
+            if term.col == col {
+                let Some(whole) = raised(term.coef, multiple.common) else {
+                    return Err(Stop::GaveUp);
+                };
+                let Some(more) = product(whole, multiple.times) else {
+                    return Err(Stop::GaveUp);
+                };
+                value = value.wrapping_add(more);
+                there = there.wrapping_add(1);
+            }
+        }
+        if value != 0 {
+            out.push((col, value))?;
+        }
     }
-    Ok(())
-}
-
-/// The rows of a sum that is taken so often, with a row so often behind them.
-fn use_row(list: &mut Vec<Used>, own: i64, row: &TightRow<'_>, times: i64) -> Result<(), Stop> {
-    for used in list.iter_mut() {
-        let Some(scaled) = product(used.times, own) else {
-            return Err(Stop::GaveUp);
-        };
-        used.times = scaled;
-    }
-    list.push(Used {
-        id: row.id,
-        standing: row.standing,
-        common: row.common,
-        times,
-    })?;
     Ok(())
 }
 
@@ -223,18 +179,31 @@ impl Sum {
         };
         write_sum(self.terms.as_slice(), own, multiple, &mut self.spare)?;
         mem::swap(&mut self.terms, &mut self.spare);
-        let Some(factor) = product(times, row.common) else {
-            return Err(Stop::GaveUp);
-        };
         let mut right = Frac::zero();
-        if self.terms.len() > MOST_TERMS
-            || !right.add_product(&self.right, &Frac::from(own))
-            || !right.add_product(&row.side, &Frac::from(factor))
-        {
+        let mut is_kept = match product(times, row.common) {
+            Some(factor) => {
+                self.terms.len() <= MOST_TERMS
+                    && right.add_product(&self.right, &Frac::from(own))
+                    && right.add_product(&row.side, &Frac::from(factor))
+            }
+            None => false,
+        };
+        self.right = right;
+        for used in self.used.iter_mut() {
+            let scaled = product(used.times, own);
+            is_kept &= scaled.is_some();
+            used.times = scaled.unwrap_or(0);
+        }
+        if !is_kept {
             return Err(Stop::GaveUp);
         }
-        self.right = right;
-        use_row(&mut self.used, own, row, times)
+        self.used.push(Used {
+            id: row.id,
+            standing: row.standing,
+            common: row.common,
+            times,
+        })?;
+        Ok(())
     }
 
     /// The sum with the other sign.

@@ -2,8 +2,5 @@ use Rattle.std.proofs.lemmas.Grind.{common_steps}
 use Rattle.std.proofs.Common.{arith}
 use Rattle.cip_tighten.proofs.candidates.product_of.Goals as goal
 
-pub offset_bounds-terms-term-index : goal.offset_bounds-terms-term-index
-offset_bounds-terms-term-index c = grind (arith, common_steps)
-
 pub get-requires : goal.get-requires
 get-requires c = grind (arith, common_steps)

@@ -11,5 +11,5 @@ bounds-item-items-item-index c = grind (arith, common_steps)
 pub loop-item-preserved : goal.loop-item-preserved
 loop-item-preserved c = grind (arith, common_steps)
 
-pub shared_whole_as_slice-reduction_of : goal.shared_whole_as_slice-reduction_of
-shared_whole_as_slice-reduction_of c = grind (arith, common_steps)
+pub shared_whole_as_slice-push_reduction : goal.shared_whole_as_slice-push_reduction
+shared_whole_as_slice-push_reduction c = grind (arith, common_steps)

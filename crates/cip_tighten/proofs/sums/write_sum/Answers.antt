@@ -2,8 +2,8 @@ use Rattle.std.proofs.lemmas.Grind.{common_steps}
 use Rattle.std.proofs.Common.{arith}
 use Rattle.cip_tighten.proofs.sums.write_sum.Goals as goal
 
-pub get-requires-in-loop : goal.get-requires-in-loop
-get-requires-in-loop c = grind (arith, common_steps)
+pub get-mine-requires : goal.get-mine-requires
+get-mine-requires c = grind (arith, common_steps)
 
-pub get-requires : goal.get-requires
-get-requires c = grind (arith, common_steps)
+pub get-other-requires : goal.get-other-requires
+get-other-requires c = grind (arith, common_steps)

@@ -20,8 +20,8 @@ part_some-self c = grind (arith, common_steps)
 pub loop-number-preserved : goal.loop-number-preserved
 loop-number-preserved c = grind (arith, common_steps)
 
-pub overflow_cast-step : goal.overflow_cast-step
-overflow_cast-step c = grind (arith, common_steps)
+pub overflow_cast-col : goal.overflow_cast-col
+overflow_cast-col c = grind (arith, common_steps)
 
 pub part_none-self : goal.part_none-self
 part_none-self c = grind (arith, common_steps)

@@ -1,6 +1,0 @@
-use Rattle.std.proofs.lemmas.Grind.{common_steps}
-use Rattle.std.proofs.Common.{arith}
-use Rattle.cip_tighten.proofs.sums.use_row.Goals as goal
-
-pub offset_bounds-used-items-used-index : goal.offset_bounds-used-items-used-index
-offset_bounds-used-items-used-index c = grind (arith, common_steps)
