@@ -25,3 +25,30 @@ short-requires-clause-small c = grind (arith, common_steps)
 
 pub returns-in-None : goal.returns-in-None
 returns-in-None c = grind (arith, common_steps)
+
+pub long-requires-clause-are_digits : goal.long-requires-clause-are_digits
+long-requires-clause-are_digits c = grind (arith, common_steps)
+
+pub overflow_cast-all_down : goal.overflow_cast-all_down
+overflow_cast-all_down c = grind (arith, common_steps)
+
+pub overflow_add-all_down : goal.overflow_add-all_down
+overflow_add-all_down c = grind (arith, common_steps)
+
+pub overflow_add-all_up : goal.overflow_add-all_up
+overflow_add-all_up c = grind (arith, common_steps)
+
+pub overflow_cast-all_up : goal.overflow_cast-all_up
+overflow_cast-all_up c = grind (arith, common_steps)
+
+pub number_of_first-requires-clause-are_digits : goal.number_of_first-requires-clause-are_digits
+number_of_first-requires-clause-are_digits c = grind (arith, common_steps)
+
+pub number_of_first-requires-clause-within : goal.number_of_first-requires-clause-within
+number_of_first-requires-clause-within c = grind (arith, common_steps)
+
+pub overflow_add-kept : goal.overflow_add-kept
+overflow_add-kept c = grind (arith, common_steps)
+
+pub overflow_sub-kept : goal.overflow_sub-kept
+overflow_sub-kept c = grind (arith, common_steps)

@@ -34,3 +34,15 @@ returns-in_default-2 c =
 
 pub number_of_first-requires-clause-within : goal.number_of_first-requires-clause-within
 number_of_first-requires-clause-within c = grind (arith, common_steps)
+
+pub overflow_cast-places : goal.overflow_cast-places
+overflow_cast-places c = grind (arith, common_steps)
+
+pub number_of_first-requires-clause-are_digits : goal.number_of_first-requires-clause-are_digits
+number_of_first-requires-clause-are_digits c = grind (arith, common_steps)
+
+pub overflow_sub-kept : goal.overflow_sub-kept
+overflow_sub-kept c = grind (arith, common_steps)
+
+pub overflow_sub-places : goal.overflow_sub-places
+overflow_sub-places c = grind (arith, common_steps)

@@ -12,3 +12,18 @@ pub returns-in-Some : goal.returns-in-Some
 returns-in-Some c =
     let told = divided_exact c.args.negative c.args.size (c.args.down - c.args.up) c.in-Some.below c.requires.small c.in-Some.ensures in
     grind (arith, common_steps, told)
+
+pub returns-in-None-with_zeros : goal.returns-in-None-with_zeros
+returns-in-None-with_zeros c = grind (arith, common_steps)
+
+pub returns-in-Some-with_zeros : goal.returns-in-Some-with_zeros
+returns-in-Some-with_zeros c = grind (arith, common_steps)
+
+pub with_zeros-requires-2-clause-some : goal.with_zeros-requires-2-clause-some
+with_zeros-requires-2-clause-some c = grind (arith, common_steps)
+
+pub with_zeros-requires-2-clause-small : goal.with_zeros-requires-2-clause-small
+with_zeros-requires-2-clause-small c = grind (arith, common_steps)
+
+pub overflow_sub-down : goal.overflow_sub-down
+overflow_sub-down c = grind (arith, common_steps)

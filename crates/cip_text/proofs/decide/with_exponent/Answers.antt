@@ -40,3 +40,15 @@ returns-else-is_down c =
 
 pub returns-then-zeros-whole : goal.returns-then-zeros-whole
 returns-then-zeros-whole c = grind (arith, common_steps)
+
+pub decide-requires-in-Some-2-clause-are_digits : goal.decide-requires-in-Some-2-clause-are_digits
+decide-requires-in-Some-2-clause-are_digits c = grind (arith, common_steps)
+
+pub overflow_add-whole : goal.overflow_add-whole
+overflow_add-whole c = grind (arith, common_steps)
+
+pub decide-requires-clause-are_digits : goal.decide-requires-clause-are_digits
+decide-requires-clause-are_digits c = grind (arith, common_steps)
+
+pub grow-requires-clause-are_digits : goal.grow-requires-clause-are_digits
+grow-requires-clause-are_digits c = grind (arith, common_steps)

@@ -17,3 +17,6 @@ with_digit-requires-clause-is_digit c = grind (arith, common_steps)
 
 pub returns : goal.returns
 returns c = grind (arith, common_steps)
+
+pub with_digit-requires-clause-small : goal.with_digit-requires-clause-small
+with_digit-requires-clause-small c = grind (arith, common_steps)

@@ -32,3 +32,6 @@ grow-requires-in-Some-clause-small c = grind (arith, common_steps)
 
 pub slice_bounds-grow-end : goal.slice_bounds-grow-end
 slice_bounds-grow-end c = grind (arith, common_steps)
+
+pub slice_bounds-grow-count : goal.slice_bounds-grow-count
+slice_bounds-grow-count c = grind (arith, common_steps)

@@ -1,4 +1,5 @@
-use Rattle.std.proofs.Common.{sym}
+use Rattle.std.proofs.lemmas.Grind.{common_steps}
+use Rattle.std.proofs.Common.{sym, arith}
 use Rattle.cip_text.proofs.Amounts.{capped_none, product_far}
 use Rattle.cip_text.proofs.Grown.{zeros_over, zeros_more}
 use Rattle.cip_text.proofs.digits.with_zeros.Goals as goal
@@ -14,3 +15,9 @@ pub loop-done-preserved : goal.loop-done-preserved
 loop-done-preserved c =
     let g = zeros_more c.args.value c.loop-done.raised c.loop-done.done c.in-Some.next c.loop-done.invariant.so_far c.in-Some.ensures in
     record { small = g.small; so_far = g.so_far }
+
+pub returns : goal.returns
+returns c = grind (arith, common_steps)
+
+pub with_digit-requires-clause-small : goal.with_digit-requires-clause-small
+with_digit-requires-clause-small c = grind (arith, common_steps)

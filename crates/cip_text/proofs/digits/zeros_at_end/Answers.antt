@@ -16,3 +16,15 @@ overflow_sub-kept-in-loop-kept c = grind (arith, common_steps)
 
 pub loop-kept-smaller : goal.loop-kept-smaller
 loop-kept-smaller c = grind (arith, common_steps)
+
+pub bounds-digits-kept : goal.bounds-digits-kept
+bounds-digits-kept c = grind (arith, common_steps)
+
+pub overflow_sub-kept : goal.overflow_sub-kept
+overflow_sub-kept c = grind (arith, common_steps)
+
+pub returns-clause-within : goal.returns-clause-within
+returns-clause-within c = grind (arith, common_steps)
+
+pub overflow_sub-result : goal.overflow_sub-result
+overflow_sub-result c = grind (arith, common_steps)

@@ -31,3 +31,9 @@ returns-clause-says c = grind (arith, common_steps)
 
 pub overflow_add-number : goal.overflow_add-number
 overflow_add-number c = grind (arith, common_steps)
+
+pub returns-clause-counted : goal.returns-clause-counted
+returns-clause-counted c = grind (arith, common_steps)
+
+pub loop-rest-init : goal.loop-rest-init
+loop-rest-init c = grind (arith, common_steps)

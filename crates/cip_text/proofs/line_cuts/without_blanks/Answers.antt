@@ -19,3 +19,12 @@ slice_bounds-others-start c = grind (arith, common_steps)
 
 pub returns-then-not-is_blank-clause-starts : goal.returns-then-not-is_blank-clause-starts
 returns-then-not-is_blank-clause-starts c = grind (arith, common_steps)
+
+pub returns-clause-starts : goal.returns-clause-starts
+returns-clause-starts c = grind (arith, common_steps)
+
+pub returns-clause-same : goal.returns-clause-same
+returns-clause-same c = grind (arith, common_steps)
+
+pub returns-then-not-is_blank-clause-same : goal.returns-then-not-is_blank-clause-same
+returns-then-not-is_blank-clause-same c = grind (arith, common_steps)

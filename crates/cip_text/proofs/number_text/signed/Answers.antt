@@ -10,3 +10,9 @@ overflow_sub-result c = grind (arith, common_steps)
 
 pub returns-else-negative : goal.returns-else-negative
 returns-else-negative c = grind (arith, common_steps)
+
+pub overflow_cast-result-else-negative : goal.overflow_cast-result-else-negative
+overflow_cast-result-else-negative c = grind (arith, common_steps)
+
+pub overflow_cast-result : goal.overflow_cast-result
+overflow_cast-result c = grind (arith, common_steps)

@@ -19,3 +19,21 @@ returns-in-Ok c =
     c.in-Ok.ensures.1
     ∙ quotient_read c.in-Fits.negative c.in-Fits.size c.in-Fits.below c.signed.result c.signed-in-Fits.result c.signed.ensures c.signed-in-Fits.ensures fits.0 fits.1 fits.2 in
     grind (arith, common_steps, value)
+
+pub signed-requires-in-Fits : goal.signed-requires-in-Fits
+signed-requires-in-Fits c = grind (arith, common_steps)
+
+pub signed-requires : goal.signed-requires
+signed-requires c = grind (arith, common_steps)
+
+pub returns-in-Large : goal.returns-in-Large
+returns-in-Large c = grind (arith, common_steps)
+
+pub returns-in-Fine : goal.returns-in-Fine
+returns-in-Fine c = grind (arith, common_steps)
+
+pub returns-in-NoNumber : goal.returns-in-NoNumber
+returns-in-NoNumber c = grind (arith, common_steps)
+
+pub unreachable-unreachable : goal.unreachable-unreachable
+unreachable-unreachable c = grind (arith, common_steps)

@@ -13,3 +13,15 @@ returns-else-place-bytes-clause-after c = grind (arith, common_steps)
 
 pub slice_bounds-result-end : goal.slice_bounds-result-end
 slice_bounds-result-end c = grind (arith, common_steps)
+
+pub overflow_add-result : goal.overflow_add-result
+overflow_add-result c = grind (arith, common_steps)
+
+pub returns-then-place-bytes-clause-before : goal.returns-then-place-bytes-clause-before
+returns-then-place-bytes-clause-before c = grind (arith, common_steps)
+
+pub slice_bounds-result-count : goal.slice_bounds-result-count
+slice_bounds-result-count c = grind (arith, common_steps)
+
+pub slice_bounds-result-start : goal.slice_bounds-result-start
+slice_bounds-result-start c = grind (arith, common_steps)

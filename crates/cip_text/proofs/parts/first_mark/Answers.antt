@@ -1,3 +1,4 @@
+use Rattle.std.proofs.lemmas.Grind.{common_steps}
 use Rattle.std.proofs.Common.{sym, arith, length}
 use Rattle.std.proofs.lemmas.List.Sums.{position_or_len_is}
 use Rattle.cip_rational.specs.Numeral.{is_exponent_mark}
@@ -10,3 +11,9 @@ returns-then-is_exponent_mark c =
 pub returns : goal.returns
 returns c =
     sym (position_or_len_is is_exponent_mark c.args.bytes.now (length c.args.bytes.now) 0 (omega arith) (λ k h. c.loop-i.invariant k (omega arith)) (λ h. absurd (omega (arith, h))))
+
+pub bounds-bytes-i : goal.bounds-bytes-i
+bounds-bytes-i c = grind (arith, common_steps)
+
+pub loop-i-init : goal.loop-i-init
+loop-i-init c = grind (arith, common_steps)

@@ -1,3 +1,4 @@
+use Rattle.std.proofs.lemmas.Grind.{common_steps}
 use Rattle.std.proofs.Common.{sym, arith, eqb, eq-eqb, length}
 use Rattle.std.proofs.lemmas.List.Sums.{position_or_len_is}
 use Rattle.cip_text.proofs.parts.first_place.Goals as goal
@@ -9,3 +10,9 @@ returns-then-byte-wanted c =
 pub returns : goal.returns
 returns c =
     sym (position_or_len_is (λ byte. eqb byte c.args.wanted) c.args.bytes.now (length c.args.bytes.now) 0 (omega arith) (λ k h. c.loop-i.invariant k (omega arith)) (λ h. absurd (omega (arith, h))))
+
+pub bounds-bytes-i : goal.bounds-bytes-i
+bounds-bytes-i c = grind (arith, common_steps)
+
+pub loop-i-init : goal.loop-i-init
+loop-i-init c = grind (arith, common_steps)

@@ -10,3 +10,6 @@ returns-in-Some-clause-spent c = grind (arith, common_steps)
 
 pub returns-in-None-clause-reads : goal.returns-in-None-clause-reads
 returns-in-None-clause-reads c = grind (arith, common_steps)
+
+pub returns-in-None-clause-spent : goal.returns-in-None-clause-spent
+returns-in-None-clause-spent c = grind (arith, common_steps)

@@ -4,3 +4,12 @@ use Rattle.cip_text.proofs.pieces.Pieces.end_line.Goals as goal
 
 pub invariant_of-self : goal.invariant_of-self
 invariant_of-self c = grind (arith, common_steps)
+
+pub returns : goal.returns
+returns c = grind (arith, common_steps)
+
+pub overflow_add-self-2 : goal.overflow_add-self-2
+overflow_add-self-2 c = grind (arith, common_steps)
+
+pub overflow_add-self : goal.overflow_add-self
+overflow_add-self c = grind (arith, common_steps)

@@ -13,3 +13,6 @@ returns-else-self-le-LONGEST_TEXT c = grind (arith, common_steps)
 
 pub overflow_add-last : goal.overflow_add-last
 overflow_add-last c = grind (arith, common_steps)
+
+pub overflow_add-self : goal.overflow_add-self
+overflow_add-self c = grind (arith, common_steps)

@@ -1,3 +1,4 @@
+use Rattle.std.proofs.lemmas.Grind.{common_steps}
 use Rattle.std.proofs.Common.{◌+◌, take, drop, sym, ap, ◌∙◌, arith}
 use Rattle.cip_text_rules.specs.Lines.{is_blank}
 use Rattle.cip_text.proofs.Cuts.{filled, field_is}
@@ -14,3 +15,6 @@ returns c =
     (filled rest (sym c.is_empty.ensures ∙ c.if-is_empty.false)) c.without_blanks-rest.ensures.starts
     (c.cut_at.ensures.before ∙ ap (λ place. take place rest) c.first_blank.ensures)
     (c.cut_at.ensures.after ∙ ap (λ place. drop (place + 1) rest) c.first_blank.ensures)
+
+pub returns-then-is_empty : goal.returns-then-is_empty
+returns-then-is_empty c = grind (arith, common_steps)
