@@ -29,8 +29,6 @@ two_found_by row first second sides value o l h e a =
     let n = nonzero_both row.terms first second e a in
     record { terms = e; equality = record { low = sym l ∙ both.0; high = sym h ∙ both.1 }; first_nonzero = n.0; second_nonzero = n.1 }
 
-pub ruleset two_found = (two_found_by)
-
 given_by_first : (row : Row) (first second : Term) (value : ℚ) → HasTwoTerms row first second value → GivesForm row first.column (equality_form first.coefficient second.coefficient value second.column)
 given_by_first row first second value h = record {
   follows = λ x s. first_follows row first.column second.column first.coefficient second.coefficient value x h.terms h.equality h.first_nonzero s;

@@ -6,7 +6,7 @@ use Rattle.std.specs.List.{AllByRecursion}
 use Rattle.std.proofs.lemmas.Option.{none-some, same_Some, slice_get_within, get_or_from_slice_get, slice_get_read}
 use Rattle.std.proofs.Math.ListN.{get_or}
 use Rattle.cip_rational.specs.Rational.{ℚ, zeroℚ, ◌≤ℚ◌, ◌<ℚ◌}
-use Rattle.cip_rational.proofs.Rational.Order.{le_of_not_lt}
+use Rattle.cip_rational.proofs.Rational.Order.{≤ℚ_refl, le_of_not_lt}
 use Rattle.cip_problem.specs.Program.{Term, Row}
 use Rattle.cip_problem.specs.Activity.{StandsBelow}
 use Rattle.cip_search.specs.Moving.{LetsFall}
@@ -82,6 +82,16 @@ not_up c false h = le_of_not_lt zeroℚ c (λ l. true≢false (sym (h.1 l)))
 pub not_down : (c : ℚ) (r : Bool) → (IsTrue r ↔ (c <ℚ zeroℚ)) → OnTrue (not r) (zeroℚ ≤ℚ c)
 not_down c true h = tt
 not_down c false h = le_of_not_lt c zeroℚ (λ l. true≢false (sym (h.1 l)))
+
+pub zero_up : (c : ℚ) (r : Bool) → (IsTrue r ↔ (c ≡ zeroℚ)) → OnTrue r (c ≤ℚ zeroℚ)
+zero_up c true h = subst (λ q. q ≤ℚ zeroℚ) (sym (h.0 refl)) (≤ℚ_refl zeroℚ)
+zero_up c false h = tt
+
+pub zero_down : (c : ℚ) (r : Bool) → (IsTrue r ↔ (c ≡ zeroℚ)) → OnTrue r (zeroℚ ≤ℚ c)
+zero_down c true h = subst (λ q. zeroℚ ≤ℚ q) (sym (h.0 refl)) (≤ℚ_refl zeroℚ)
+zero_down c false h = tt
+
+pub ruleset one_falls = (not_up, not_down, zero_up, zero_down)
 
 -- ---- after so many terms
 

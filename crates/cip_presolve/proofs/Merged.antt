@@ -47,7 +47,7 @@ one_same ones others n one other s below g k e =
 pub all_same : (ones others : List Term) (n : ℕ) → SameTo ones others n → length ones ≤ n → ones ≡ others
 all_same ones others n s e = let long = s.long in sym (take_whole ones n e) ∙ s.same ∙ take_whole others n (omega (arith, e, long))
 
-pub ruleset same_terms = (none_same, one_same, all_same)
+pub ruleset same_terms = (none_same, all_same)
 
 -- ---- the step
 

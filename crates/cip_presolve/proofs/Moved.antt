@@ -4,7 +4,6 @@ use Rattle.std.proofs.lemmas.Bool.{false≢true}
 use Rattle.std.proofs.lemmas.Option.{none-some, same_Some}
 use Rattle.cip_rational.specs.Rational.{ℚ, zeroℚ, negate, ◌≤ℚ◌, ◌<ℚ◌, IsWhole, integer, ceil, floor}
 use Rattle.cip_rational.proofs.Rational.Order.{le_of_not_lt}
-use Rattle.cip_rational.proofs.Rational.Ring.{negate_zero}
 use Rattle.cip_rational.proofs.Rational.Monotone.{negate_mono}
 use Rattle.cip_rational.proofs.Rational.Whole.{IsWhole-integer}
 use Rattle.cip_problem.specs.Program.{Sides, Program}
@@ -13,6 +12,7 @@ use Rattle.cip_problem.specs.Box.{Between, sides_at}
 use Rattle.cip_problem.specs.Cuts.{rounded_low, rounded_high}
 use Rattle.cip_problem.proofs.Rounding.{sides_rounded}
 use Rattle.cip_search.specs.Moving.{fixed_sides, CanTake}
+use Rattle.cip_presolve.specs.FreeColumns.{turned}
 use Rattle.cip_presolve.specs.Moves.{MayTake, least_value, greatest_value, CanBe, MovesTo}
 
 -- ---- the value
@@ -61,10 +61,14 @@ module _ (program : Program) (column : ℕ) (whole : Bool) (value : ℚ) (free :
     last = λ other c. least_is whole (sides_at program.bounds column) value other e (whole_be other c) c.between;
   }
 
-  pub rise_is : greatest_value whole (sides_at program.bounds column).high ≡ Some value → ¬ (zeroℚ <ℚ value_at program.costs column) → MovesTo true free program column value
+  pub rise_is : greatest_value whole (sides_at program.bounds column).high ≡ Some value → ¬ (negate (value_at program.costs column) <ℚ zeroℚ) → MovesTo true free program column value
   rise_is e cost = record {
     lets = f;
     takes = takes (greatest_whole whole (sides_at program.bounds column).high value e);
-    cost = subst (λ t. t ≤ℚ negate (value_at program.costs column)) negate_zero (negate_mono (le_of_not_lt zeroℚ (value_at program.costs column) cost));
+    cost = le_of_not_lt (negate (value_at program.costs column)) zeroℚ cost;
     last = λ other c. negate_mono (greatest_is whole (sides_at program.bounds column) value other e (whole_be other c) c.between);
   }
+
+  pub moves_is : (rising : Bool) → (rising ≡ false → least_value whole (sides_at program.bounds column).low ≡ Some value) → (rising ≡ true → greatest_value whole (sides_at program.bounds column).high ≡ Some value) → ¬ (turned rising (value_at program.costs column) <ℚ zeroℚ) → MovesTo rising free program column value
+  moves_is true fallen risen cost = rise_is (risen refl) cost
+  moves_is false fallen risen cost = fall_is (fallen refl) cost

@@ -37,6 +37,4 @@ found_still old new found f rows gives substitute = record {
   substitute = substitute;
 }
 
-pub ruleset replacing = (exact_self, exact_after, found_still)
-
 pub ruleset taking = (exact_self, exact_after, found_later, open_ends)

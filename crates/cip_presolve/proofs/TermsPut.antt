@@ -126,8 +126,6 @@ two_put row mid new first second a b = record {
   stands = λ n h k l s. b.stands n (a.stands n h k) l;
 }
 
-pub ruleset two_more = (two_put)
-
 -- ---- all terms
 
 -- the first terms were put into a row, and two terms wait

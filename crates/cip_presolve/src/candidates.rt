@@ -10,7 +10,7 @@ use crate::drafts::Draft;
 use crate::fixed_columns::only_value;
 use crate::forms::{ColumnForm, form_at, is_substitute};
 use crate::keeping::{assigns, keeps};
-use crate::lone::{is_lone, row_counts};
+use crate::lone::row_counts;
 use cip_frac::Frac;
 use std::alloc::{AllocError, Global};
 
@@ -119,9 +119,9 @@ fn add_lone(
     requires may { MayAllGo draft.now forms.old.items }
     ensures { MayAllGo draft.now forms.new.items }
 {
-    if !is_lone(counts, column) {
+    let Some(1) = counts.get(column as usize) else {
         return false;
-    }
+    };
     match form_out(draft, number, column) {
         Some(form) => {
             forms[column as usize] = Some(form);
@@ -131,22 +131,8 @@ fn add_lone(
     }
 }
 
-/// Leaves out one of the two columns of a row by the form that the row gives it, where no other row has it and it may
-/// go; else none.
-fn add_row(draft: &Draft, forms: &mut Vec<Option<ColumnForm>>, counts: &[u32], number: usize)
-    requires inside { number < length draft.now.rows }
-    requires may { MayAllGo draft.now forms.old.items }
-    ensures { MayAllGo draft.now forms.new.items }
-{
-    if let [first, second] = draft.row(number).terms() {
-        if !add_lone(draft, forms, counts, number, first.col) {
-            let _added = add_lone(draft, forms, counts, number, second.col);
-        }
-    }
-}
-
-/// Leaves out columns by the forms that rows give them, where equalities are taken. `Err` comes where the memory for
-/// the counts was refused.
+/// Leaves out columns by the forms that rows give them, one of the two of a row, where no other row has it and it may
+/// go, where equalities are taken. `Err` comes where the memory for the counts was refused.
 pub(crate) fn add_forms(
     alloc: Global,
     draft: &Draft,
@@ -163,7 +149,12 @@ pub(crate) fn add_forms(
         return Err(AllocError);
     };
     for number in 0..draft.count() {
-        add_row(draft, forms, counts.as_slice(), number);
+        let [first, second] = draft.row(number).terms() else {
+            continue;
+        };
+        if !add_lone(draft, forms, counts.as_slice(), number, first.col) {
+            let _added = add_lone(draft, forms, counts.as_slice(), number, second.col);
+        }
     }
     Ok(())
 }

@@ -1,9 +1,9 @@
 //! The value of a column of an equality of two terms as a form of the other one's.
 ghost use Rattle.std.specs.Prelude.{◌≡◌, ◌<◌, length, IfSome};
 ghost use Rattle.std.specs.Bool.{OnTrue};
-ghost use Rattle.cip_rational.specs.Rational.{zeroℚ, ◌*ℚ◌, inverse};
+ghost use Rattle.cip_rational.specs.Rational.{zeroℚ};
 ghost use Rattle.cip_presolve.specs.Equalities.{equality_form};
-ghost use Rattle.cip_presolve.specs.ColumnForms.{HasTwoTerms, GivesForm, RowGives, IsSubstitute};
+ghost use Rattle.cip_presolve.specs.ColumnForms.{GivesForm, RowGives, IsSubstitute};
 
 use crate::drafts::Draft;
 use crate::fixed_columns::only_value;
@@ -47,57 +47,16 @@ impl ColumnForm {
     }
 }
 
-/// The terms of an equality of two terms, and its value.
-#[derive(Clone, Copy)]
-struct TwoTerms {
-    first: Term,
-    second: Term,
-    value: Frac,
-}
-
-/// The two terms of a row with equal sides, and their value; `None` for other rows.
-#[tactic(auto, using(crate::proofs::FormsOfRows::two_found))]
-fn two_terms(row: &Row) -> Option<TwoTerms>
-    ensures { IfSome result (λ found. HasTwoTerms row.now found.first found.second found.value) }
-{
-    let sides = Sides {
-        low: row.low(),
-        high: row.high(),
-    };
-    let Some(value) = only_value(sides) else {
-        return None;
-    };
-    match row.terms() {
-        [first, second] => Some(TwoTerms {
-            first: *first,
-            second: *second,
-            value,
-        }),
-        _ => None,
-    }
-}
-
-/// A quotient, where it is in range.
-fn quotient(number: Frac, divisor: Frac) -> Option<Frac>
-    requires { ¬ (divisor ≡ zeroℚ) }
-    ensures { IfSome result (λ found. found ≡ number *ℚ inverse divisor) }
-{
-    match number.div(divisor) {
-        Ok(found) => Some(found),
-        Err(_) => None,
-    }
-}
-
 /// The value of the column of the first of two terms by that of the second one's, where both come to a value; `None`
 /// where a number of the form isn't in range.
 fn form_of(own: Term, other: Term, value: Frac) -> Option<ColumnForm>
     requires { ¬ (own.coefficient ≡ zeroℚ) }
     ensures { IfSome result (λ form. form ≡ equality_form own.coefficient other.coefficient value other.column) }
 {
-    let Some(constant) = quotient(value, own.coef) else {
+    let Ok(constant) = value.div(own.coef) else {
         return None;
     };
-    let Some(factor) = quotient(other.coef.neg(), own.coef) else {
+    let Ok(factor) = other.coef.neg().div(own.coef) else {
         return None;
     };
     Some(ColumnForm {
@@ -113,16 +72,25 @@ fn form_of(own: Term, other: Term, value: Frac) -> Option<ColumnForm>
 pub fn form_in(row: &Row, column: u32) -> Option<ColumnForm>
     ensures { IfSome result (GivesForm row.now column) }
 {
-    let Some(found) = two_terms(row) else {
+    let sides = Sides {
+        low: row.low(),
+        high: row.high(),
+    };
+    let Some(value) = only_value(sides) else {
         return None;
     };
-    if found.first.col == column {
-        return form_of(found.first, found.second, found.value);
+    match row.terms() {
+        [first, second] => {
+            if first.col == column {
+                return form_of(*first, *second, value);
+            }
+            if second.col == column {
+                return form_of(*second, *first, value);
+            }
+            None
+        }
+        _ => None,
     }
-    if found.second.col == column {
-        return form_of(found.second, found.first, found.value);
-    }
-    None
 }
 
 /// The form that a row of a program in work gives the value of a column, as `form_in` has it.

@@ -37,14 +37,6 @@ fn fits_at(form: &ColumnForm, value: Frac) -> bool
     }
 }
 
-/// Whether the constant and the factor of a form are whole.
-fn is_whole(form: &ColumnForm) -> bool
-    ensures constant { OnTrue result (IsWhole form.now.constant) }
-    ensures factor { OnTrue result (IsWhole form.now.factor) }
-{
-    form.constant.is_whole() && form.factor.is_whole()
-}
-
 /// Whether a form has whole values in range at whole values of its source between its sides, and the factor's product
 /// with each of these is in range, and there is such a value, as far as the ends tell.
 #[tactic(auto, using(crate::proofs::FormsKept::assigning))]
@@ -57,7 +49,7 @@ pub fn assigns(form: &ColumnForm, own: Sides) -> bool
     let Some(high) = own.high else {
         return false;
     };
-    if own.cross() || !is_whole(form) {
+    if own.cross() || !(form.constant.is_whole() && form.factor.is_whole()) {
         return false;
     }
     fits_at(form, low) && fits_at(form, high)

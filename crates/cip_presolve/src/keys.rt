@@ -1,7 +1,6 @@
 //! Numbers of rows by which those with equal terms stand side by side: hints, of which nothing is promised.
 ghost use Rattle.std.specs.Prelude.{length, ◌<◌, ◌^◌};
 
-use cip_frac::Frac;
 use cip_lin::Row;
 use std::alloc::{AllocError, Global};
 
@@ -13,25 +12,15 @@ fn mixed(print: u64, number: u64) -> u64 {
         .rotate_left(29)
 }
 
-/// The lower 64 bits of a number.
-#[inline]
-fn lower(number: u128) -> u64 {
-    (number & 0xFFFF_FFFF_FFFF_FFFF) as u64
-}
-
-/// A fingerprint with a coefficient mixed in.
-fn with_coef(print: u64, coef: Frac) -> u64 {
-    let over = lower(coef.numerator().unsigned_abs());
-    let under = lower(coef.denominator().unsigned_abs());
-    let sign = u64::from(coef.is_negative());
-    mixed(mixed(mixed(print, over), under), sign)
-}
-
 /// The fingerprint of a row's terms, and behind it the row's number.
 fn key_of(row: &Row, number: u32) -> u128 {
     let mut print = 0xCBF2_9CE4_8422_2325u64;
     for term in row.terms() {
-        print = with_coef(mixed(print, u64::from(term.col)), term.coef);
+        let over = (term.coef.numerator().unsigned_abs() & 0xFFFF_FFFF_FFFF_FFFF) as u64;
+        let under = (term.coef.denominator().unsigned_abs() & 0xFFFF_FFFF_FFFF_FFFF) as u64;
+        let sign = u64::from(term.coef.is_negative());
+        print = mixed(print, u64::from(term.col));
+        print = mixed(mixed(mixed(print, over), under), sign);
     }
     u128::from(print)
         .wrapping_mul(1 << 32)
@@ -51,14 +40,4 @@ pub(crate) fn sorted_keys(alloc: Global, rows: &[Row]) -> Result<Vec<u128>, Allo
     }
     keys.sort()?;
     Ok(keys)
-}
-
-/// The number of the row of a key.
-pub(crate) fn row_of(key: u128) -> u32 {
-    (key & 0xFFFF_FFFF) as u32
-}
-
-/// Whether two keys are of rows that may have equal terms.
-pub(crate) fn are_alike(one: u128, other: u128) -> bool {
-    one >> 32 == other >> 32
 }

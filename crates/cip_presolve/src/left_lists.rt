@@ -4,7 +4,6 @@ ghost use Rattle.cip_problem.specs.Limits.{most_columns};
 ghost use Rattle.cip_presolve.specs.EntriesLeft.{gone_of, entries_left, old_numbers, new_numbers};
 
 use crate::forms::ColumnForm;
-use cip_frac::Frac;
 use cip_lin::{Bounds, Choice, Choices, Sides};
 use std::alloc::{AllocError, Global};
 
@@ -19,40 +18,21 @@ pub(crate) fn gone_of(alloc: Global, forms: &[Option<ColumnForm>]) -> Result<Vec
     Ok(gone)
 }
 
-/// The costs of the columns that stay; `Err` where the memory for them was refused.
-pub(crate) fn costs_left(
+/// The items of the columns that stay; `Err` where the memory for them was refused.
+pub(crate) fn items_left<T: Copy + Drop>(
     alloc: Global,
     gone: &[bool],
-    costs: &[Frac],
-) -> Result<Vec<Frac>, AllocError>
-    requires { length gone.now ≡ length costs.now }
-    ensures { IfOk result (λ left. left.items ≡ entries_left gone.now costs.now) }
+    items: &[T],
+) -> Result<Vec<T>, AllocError>
+    requires { length gone.now ≡ length items.now }
+    ensures { IfOk result (λ left. left.items ≡ entries_left gone.now items.now) }
 {
     let mut left = Vec::new(alloc);
     for at in 0..gone.len() {
         if gone[at] {
             continue;
         }
-        left.push(costs[at])?;
-    }
-    Ok(left)
-}
-
-/// Whether each column that stays is whole; `Err` where the memory for it was refused.
-pub(crate) fn whole_left(
-    alloc: Global,
-    gone: &[bool],
-    whole: &[bool],
-) -> Result<Vec<bool>, AllocError>
-    requires { length gone.now ≡ length whole.now }
-    ensures { IfOk result (λ left. left.items ≡ entries_left gone.now whole.now) }
-{
-    let mut left = Vec::new(alloc);
-    for at in 0..gone.len() {
-        if gone[at] {
-            continue;
-        }
-        left.push(whole[at])?;
+        left.push(items[at])?;
     }
     Ok(left)
 }

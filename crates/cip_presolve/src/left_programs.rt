@@ -1,13 +1,13 @@
 //! What is left of a program at the end of presolve, and the way back from it.
-ghost use Rattle.std.specs.Prelude.{◌≡◌, ◌≤◌, None, IfOk, OnOk, length, map, replicate};
+ghost use Rattle.std.specs.Prelude.{◌≡◌, ◌≤◌, None, IfOk, length, replicate};
 ghost use Rattle.cip_problem.specs.Limits.{most_columns};
 ghost use Rattle.cip_presolve.specs.Programs.{program_from};
 ghost use Rattle.cip_presolve.specs.NarrowedPrograms.{IsStep, IsExactStep};
 ghost use Rattle.cip_presolve.specs.DraftParts.{IsDraft, unnamed};
 ghost use Rattle.cip_presolve.specs.ColumnsOut.{MayAllGo, SourcesStay};
 ghost use Rattle.cip_presolve.specs.SpentRows.{RowsGo};
-ghost use Rattle.cip_presolve.specs.EntriesLeft.{entries_left, gone_of, new_numbers, old_numbers};
-ghost use Rattle.cip_presolve.specs.LeftProgram.{dropped_rows, left_program, left_columns, staying_rows, moved_row, AllMove, CanLeave};
+ghost use Rattle.cip_presolve.specs.EntriesLeft.{gone_of, old_numbers};
+ghost use Rattle.cip_presolve.specs.LeftProgram.{dropped_rows, left_program, left_columns, CanLeave};
 ghost use Rattle.cip_presolve.specs.PresolvedPrograms.{IsPresolved, IsExactlyPresolved, IsUnchanged, counted};
 
 use crate::copies::{copied_names, names_left};
@@ -15,13 +15,12 @@ use crate::drafts::Draft;
 use crate::forms::ColumnForm;
 use crate::leaving::forms_out;
 use crate::left_lists::{
-    bounds_left, choices_left, costs_left, gone_of, numbers_kept, numbers_left, whole_left,
+    bounds_left, choices_left, gone_of, items_left, numbers_kept, numbers_left,
 };
-use crate::left_rows::{dropped_rows, leave_out, move_all};
+use crate::left_rows::{dropped_rows, is_dropped, move_all};
 use crate::row_copies::copied_rows;
 use crate::steps::Steps;
-use cip_lin::Row;
-use cip_model::{Names, Parts, Program};
+use cip_model::{Parts, Program};
 use std::alloc::{AllocError, Global};
 
 /// A reduced program, how its points come back, and for each of its columns the old number.
@@ -30,20 +29,6 @@ pub struct Presolved {
     pub reduced: Program,
     pub steps: Steps,
     pub kept: Vec<u32>,
-}
-
-/// The names of the rows that are left of a program in work, from another program.
-fn row_names_left(
-    alloc: Global,
-    program: &Program,
-    draft: &Draft,
-    gone: &[bool],
-) -> Result<Names, AllocError>
-    requires { length draft.now.rows ≡ length program.now.row_names }
-    ensures { IfOk result (λ names. names ≡ entries_left (dropped_rows gone.now draft.now.rows) program.now.row_names) }
-{
-    let dropped = dropped_rows(alloc, gone, draft.rows())?;
-    names_left(alloc, dropped.as_slice(), program.row_names())
 }
 
 /// What is left of a program in work, but for the rows, with the names of another program.
@@ -56,10 +41,10 @@ fn columns_left(
     requires { CanLeave program.now draft.now gone.now }
     ensures { IfOk result (λ parts. program_from parts ≡ left_columns program.now draft.now gone.now) }
 {
-    let Ok(costs) = costs_left(alloc, gone, draft.costs()) else {
+    let Ok(costs) = items_left(alloc, gone, draft.costs()) else {
         return Err(AllocError);
     };
-    let Ok(whole) = whole_left(alloc, gone, draft.whole()) else {
+    let Ok(whole) = items_left(alloc, gone, draft.whole()) else {
         return Err(AllocError);
     };
     let Ok(bounds) = bounds_left(alloc, gone, draft.bounds().as_slice()) else {
@@ -68,10 +53,13 @@ fn columns_left(
     let Ok(choices) = choices_left(alloc, gone, draft.choices().as_slice()) else {
         return Err(AllocError);
     };
+    let Ok(dropped) = dropped_rows(alloc, gone, draft.rows()) else {
+        return Err(AllocError);
+    };
     let Ok(column_names) = names_left(alloc, gone, program.column_names()) else {
         return Err(AllocError);
     };
-    let Ok(row_names) = row_names_left(alloc, program, draft, gone) else {
+    let Ok(row_names) = names_left(alloc, dropped.as_slice(), program.row_names()) else {
         drop(column_names);
         return Err(AllocError);
     };
@@ -88,34 +76,6 @@ fn columns_left(
     })
 }
 
-/// Gives the rows that are left the new numbers of their columns. `Err` comes where the memory for one was refused.
-fn renumber(alloc: Global, rows: &mut Vec<Row>, gone: &[bool]) -> Result<(), AllocError>
-    requires few { length gone.now ≤ most_columns }
-    requires moves { AllMove (new_numbers 0 gone.now) rows.old.items }
-    ensures { OnOk result (rows.new.items ≡ map (moved_row (new_numbers 0 gone.now)) rows.old.items) }
-{
-    let numbers = numbers_left(alloc, gone)?;
-    move_all(alloc, rows, numbers.as_slice())
-}
-
-/// The rows that are left of a program in work, over the new numbers of its columns.
-fn rows_left(alloc: Global, draft: Draft, gone: &[bool]) -> Result<Vec<Row>, AllocError>
-    requires few { length gone.now ≤ most_columns }
-    requires moves { AllMove (new_numbers 0 gone.now) (staying_rows gone.now draft.rows) }
-    ensures { IfOk result (λ rows. rows.items
-        ≡ map (moved_row (new_numbers 0 gone.now)) (staying_rows gone.now draft.rows)) }
-{
-    let mut rows = draft.into_rows();
-    leave_out(&mut rows, gone);
-    match renumber(alloc, &mut rows, gone) {
-        Ok(()) => Ok(rows),
-        Err(error) => {
-            drop(rows);
-            Err(error)
-        }
-    }
-}
-
 /// What is left of a program in work, with the names of another program.
 fn left(
     alloc: Global,
@@ -126,16 +86,23 @@ fn left(
     requires { CanLeave program.now draft gone.now }
     ensures { IfOk result (λ reduced. reduced ≡ left_program program.now draft gone.now) }
 {
+    let Ok(numbers) = numbers_left(alloc, gone) else {
+        drop(draft);
+        return Err(AllocError);
+    };
     let Ok(mut parts) = columns_left(alloc, program, &draft, gone) else {
         drop(draft);
         return Err(AllocError);
     };
-    match rows_left(alloc, draft, gone) {
-        Ok(rows) => {
+    let mut rows = draft.into_rows();
+    rows.retain(|row| !is_dropped(gone, row));
+    match move_all(alloc, &mut rows, numbers.as_slice()) {
+        Ok(()) => {
             parts.rows = rows;
             Ok(Program::new(parts))
         }
         Err(error) => {
+            drop(rows);
             drop(parts);
             Err(error)
         }
@@ -188,27 +155,6 @@ fn left_out(
     })
 }
 
-/// A reduced program with the way back from it.
-fn way_back(out: LeftOut, reduced: Program) -> Presolved
-    ensures { result ≡ record {
-      reduced = reduced;
-      steps = record { forms = out.forms.items; whole = out.whole.items };
-      kept = out.kept;
-    } }
-{
-    let LeftOut {
-        forms,
-        kept,
-        whole,
-        ..
-    } = out;
-    Presolved {
-        reduced,
-        steps: Steps::new(forms, whole),
-        kept,
-    }
-}
-
 /// What presolve gives at the end of its steps: the columns of one value that no row has are left out, and where
 /// equalities are taken, those whose value is a form of another one's by the one row that has them, with this row; so
 /// are rows that say nothing. `Err` comes where a growth was refused.
@@ -232,7 +178,19 @@ pub fn compacted(
         return Err(AllocError);
     };
     match left(alloc, program, draft, out.gone.as_slice()) {
-        Ok(reduced) => Ok(way_back(out, reduced)),
+        Ok(reduced) => {
+            let LeftOut {
+                forms,
+                kept,
+                whole,
+                ..
+            } = out;
+            Ok(Presolved {
+                reduced,
+                steps: Steps::new(forms, whole),
+                kept,
+            })
+        }
         Err(error) => {
             drop(out);
             Err(error)

@@ -2,29 +2,18 @@
 //! columns.
 ghost use Rattle.std.specs.Prelude.{◌≡◌, false, IfOk, OnOk, length, map, slice_index_or};
 ghost use Rattle.cip_problem.specs.Activity.{StandsBelow};
-ghost use Rattle.cip_presolve.specs.LeftProgram.{says_nothing, stands_on_gone, is_dropped, dropped_rows, staying_rows, is_open_side, moved_term, moved_row, CanMove, AllMove};
+ghost use Rattle.cip_presolve.specs.LeftProgram.{says_nothing, stands_on_gone, is_dropped, dropped_rows, moved_term, moved_row, CanMove, AllMove};
 
 use crate::row_copies::row_of_terms;
-use cip_frac::Frac;
 use cip_lin::{Row, Term};
 use std::alloc::{AllocError, Global};
-
-/// Whether a side is open.
-fn is_open(side: Option<Frac>) -> bool
-    ensures { result ≡ is_open_side side }
-{
-    match side {
-        None => true,
-        Some(_) => false,
-    }
-}
 
 /// Whether a row says nothing: it has no term and no side.
 pub fn says_nothing(row: &Row) -> bool
     ensures { result ≡ says_nothing row.now }
 {
-    match row.terms() {
-        [] => is_open(row.low()) && is_open(row.high()),
+    match (row.terms(), row.low(), row.high()) {
+        ([], None, None) => true,
         _ => false,
     }
 }
@@ -53,7 +42,7 @@ fn stands_on_gone(gone: &[bool], terms: &[Term]) -> bool
 }
 
 /// Whether a row is dropped: it says nothing, or stands on a column that is gone.
-fn is_dropped(gone: &[bool], row: &Row) -> bool
+pub(crate) fn is_dropped(gone: &[bool], row: &Row) -> bool
     ensures { result ≡ is_dropped gone.now row.now }
 {
     says_nothing(row) || stands_on_gone(gone, row.terms())
@@ -72,14 +61,6 @@ pub(crate) fn dropped_rows(
         dropped.push(is_dropped(gone, row))?;
     }
     Ok(dropped)
-}
-
-/// Leaves out the rows that are dropped.
-#[tactic(auto, using(crate::proofs::MovedRows::filtered))]
-pub(crate) fn leave_out(rows: &mut Vec<Row>, gone: &[bool])
-    ensures { rows.new.items ≡ staying_rows gone.now rows.old.items }
-{
-    rows.retain(|row| !is_dropped(gone, row));
 }
 
 /// Terms over the new numbers of their columns; `Err` where the memory for them was refused.

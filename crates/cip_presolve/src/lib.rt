@@ -10,7 +10,6 @@ mod extents;
 mod faults;
 mod fixed_columns;
 mod forms;
-mod implied;
 mod keeping;
 mod keys;
 mod leaving;

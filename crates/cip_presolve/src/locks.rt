@@ -11,30 +11,22 @@ use cip_frac::Frac;
 use cip_lin::{Row, Term};
 use std::alloc::{AllocError, Global};
 
-/// Whether the low side of a row lets the value of a column with this coefficient fall.
-#[tactic(auto, using(crate::proofs::Free::not_up))]
-fn low_lets_fall(low: &Option<Frac>, coef: Frac) -> bool
-    ensures { OnTrue result (IfSome low.now (λ side. coef ≤ℚ zeroℚ)) }
+/// Whether the sides of a row let the value of a column with this coefficient fall.
+#[tactic(auto, using(crate::proofs::Free::one_falls))]
+fn let_fall(low: Option<Frac>, high: Option<Frac>, coef: Frac) -> bool
+    ensures low { OnTrue result (IfSome low (λ side. coef ≤ℚ zeroℚ)) }
+    ensures high { OnTrue result (IfSome high (λ side. zeroℚ ≤ℚ coef)) }
 {
-    match low {
-        None => true,
-        Some(_) => !coef.is_positive(),
-    }
-}
-
-/// Whether the high side of a row lets the value of a column with this coefficient fall.
-#[tactic(auto, using(crate::proofs::Free::not_down))]
-fn high_lets_fall(high: &Option<Frac>, coef: Frac) -> bool
-    ensures { OnTrue result (IfSome high.now (λ side. zeroℚ ≤ℚ coef)) }
-{
-    match high {
-        None => true,
-        Some(_) => !coef.is_negative(),
+    match (low, high) {
+        (None, None) => true,
+        (Some(_), None) => !coef.is_positive(),
+        (None, Some(_)) => !coef.is_negative(),
+        (Some(_), Some(_)) => coef.is_zero(),
     }
 }
 
 /// A coefficient, with the other sign where it is looked at from the other side.
-fn turned(rising: bool, coef: Frac) -> Frac
+pub(crate) fn turned(rising: bool, coef: Frac) -> Frac
     ensures { result ≡ turned rising coef }
 {
     if rising { coef.neg() } else { coef }
@@ -55,7 +47,7 @@ fn lock_terms(
 {
     for term in terms {
         let coef = turned(rising, term.coef);
-        if low_lets_fall(low, coef) && high_lets_fall(high, coef) {
+        if let_fall(*low, *high, coef) {
             continue;
         }
         free[term.col as usize] = false;

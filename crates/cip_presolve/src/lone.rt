@@ -23,11 +23,3 @@ pub(crate) fn row_counts(
     }
     Ok(counts)
 }
-
-/// Whether one row has a column, and no other.
-pub(crate) fn is_lone(counts: &[u32], column: u32) -> bool {
-    match counts.get(column as usize) {
-        Some(count) => *count == 1,
-        None => false,
-    }
-}

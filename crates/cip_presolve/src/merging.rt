@@ -12,14 +12,6 @@ use crate::rules::Outcome;
 use cip_lin::{Row, Sides, Term};
 use std::alloc::{AllocError, Global};
 
-/// Whether two terms are the same.
-#[tactic(auto, using(crate::proofs::Merged::same_term))]
-fn is_same(one: Term, other: Term) -> bool
-    ensures { OnTrue result (one ≡ other) }
-{
-    one.col == other.col && one.coef == other.coef
-}
-
 /// Whether two lists of terms are the same.
 #[tactic(auto, using(crate::proofs::Merged::same_terms))]
 fn are_same(ones: &[Term], others: &[Term]) -> bool
@@ -29,9 +21,12 @@ fn are_same(ones: &[Term], others: &[Term]) -> bool
         return false;
     }
     for at in 0..ones.len() {
-        if !is_same(ones[at], others[at]) {
-            return false;
+        let one = ones[at];
+        let other = others[at];
+        if one.col == other.col && one.coef == other.coef {
+            continue;
         }
+        return false;
     }
     true
 }

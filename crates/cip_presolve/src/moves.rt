@@ -1,126 +1,64 @@
 //! Dual fixing: columns that no row holds go to the side at which they cost least, and columns whose value is a form of
 //! one of these go with it.
-ghost use Rattle.std.specs.Prelude.{◌≡◌, ◌<◌, ◌^◌, ℕ, false, true, length, slice_get};
-ghost use Rattle.std.specs.Prelude.{None, Some, IfOk, IfSome};
-ghost use Rattle.std.specs.Bool.{OnTrue};
+ghost use Rattle.std.specs.Prelude.{◌≡◌, ◌<◌, ◌^◌, ℕ, false, true, length};
+ghost use Rattle.std.specs.Prelude.{Some, IfOk, IfSome};
 ghost use Rattle.cip_rational.specs.Rational.{ℚ};
 ghost use Rattle.cip_problem.specs.Choices.{choice_at, is_open};
 ghost use Rattle.cip_search.specs.NarrowedPrograms.{IsStep};
 ghost use Rattle.cip_presolve.specs.ColumnsOut.{MayAllGo, SourcesStay};
 ghost use Rattle.cip_presolve.specs.SpentRows.{RowsGo};
-ghost use Rattle.cip_presolve.specs.Moves.{MayTake, least_value, greatest_value, MovesTo, target_at, Follows};
-ghost use Rattle.cip_presolve.specs.Moves.{AreTargets, IsEntry, AreEntries, IsPlanned, with_target, IsTaken};
+ghost use Rattle.cip_presolve.specs.Moves.{least_value, greatest_value, MovesTo, target_at};
+ghost use Rattle.cip_presolve.specs.Moves.{AreTargets, IsEntry, AreEntries, IsPlanned, IsTaken};
 
 use crate::drafts::Draft;
 use crate::forms::ColumnForm;
-use crate::locks::free_columns;
+use crate::locks::{free_columns, turned};
 use crate::queues::Work;
 use cip_frac::{Frac, Wide};
 use cip_lin::Sides;
 use std::alloc::{AllocError, Global};
 
-/// The least value that a low side leaves a column.
-fn least_value(low: Option<Frac>, whole: bool) -> Option<Frac>
-    ensures { result ≡ least_value whole low }
+/// The last value that sides leave a column as it falls, or rises.
+fn last_value(sides: Sides, whole: bool, rising: bool) -> Option<Frac>
+    ensures fallen { rising ≡ false → result ≡ least_value whole sides.low }
+    ensures risen { rising ≡ true → result ≡ greatest_value whole sides.high }
 {
-    match low {
-        None => None,
-        Some(low) => Some(if whole { low.rounded_up() } else { low }),
+    if rising {
+        let Some(high) = sides.high else {
+            return None;
+        };
+        return Some(if whole { high.rounded_down() } else { high });
     }
-}
-
-/// The greatest value that a high side leaves a column.
-fn greatest_value(high: Option<Frac>, whole: bool) -> Option<Frac>
-    ensures { result ≡ greatest_value whole high }
-{
-    match high {
-        None => None,
-        Some(high) => Some(if whole { high.rounded_down() } else { high }),
-    }
-}
-
-/// Whether a column is among those that are free.
-fn is_free(free: &[bool], column: u32) -> bool
-    ensures { OnTrue result (slice_get free.now column ≡ Some true) }
-{
-    match free.get(column as usize) {
-        Some(is_free) => *is_free,
-        None => false,
-    }
-}
-
-/// Whether a column may take a value: its sides are other ones, with the value between them, and it isn't
-/// semi-continuous.
-fn can_take(draft: &Draft, column: u32, fixed: Sides) -> bool
-    requires { column < length draft.now.bounds }
-    ensures { OnTrue result (MayTake draft.now column fixed) }
-{
-    let sides = draft.bounds().sides(column);
-    if draft.is_semi(column) || sides.is_fixed() {
-        return false;
-    }
-    fixed.is_inside(sides)
-}
-
-/// The least value of a column that no row keeps from falling, where it costs at least 0 and has a low side.
-fn fallen(draft: &Draft, column: u32, free: &[bool]) -> Option<Frac>
-    requires { column < length draft.now.bounds }
-    ensures { IfSome result (MovesTo false free.now draft.now column) }
-{
-    if !is_free(free, column) {
-        return None;
-    }
-    if draft.cost(column).is_negative() {
-        return None;
-    }
-    let Some(value) = least_value(draft.bounds().sides(column).low, draft.is_whole(column)) else {
+    let Some(low) = sides.low else {
         return None;
     };
-    let fixed = Sides {
-        low: Some(value),
-        high: Some(value),
-    };
-    if !can_take(draft, column, fixed) {
-        return None;
-    }
-    Some(value)
+    Some(if whole { low.rounded_up() } else { low })
 }
 
-/// The greatest value of a column that no row keeps from rising, where it costs at most 0 and has a high side.
-fn risen(draft: &Draft, column: u32, free: &[bool]) -> Option<Frac>
-    requires { column < length draft.now.bounds }
-    ensures { IfSome result (MovesTo true free.now draft.now column) }
-{
-    if !is_free(free, column) {
-        return None;
-    }
-    if draft.cost(column).is_positive() {
-        return None;
-    }
-    let Some(value) = greatest_value(draft.bounds().sides(column).high, draft.is_whole(column))
-    else {
-        return None;
-    };
-    let fixed = Sides {
-        low: Some(value),
-        high: Some(value),
-    };
-    if !can_take(draft, column, fixed) {
-        return None;
-    }
-    Some(value)
-}
-
-/// The value that a column goes to, as `risen` and `fallen` have it.
+/// The value that a column goes to: the last one as it falls, or rises, where no row keeps it from that, it costs no
+/// more there, its sides are other ones, and it isn't semi-continuous.
 fn moved(draft: &Draft, column: u32, free: &[bool], rising: bool) -> Option<Frac>
     requires { column < length draft.now.bounds }
     ensures { IfSome result (MovesTo rising free.now draft.now column) }
 {
-    if rising {
-        risen(draft, column, free)
-    } else {
-        fallen(draft, column, free)
+    let Some(true) = free.get(column as usize) else {
+        return None;
+    };
+    if draft.is_semi(column) || turned(rising, draft.cost(column)).is_negative() {
+        return None;
     }
+    let sides = draft.bounds().sides(column);
+    let Some(value) = last_value(sides, draft.is_whole(column), rising) else {
+        return None;
+    };
+    let fixed = Sides {
+        low: Some(value),
+        high: Some(value),
+    };
+    if sides.is_fixed() || !fixed.is_inside(sides) {
+        return None;
+    }
+    Some(value)
 }
 
 /// The values that the columns may go to by themselves. `Err` where the memory for them was refused.
@@ -150,10 +88,18 @@ fn target_at(targets: &[Option<Frac>], column: u32) -> Option<Frac>
     }
 }
 
-/// The value that a column with a form goes to with its source, or the operation that overflows.
-fn follower(form: &ColumnForm, targets: &[Option<Frac>]) -> Result<Option<Frac>, Wide>
-    ensures { IfOk result (Follows targets.now form.now) }
+/// What a plan has for a column: its own target, or where it has a form, the value that it goes to with its source; or
+/// the operation that overflows.
+fn entry(
+    form: &Option<ColumnForm>,
+    targets: &[Option<Frac>],
+    column: u32,
+) -> Result<Option<Frac>, Wide>
+    ensures { IfOk result (IsEntry targets.now form.now column) }
 {
+    let Some(form) = form else {
+        return Ok(target_at(targets, column));
+    };
     if form.factor.is_zero() {
         return Ok(None);
     }
@@ -163,20 +109,6 @@ fn follower(form: &ColumnForm, targets: &[Option<Frac>]) -> Result<Option<Frac>,
     match form.constant.plus_product(form.factor, value) {
         Ok(target) => Ok(Some(target)),
         Err(wide) => Err(wide),
-    }
-}
-
-/// What a plan has for a column, or the operation that overflows.
-fn entry(
-    form: &Option<ColumnForm>,
-    targets: &[Option<Frac>],
-    column: u32,
-) -> Result<Option<Frac>, Wide>
-    ensures { IfOk result (IsEntry targets.now form.now column) }
-{
-    match form {
-        Some(form) => follower(form, targets),
-        None => Ok(target_at(targets, column)),
     }
 }
 
@@ -219,24 +151,6 @@ fn planned(
     entries(alloc, forms, targets.as_slice())
 }
 
-/// Gives a column its target as both sides, where it has one.
-fn take_one(draft: &mut Draft, column: u32, target: Option<Frac>)
-    requires inside { column < length draft.old.bounds }
-    requires plain { IfSome target (λ value. is_open (choice_at draft.old.choices column) ≡ false) }
-    ensures { draft.new ≡ with_target draft.old column target }
-{
-    match target {
-        Some(value) => draft.set_sides(
-            column,
-            Sides {
-                low: Some(value),
-                high: Some(value),
-            },
-        ),
-        None => {}
-    }
-}
-
 /// Gives each column that moves its target as both sides.
 #[tactic(auto, using(crate::proofs::Plans::taking_plans))]
 fn take_plan(draft: &mut Draft, plan: &[Option<Frac>])
@@ -245,7 +159,14 @@ fn take_plan(draft: &mut Draft, plan: &[Option<Frac>])
     ensures { IsTaken plan.now draft.old draft.new }
 {
     for column in 0..draft.bounds().len() as u32 {
-        take_one(draft, column, target_at(plan, column));
+        let Some(value) = target_at(plan, column) else {
+            continue;
+        };
+        let fixed = Sides {
+            low: Some(value),
+            high: Some(value),
+        };
+        draft.set_sides(column, fixed);
     }
 }
 

@@ -5,36 +5,6 @@ use crate::drafts::Draft;
 use cip_frac::Frac;
 use cip_lin::Sides;
 
-/// The one place at which something was found, and how often it was.
-#[derive(Clone, Copy)]
-struct Found {
-    place: usize,
-    count: usize,
-}
-
-impl Found {
-    /// It was found at a place too, if it was.
-    fn and(self, place: usize, is_found: bool) -> Found {
-        if is_found {
-            Found {
-                place,
-                count: self.count.saturating_add(1),
-            }
-        } else {
-            self
-        }
-    }
-
-    /// The place, where it was found once.
-    fn only(self) -> Option<usize> {
-        if self.count == 1 {
-            Some(self.place)
-        } else {
-            None
-        }
-    }
-}
-
 /// The places of the terms that leave the least activity of a row open, and the greatest one, where each is the only
 /// one that does.
 #[derive(Clone, Copy)]
@@ -65,17 +35,24 @@ pub fn open_places(draft: &Draft, number: usize) -> OpenPlaces
 {
     let bounds = draft.bounds();
     let terms = draft.row(number).terms();
-    let none = Found { place: 0, count: 0 };
-    let mut low = none;
-    let mut high = none;
+    let mut low = None;
+    let mut high = None;
+    let mut lows = 0usize;
+    let mut highs = 0usize;
     for at in 0..terms.len() {
         let term = terms[at];
         let sides = bounds.sides(term.col);
-        low = low.and(at, is_open_below(term.coef, sides));
-        high = high.and(at, is_open_below(term.coef.neg(), sides));
+        if is_open_below(term.coef, sides) {
+            low = Some(at);
+            lows = lows.saturating_add(1);
+        }
+        if is_open_below(term.coef.neg(), sides) {
+            high = Some(at);
+            highs = highs.saturating_add(1);
+        }
     }
     OpenPlaces {
-        low: low.only(),
-        high: high.only(),
+        low: if lows == 1 { low } else { None },
+        high: if highs == 1 { high } else { None },
     }
 }

@@ -2,7 +2,7 @@
 ghost use Rattle.std.specs.Prelude.{◌≡◌, ◌+◌, ◌<◌, ◌≤◌, ◌^◌, List, drop, map, IfOk, is_none};
 ghost use Rattle.cip_rational.specs.Rational.{ℚ};
 ghost use Rattle.cip_presolve.specs.WholeParts.{with_wholes};
-ghost use Rattle.cip_presolve.specs.Places.{next_value, value_taken, values_behind, is_whole_left, whole_and_left};
+ghost use Rattle.cip_presolve.specs.Places.{value_taken, values_behind, is_whole_left, whole_and_left};
 
 use crate::forms::ColumnForm;
 use cip_frac::Frac;
@@ -49,24 +49,16 @@ pub(crate) fn whole_and_left(
     Ok(left)
 }
 
-/// A value by its place, 0 past the end.
-fn next_value(values: &[Frac], at: usize) -> Frac
-    ensures { result ≡ next_value (drop at values.now) }
-{
-    match values.get(at) {
-        Some(value) => *value,
-        None => Frac::zero(),
-    }
-}
-
 /// The value at the place of a column: the next one where it takes one, and else 0.
 fn value_taken(takes: bool, values: &[Frac], at: usize) -> Frac
     ensures { result ≡ value_taken takes (drop at values.now) }
 {
-    if takes {
-        next_value(values, at)
-    } else {
-        Frac::zero()
+    if !takes {
+        return Frac::zero();
+    }
+    match values.get(at) {
+        Some(value) => *value,
+        None => Frac::zero(),
     }
 }
 

@@ -7,7 +7,8 @@ ghost use Rattle.cip_presolve.specs.Presolving.{PresolveIsRight, PresolveAllIsRi
 
 use crate::drafts::Draft;
 use crate::left_programs::{Presolved, compacted};
-use crate::rounds::{reduce, reduce_exactly};
+use crate::queues::Work;
+use crate::rounds::{settle, take_rounds};
 use crate::row_looks::{Place, RoundEnd};
 use cip_model::Program;
 use std::alloc::{AllocError, Global};
@@ -58,7 +59,13 @@ pub fn presolve(alloc: Global, program: &Program) -> Result<PresolveEnd, AllocEr
     let Ok(mut draft) = Draft::new(alloc, program) else {
         return Err(AllocError);
     };
-    let Ok(end) = reduce(alloc, &mut draft) else {
+    let Ok(mut work) = Work::new(alloc, draft.rows(), draft.bounds().len()) else {
+        drop(draft);
+        return Err(AllocError);
+    };
+    let told = take_rounds(alloc, &mut draft, &mut work);
+    drop(work);
+    let Ok(end) = told else {
         drop(draft);
         return Err(AllocError);
     };
@@ -74,7 +81,13 @@ pub fn presolve_all(alloc: Global, program: &Program) -> Result<PresolveEnd, All
     let Ok(mut draft) = Draft::new(alloc, program) else {
         return Err(AllocError);
     };
-    let Ok(end) = reduce_exactly(alloc, &mut draft) else {
+    let Ok(mut work) = Work::new(alloc, draft.rows(), draft.bounds().len()) else {
+        drop(draft);
+        return Err(AllocError);
+    };
+    let told = settle(alloc, &mut draft, &mut work);
+    drop(work);
+    let Ok(end) = told else {
         drop(draft);
         return Err(AllocError);
     };

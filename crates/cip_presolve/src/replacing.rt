@@ -1,7 +1,6 @@
 //! A row with the form of a column in its place.
-ghost use Rattle.std.specs.Prelude.{◌≡◌, IfOk, IfSome, ⊤};
+ghost use Rattle.std.specs.Prelude.{IfOk, IfSome, ⊤};
 ghost use Rattle.std.specs.Bool.{MatchBool};
-ghost use Rattle.cip_rational.specs.Rational.{◌*ℚ◌};
 ghost use Rattle.cip_presolve.specs.PutTerms.{HasAll};
 ghost use Rattle.cip_presolve.specs.ColumnForms.{IsReplacedIn};
 
@@ -22,16 +21,6 @@ fn coef_on(terms: &[Term], column: u32) -> Frac {
     Frac::zero()
 }
 
-/// A product, where it is in range.
-fn product(left: Frac, right: Frac) -> Option<Frac>
-    ensures { IfSome result (λ found. found ≡ left *ℚ right) }
-{
-    match left.mul(right) {
-        Ok(found) => Some(found),
-        Err(_) => None,
-    }
-}
-
 /// Puts the terms of a row into a new one with two others, whichever of them comes first: whether they could all stand
 /// there. `Err` comes where a growth was refused.
 #[tactic(auto, using(crate::proofs::RowsReplaced::turned))]
@@ -45,22 +34,25 @@ fn put_both(new: &mut Row, own: Term, other: Term, terms: &[Term]) -> Result<boo
     }
 }
 
-/// A row less so much of a column, and with so much of its form in its place; `None` where a number isn't in range.
+/// A row with the form of a column in its place; `None` where no term stands on the column, or a number isn't in range.
 /// `Err` comes where a growth was refused.
 #[tactic(auto, using(crate::proofs::RowsReplaced::replacing))]
-fn replaced_by(
+pub(crate) fn replaced(
     alloc: Global,
     row: &Row,
     column: u32,
     form: &ColumnForm,
-    coef: Frac,
 ) -> Result<Option<Row>, AllocError>
     ensures { IfOk result (λ found. IfSome found (IsReplacedIn row.now column form.now)) }
 {
-    let Some(shift) = product(coef, form.constant) else {
+    let coef = coef_on(row.terms(), column);
+    if coef.is_zero() {
+        return Ok(None);
+    }
+    let Ok(shift) = coef.mul(form.constant) else {
         return Ok(None);
     };
-    let Some(more) = product(coef, form.factor) else {
+    let Ok(more) = coef.mul(form.factor) else {
         return Ok(None);
     };
     let Some(low) = less(row.low(), shift) else {
@@ -78,26 +70,13 @@ fn replaced_by(
         coef: more,
     };
     let mut new = Row::empty(alloc, low, high);
-    if put_both(&mut new, own, other, row.terms())? {
-        Ok(Some(new))
-    } else {
-        Ok(None)
+    let Ok(whole) = put_both(&mut new, own, other, row.terms()) else {
+        drop(new);
+        return Err(AllocError);
+    };
+    if whole {
+        return Ok(Some(new));
     }
-}
-
-/// A row with the form of a column in its place; `None` where no term stands on the column, or a number isn't in range.
-/// `Err` comes where a growth was refused.
-pub(crate) fn replaced(
-    alloc: Global,
-    row: &Row,
-    column: u32,
-    form: &ColumnForm,
-) -> Result<Option<Row>, AllocError>
-    ensures { IfOk result (λ found. IfSome found (IsReplacedIn row.now column form.now)) }
-{
-    let coef = coef_on(row.terms(), column);
-    if coef.is_zero() {
-        return Ok(None);
-    }
-    replaced_by(alloc, row, column, form, coef)
+    drop(new);
+    Ok(None)
 }

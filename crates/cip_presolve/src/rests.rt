@@ -50,25 +50,9 @@ fn without(alloc: Global, row: &Row, at: usize) -> Result<Option<Row>, AllocErro
     }
 }
 
-/// Two sides between which the activity of a row without the term at a place lies, summed up anew. `Err` comes where a
-/// growth was refused.
-#[tactic(auto, using(crate::proofs::RestSums::summed))]
-fn rests_summed(alloc: Global, row: &Row, at: usize, bounds: &Bounds) -> Result<Sides, AllocError>
-    requires stands { StandsBelow (length bounds.now) row.now.terms }
-    requires inside { at < length row.now.terms }
-    ensures { IfOk result (AreRests bounds.now row.now.terms at) }
-{
-    match without(alloc, row, at)? {
-        Some(rest) => Ok(extent(&rest, bounds)),
-        None => Ok(Sides {
-            low: None,
-            high: None,
-        }),
-    }
-}
-
 /// Two sides between which the activity of a row without the term at a place lies, by the sides `whole` of the row's
 /// activity, or summed up `anew`. `Err` comes where a growth was refused.
+#[tactic(auto, using(crate::proofs::RestSums::summed))]
 pub(crate) fn rests(
     alloc: Global,
     row: &Row,
@@ -83,7 +67,13 @@ pub(crate) fn rests(
     ensures { IfOk result (AreRests bounds.now row.now.terms at) }
 {
     if anew {
-        return rests_summed(alloc, row, at, bounds);
+        return match without(alloc, row, at)? {
+            Some(rest) => Ok(extent(&rest, bounds)),
+            None => Ok(Sides {
+                low: None,
+                high: None,
+            }),
+        };
     }
     let _terms = row.terms();
     let term = term_at(row, at);

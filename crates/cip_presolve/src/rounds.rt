@@ -82,7 +82,11 @@ fn settle_columns(draft: &mut Draft) -> RoundEnd
 
 /// Takes the exact steps until none applies. `Err` comes where a growth was refused.
 #[tactic(auto, using(crate::proofs::Chained::chains))]
-fn settle(alloc: Global, draft: &mut Draft, work: &mut Work) -> Result<RoundEnd, AllocError>
+pub(crate) fn settle(
+    alloc: Global,
+    draft: &mut Draft,
+    work: &mut Work,
+) -> Result<RoundEnd, AllocError>
     requires { length draft.old.rows ≤ most_rows }
     ensures step { IsExactStep draft.old draft.new }
     ensures end { IfOk result (RoundEndsRightly draft.new) }
@@ -102,21 +106,6 @@ fn settle(alloc: Global, draft: &mut Draft, work: &mut Work) -> Result<RoundEnd,
         }
     }
     Ok(settle_columns(draft))
-}
-
-/// Takes the exact steps until none applies. `Err` comes where a growth was refused.
-pub(crate) fn reduce_exactly(alloc: Global, draft: &mut Draft) -> Result<RoundEnd, AllocError>
-    requires { length draft.old.rows ≤ most_rows }
-    ensures step { IsExactStep draft.old draft.new }
-    ensures end { IfOk result (RoundEndsRightly draft.new) }
-    ensures rows { length draft.new.rows ≡ length draft.old.rows }
-{
-    let Ok(mut work) = Work::new(alloc, draft.rows(), draft.bounds().len()) else {
-        return Err(AllocError);
-    };
-    let end = settle(alloc, draft, &mut work);
-    drop(work);
-    end
 }
 
 /// Moves the columns that no row keeps from rising, or from falling, to where they cost least, with those that follow
@@ -160,7 +149,11 @@ fn take_round(alloc: Global, draft: &mut Draft, work: &mut Work) -> Result<Round
 
 /// Takes rounds of all steps until none applies. `Err` comes where a growth was refused.
 #[tactic(auto, using(crate::proofs::Chained::dual_chains))]
-fn take_rounds(alloc: Global, draft: &mut Draft, work: &mut Work) -> Result<RoundEnd, AllocError>
+pub(crate) fn take_rounds(
+    alloc: Global,
+    draft: &mut Draft,
+    work: &mut Work,
+) -> Result<RoundEnd, AllocError>
     requires { length draft.old.rows ≤ most_rows }
     ensures step { IsStep draft.old draft.new }
     ensures end { IfOk result (RoundEndsRightly draft.new) }
@@ -176,19 +169,4 @@ fn take_rounds(alloc: Global, draft: &mut Draft, work: &mut Work) -> Result<Roun
         }
     }
     Ok(settle_columns(draft))
-}
-
-/// Takes the steps until none applies. `Err` comes where a growth was refused.
-pub(crate) fn reduce(alloc: Global, draft: &mut Draft) -> Result<RoundEnd, AllocError>
-    requires { length draft.old.rows ≤ most_rows }
-    ensures step { IsStep draft.old draft.new }
-    ensures end { IfOk result (RoundEndsRightly draft.new) }
-    ensures rows { length draft.new.rows ≡ length draft.old.rows }
-{
-    let Ok(mut work) = Work::new(alloc, draft.rows(), draft.bounds().len()) else {
-        return Err(AllocError);
-    };
-    let end = take_rounds(alloc, draft, &mut work);
-    drop(work);
-    end
 }

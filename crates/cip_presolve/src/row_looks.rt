@@ -5,12 +5,12 @@ ghost use Rattle.cip_presolve.specs.RoundEnds.{RoundEndsRightly};
 ghost use Rattle.cip_presolve.specs.declared.row_looks.RoundEnd.TheVariants.{Open};
 
 use crate::drafts::Draft;
-use crate::keys::{are_alike, row_of};
+use crate::extents::extent;
 use crate::left_rows::says_nothing;
 use crate::open::open_places;
 use crate::queues::Work;
 use crate::rules::Outcome;
-use crate::taking::{row_extent, try_implied};
+use crate::taking::try_implied;
 use crate::try_merge;
 use std::alloc::{AllocError, Global};
 
@@ -67,7 +67,7 @@ fn imply(
     ensures end { IfOk result (RoundEndsRightly draft.new) }
     ensures rows { length draft.new.rows ≡ length draft.old.rows }
 {
-    let extent = row_extent(draft, row as usize);
+    let extent = extent(draft.row(row as usize), draft.bounds());
     let open = open_places(draft, row as usize);
     let count = draft.row(row as usize).terms().len();
     for at in 0..count {
@@ -124,9 +124,10 @@ pub(crate) fn merge_pair(
     ensures end { IfOk result (RoundEndsRightly draft.new) }
     ensures rows { length draft.new.rows ≡ length draft.old.rows }
 {
-    let gone = row_of(first) as usize;
-    let stays = row_of(second);
-    if !are_alike(first, second) || gone >= draft.count() || stays as usize >= draft.count() {
+    let gone = (first & 0xFFFF_FFFF) as usize;
+    let stays = (second & 0xFFFF_FFFF) as u32;
+    let alike = first >> 32 == second >> 32;
+    if !alike || gone >= draft.count() || stays as usize >= draft.count() {
         return Ok(RoundEnd::Open);
     }
     match try_merge(alloc, draft, stays as usize, gone) {

@@ -101,7 +101,9 @@ fn source_sides(
         coef: form.factor,
     };
     let row = Row::empty(alloc, low, high);
-    let Some(implied) = single_sides(&row, term, draft.is_whole(form.source)) else {
+    let found = single_sides(&row, term, draft.is_whole(form.source));
+    drop(row);
+    let Some(implied) = found else {
         return None;
     };
     Some(draft.bounds().sides(form.source).met(implied))

@@ -1,7 +1,6 @@
 //! The rules that look at one row.
 ghost use Rattle.std.specs.Prelude.{◌≡◌, ◌<◌, length, IfOk, IfSome};
-ghost use Rattle.cip_presolve.specs.NarrowedPrograms.{IsExactStep, with_row};
-ghost use Rattle.cip_problem.specs.Program.{no_row};
+ghost use Rattle.cip_presolve.specs.NarrowedPrograms.{IsExactStep};
 ghost use Rattle.cip_problem.specs.Activity.{StandsBelow};
 ghost use Rattle.cip_presolve.specs.RuleEnds.{EndsRightly, IsSingled};
 
@@ -28,22 +27,25 @@ pub enum Outcome {
 
 /// A column, and sides for it.
 #[derive(Clone, Copy)]
-struct ColumnSides {
-    column: u32,
-    sides: Sides,
-}
-
-/// Whether a side is there and its size is above 2^100.
-fn is_far_side(side: Option<Frac>) -> bool {
-    match (side, Frac::whole(1 << 100)) {
-        (Some(side), Ok(most)) => most < side.abs(),
-        _ => false,
-    }
+pub(crate) struct ColumnSides {
+    pub(crate) column: u32,
+    pub(crate) sides: Sides,
 }
 
 /// Whether one of two sides has a size above 2^100.
 pub fn is_far(sides: Sides) -> bool {
-    is_far_side(sides.low) || is_far_side(sides.high)
+    let Ok(most) = Frac::whole(1 << 100) else {
+        return false;
+    };
+    if let Some(low) = sides.low {
+        if most < low.abs() {
+            return true;
+        }
+    }
+    match sides.high {
+        Some(high) => most < high.abs(),
+        None => false,
+    }
 }
 
 /// Whether a term stands on a column with equal sides.
@@ -59,14 +61,6 @@ fn has_fixed(terms: &[Term], bounds: &Bounds) -> bool
 }
 
 impl Draft {
-    /// Puts the row that says nothing in the place of a row.
-    fn clear_row(&mut self, alloc: Global, number: usize)
-        requires { number < length self.old.rows }
-        ensures { self.new ≡ with_row self.old number no_row }
-    {
-        self.set_row(number, Row::empty(alloc, None, None));
-    }
-
     /// Drops a row that holds at each point of the box; `NoPoint` where it holds at none.
     #[tactic(auto, using(crate::proofs::Ruled::by_extent))]
     pub fn try_redundant(&mut self, alloc: Global, number: usize) -> Outcome
@@ -77,7 +71,7 @@ impl Draft {
     {
         match row_says(self.row(number), self.bounds()) {
             RowSays::HoldsAlways => {
-                self.clear_row(alloc, number);
+                self.set_row(number, Row::empty(alloc, None, None));
                 Outcome::Gone
             }
             RowSays::HoldsNever => Outcome::NoPoint,
@@ -127,7 +121,7 @@ impl Draft {
             return Outcome::Kept;
         }
         self.set_sides(found.column, found.sides);
-        self.clear_row(alloc, number);
+        self.set_row(number, Row::empty(alloc, None, None));
         Outcome::Tightened(found.column)
     }
 

@@ -1,6 +1,5 @@
 //! Columns stay that a form or a row needs.
-ghost use Rattle.std.specs.Prelude.{◌≡◌, ◌<◌, length, All, Some};
-ghost use Rattle.std.specs.Bool.{OnTrue};
+ghost use Rattle.std.specs.Prelude.{◌<◌, length, All, Some};
 ghost use Rattle.cip_problem.specs.Activity.{StandsBelow};
 ghost use Rattle.cip_presolve.specs.ColumnsOut.{IsIn, SourceStays, SourcesStay, GoFewer};
 ghost use Rattle.cip_presolve.specs.SpentRows.{TermsInBut};
@@ -53,16 +52,6 @@ pub(crate) fn keep_sources(forms: &mut Vec<Option<ColumnForm>>)
     }
 }
 
-/// Whether a column is the one that needn't stay.
-fn is_but(but: Option<u32>, column: u32) -> bool
-    ensures { OnTrue result (but ≡ Some column) }
-{
-    match but {
-        Some(other) => other == column,
-        None => false,
-    }
-}
-
 /// The columns of a row stay, but for the one that needn't.
 #[tactic(auto, using(crate::proofs::StayingColumns::term_stays))]
 fn keep_terms(forms: &mut Vec<Option<ColumnForm>>, terms: &[Term], but: Option<u32>)
@@ -71,7 +60,7 @@ fn keep_terms(forms: &mut Vec<Option<ColumnForm>>, terms: &[Term], but: Option<u
     ensures terms { TermsInBut forms.new.items but terms.now }
 {
     for term in terms {
-        if is_but(but, term.col) {
+        if but == Some(term.col) {
             continue;
         }
         keep_column(forms, term.col as usize);

@@ -1,7 +1,7 @@
 //! What presolve took out, and the way back.
-ghost use Rattle.std.specs.Prelude.{◌≡◌, IfOk, IfErr, MatchOption};
+ghost use Rattle.std.specs.Prelude.{◌≡◌, IfOk, IfErr};
 ghost use Rattle.std.specs.Bool.{OnTrue};
-ghost use Rattle.cip_presolve.specs.StepsBack.{point_back, leaf_back, OverflowsBack, FitsBack, ComesBackAs, LeafFitsBack};
+ghost use Rattle.cip_presolve.specs.StepsBack.{point_back, leaf_back, FitsBack, LeafFitsBack};
 ghost use Rattle.cip_presolve.specs.PostsolveFaults.{IsPostsolveFault};
 
 use crate::faults::PostsolveFault;
@@ -39,23 +39,6 @@ impl Steps {
     }
 }
 
-/// The point of the program that a point of the reduced program comes back as, or that a value overflows. `Err` comes
-/// where a growth was refused.
-#[tactic(auto, using(crate::proofs::PointsBack::coming_back))]
-fn back_or_wide(
-    alloc: Global,
-    steps: &Steps,
-    point: &[Frac],
-) -> Result<Option<Vec<Frac>>, AllocError>
-    ensures { IfOk result (λ found. MatchOption found (OverflowsBack steps.now point.now)
-        (λ whole. ComesBackAs steps.now point.now whole.items)) }
-{
-    let forms = steps.forms.as_slice();
-    let left = columns_left(alloc, forms)?;
-    let at = placed(alloc, left.as_slice(), point)?;
-    filled(alloc, forms, at.as_slice())
-}
-
 /// The point of the program that a point of the reduced program comes back as: a column that stays has its value, and
 /// one that is gone that of its form. `Wide` comes exactly where a value of a form isn't in range, or a number that is
 /// formed on the way to it; `NoMemory` where a growth was refused.
@@ -64,10 +47,19 @@ pub fn postsolve(alloc: Global, steps: &Steps, point: &[Frac]) -> Result<Vec<Fra
     ensures fits { IfOk result (λ whole. FitsBack steps.now point.now) }
     ensures fault { IfErr result (IsPostsolveFault steps.now point.now) }
 {
-    match back_or_wide(alloc, steps, point) {
-        Ok(Some(whole)) => Ok(whole),
-        Ok(None) => Err(PostsolveFault::Wide),
-        Err(_) => Err(PostsolveFault::NoMemory),
+    let forms = steps.forms.as_slice();
+    let Ok(left) = columns_left(alloc, forms) else {
+        return Err(PostsolveFault::NoMemory);
+    };
+    let Ok(at) = placed(alloc, left.as_slice(), point) else {
+        return Err(PostsolveFault::NoMemory);
+    };
+    let Ok(found) = filled(alloc, forms, at.as_slice()) else {
+        return Err(PostsolveFault::NoMemory);
+    };
+    match found {
+        Some(whole) => Ok(whole),
+        None => Err(PostsolveFault::Wide),
     }
 }
 
@@ -81,7 +73,10 @@ pub fn leaf_fits(alloc: Global, steps: &Steps, wholes: &[Frac]) -> Result<bool, 
     let left = whole_and_left(alloc, forms, steps.whole.as_slice())?;
     let at = placed(alloc, left.as_slice(), wholes)?;
     match filled(alloc, forms, at.as_slice())? {
-        Some(_) => Ok(true),
+        Some(whole) => {
+            drop(whole);
+            Ok(true)
+        }
         None => Ok(false),
     }
 }

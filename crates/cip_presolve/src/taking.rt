@@ -5,29 +5,11 @@ ghost use Rattle.cip_presolve.specs.RuleEnds.{EndsRightly};
 ghost use Rattle.cip_presolve.specs.Taken.{IsEnclosed, IsImplied};
 
 use crate::drafts::Draft;
-use crate::extents::extent;
-use crate::implied::implied_sides;
-use crate::rests::{rests, term_at};
-use crate::rules::{Outcome, is_far};
-use cip_lin::Sides;
+use crate::rests::{difference, rests, term_at};
+use crate::rules::{ColumnSides, Outcome, is_far};
+use crate::single_rows::single_sides;
+use cip_lin::{Row, Sides};
 use std::alloc::{AllocError, Global};
-
-/// A column, and sides for it.
-#[derive(Clone, Copy)]
-struct ColumnSides {
-    column: u32,
-    sides: Sides,
-}
-
-/// Two sides between which the activity of a row of a program in work lies: the least and the greatest activity, where
-/// they are in range.
-#[tactic(auto, using(crate::proofs::ImpliedSides::enclosing))]
-pub fn row_extent(draft: &Draft, number: usize) -> Sides
-    requires { number < length draft.now.rows }
-    ensures { IsEnclosed draft.now number result }
-{
-    extent(draft.row(number), draft.bounds())
-}
 
 /// The whole column of the term of a row at a place, and its sides met with those that the row implies; `None` where it
 /// isn't whole, or a number isn't in range, and `Err` where a growth was refused.
@@ -53,7 +35,9 @@ fn implied(
         return Ok(None);
     }
     let others = rests(alloc, row, at, draft.bounds(), extent, anew)?;
-    let Some(implied) = implied_sides(alloc, row, at, others, true) else {
+    let low = difference(row.low(), others.high);
+    let high = difference(row.high(), others.low);
+    let Some(implied) = single_sides(&Row::empty(alloc, low, high), term, true) else {
         return Ok(None);
     };
     Ok(Some(ColumnSides {

@@ -1,7 +1,6 @@
 //! Terms put into a row, two of them wait for their place.
-ghost use Rattle.std.specs.Prelude.{◌≡◌, [], IfOk, IfSome, ⊤};
+ghost use Rattle.std.specs.Prelude.{IfOk, IfSome, ⊤};
 ghost use Rattle.std.specs.Bool.{MatchBool};
-ghost use Rattle.cip_rational.specs.Rational.{zeroℚ};
 ghost use Rattle.cip_presolve.specs.PutTerms.{HasMore, HasMet, HasBoth, HasAll};
 
 use cip_frac::Frac;
@@ -24,17 +23,6 @@ fn put(row: &mut Row, term: Term) -> Result<bool, AllocError>
     }
 }
 
-/// The term of a column with the coefficient 0.
-fn none_on(column: u32) -> Term
-    ensures column { result.column ≡ column }
-    ensures nothing { result.coefficient ≡ zeroℚ }
-{
-    Term {
-        col: column,
-        coef: Frac::zero(),
-    }
-}
-
 /// Puts a term that waits at the end of a row, where its column comes before that of another term, and adds it to that
 /// where both stand on one column. Then none waits: the coefficient is 0. Answers the other term, `None` where a number
 /// isn't in range, or the term couldn't stand there; `Err` comes where a growth was refused.
@@ -49,7 +37,7 @@ fn meet(row: &mut Row, waiting: &mut Term, term: Term) -> Result<Option<Term>, A
         let Ok(coef) = term.coef.add(waiting.coef) else {
             return Ok(None);
         };
-        *waiting = none_on(term.col);
+        waiting.coef = Frac::zero();
         return Ok(Some(Term {
             col: term.col,
             coef,
@@ -58,7 +46,7 @@ fn meet(row: &mut Row, waiting: &mut Term, term: Term) -> Result<Option<Term>, A
     if !put(row, *waiting)? {
         return Ok(None);
     }
-    *waiting = none_on(waiting.col);
+    waiting.coef = Frac::zero();
     Ok(Some(term))
 }
 
@@ -83,18 +71,6 @@ fn put_next(
     put(row, term)
 }
 
-/// Puts two terms at the end of a row, one after the other: whether they could stand there. `Err` comes where a growth
-/// was refused.
-#[tactic(auto, using(crate::proofs::TermsPut::two_more))]
-fn put_two(row: &mut Row, first: Term, second: Term) -> Result<bool, AllocError>
-    ensures { IfOk result (λ whole. MatchBool whole (HasAll row.old first second [] row.new) ⊤) }
-{
-    if !put(row, first)? {
-        return Ok(false);
-    }
-    put(row, second)
-}
-
 /// Puts terms into a row by rising column, and with them two others, the first of which comes before the second:
 /// whether they could all stand there. `Err` comes where a growth was refused.
 #[tactic(auto, using(crate::proofs::TermsPut::all_put))]
@@ -113,5 +89,8 @@ pub(crate) fn put_all(
             return Ok(false);
         }
     }
-    put_two(row, one, other)
+    if !put(row, one)? {
+        return Ok(false);
+    }
+    put(row, other)
 }

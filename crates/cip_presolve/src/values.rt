@@ -1,6 +1,5 @@
 //! The values of all columns at a point that has those of the columns that stay at their places.
-ghost use Rattle.std.specs.Prelude.{◌≡◌, ◌<◌, length, IfOk, Ok, IsOk, MatchOption};
-ghost use Rattle.cip_problem.specs.Activity.{value_at};
+ghost use Rattle.std.specs.Prelude.{◌≡◌, ◌<◌, length, IfOk, Ok, MatchOption};
 ghost use Rattle.cip_presolve.specs.Leaf.{at_wholes};
 ghost use Rattle.cip_presolve.specs.Forms.{filled};
 ghost use Rattle.cip_presolve.specs.StepsBack.{value_outcome, HasOverflow, WholesFit};
@@ -10,16 +9,6 @@ use crate::forms::ColumnForm;
 use cip_frac::{Frac, Wide};
 use std::alloc::{AllocError, Global};
 
-/// The value of a column at a point, 0 past the end.
-fn value_at(point: &[Frac], column: u32) -> Frac
-    ensures { result ≡ value_at point.now column }
-{
-    match point.get(column as usize) {
-        Some(value) => *value,
-        None => Frac::zero(),
-    }
-}
-
 /// The value of a column: its own at a point where it stays, and that of its form where it is gone, or the operation
 /// that overflows.
 fn value_outcome(form: &Option<ColumnForm>, point: &[Frac], column: usize) -> Result<Frac, Wide>
@@ -28,7 +17,10 @@ fn value_outcome(form: &Option<ColumnForm>, point: &[Frac], column: usize) -> Re
 {
     match form {
         Some(form) => {
-            let value = value_at(point, form.source);
+            let value = match point.get(form.source as usize) {
+                Some(value) => *value,
+                None => Frac::zero(),
+            };
             form.constant.plus_product(form.factor, value)
         }
         None => Ok(point[column]),
@@ -58,18 +50,6 @@ pub(crate) fn filled(
     Ok(Some(whole))
 }
 
-/// The value of a column that doesn't overflow.
-fn fitting_value(form: &Option<ColumnForm>, point: &[Frac], column: usize) -> Frac
-    requires inside { column < length point.now }
-    requires fits { IsOk (value_outcome form.now point.now column) }
-    ensures { value_outcome form.now point.now column ≡ Ok result }
-{
-    match value_outcome(form, point, column) {
-        Ok(value) => value,
-        Err(_) => unreachable!(),
-    }
-}
-
 /// The values of the whole columns of a point with the values of the columns that are gone. `Err` comes where a growth
 /// was refused.
 #[tactic(auto, using(crate::proofs::FilledPoints::filling_wholes))]
@@ -89,7 +69,10 @@ pub(crate) fn wholes_filled(
             continue;
         }
         let form = &forms[column];
-        all.push(fitting_value(form, point, column))?;
+        match value_outcome(form, point, column) {
+            Ok(value) => all.push(value)?,
+            Err(_) => unreachable!(),
+        }
     }
     Ok(all)
 }

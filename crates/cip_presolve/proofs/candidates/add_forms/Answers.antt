@@ -2,15 +2,6 @@ use Rattle.std.proofs.lemmas.Grind.{common_steps}
 use Rattle.std.proofs.Common.{arith}
 use Rattle.cip_presolve.proofs.candidates.add_forms.Goals as goal
 
-pub add_row-requires-clause-inside : goal.add_row-requires-clause-inside
-add_row-requires-clause-inside c = omega arith
-
-pub add_row-requires-clause-may : goal.add_row-requires-clause-may
-add_row-requires-clause-may c = grind (arith, common_steps)
-
-pub loop-number-preserved : goal.loop-number-preserved
-loop-number-preserved c = grind (arith, common_steps)
-
 pub returns : goal.returns
 returns c = grind (arith, common_steps)
 

@@ -14,6 +14,3 @@ index_mut-requires c = grind (arith, common_steps)
 
 pub returns-in-None : goal.returns-in-None
 returns-in-None c = grind (arith, common_steps)
-
-pub returns-then-not-is_lone : goal.returns-then-not-is_lone
-returns-then-not-is_lone c = grind (arith, common_steps)

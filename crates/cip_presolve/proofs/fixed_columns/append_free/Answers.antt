@@ -16,6 +16,3 @@ bounds-terms-term-index c = grind (arith, common_steps)
 
 pub offset_bounds-terms-term-index : goal.offset_bounds-terms-term-index
 offset_bounds-terms-term-index c = grind (arith, common_steps)
-
-pub returns-then-not-branch : goal.returns-then-not-branch
-returns-then-not-branch c = grind (arith, common_steps)

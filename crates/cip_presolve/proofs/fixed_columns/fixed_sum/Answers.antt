@@ -16,6 +16,3 @@ sides-requires c = grind (arith, common_steps)
 
 pub offset_bounds-terms-term-index : goal.offset_bounds-terms-term-index
 offset_bounds-terms-term-index c = grind (arith, common_steps)
-
-pub returns-then-not-add_value : goal.returns-then-not-add_value
-returns-then-not-add_value c = grind (arith, common_steps)

@@ -8,9 +8,9 @@ use Rattle.cip_presolve.specs.RowReading.{fixed_from, free_terms}
 use Rattle.cip_presolve.proofs.FixedColumns.{left_row, free_stands}
 use Rattle.cip_presolve.proofs.fixed_columns.without_fixed.Goals as goal
 
-pub returns-then-branch : goal.returns-then-branch
-returns-then-branch c =
-    let k = rw c.if-branch.true at c.in_ok-append_free.ensures in
+pub returns-then-whole : goal.returns-then-whole
+returns-then-whole c =
+    let k = rw c.if-whole.true at c.in-Ok.ensures in
     let none : c.empty-left.result.terms ≡ [] = ap (λ (r : Row). r.terms) c.empty-left.ensures in
     let terms : c.append_free.new.row.terms ≡ free_terms c.args.row.now.terms c.args.bounds.now = ap (λ (r : Row). r.terms) k ∙ rw (none, c.terms-2.ensures.terms) refl in
     let shift : c.in-Some.shift ≡ fixed_from zeroℚ c.args.row.now.terms c.args.bounds.now = rw (← c.terms.ensures.terms) c.in-Some.ensures in
@@ -24,9 +24,3 @@ append_free-requires c = grind (arith, common_steps)
 
 pub fixed_sum-requires : goal.fixed_sum-requires
 fixed_sum-requires c = grind (arith, common_steps)
-
-pub returns-else-branch : goal.returns-else-branch
-returns-else-branch c = grind (arith, common_steps)
-
-pub same-left : goal.same-left
-same-left c = grind (arith, common_steps)

@@ -1,6 +1,7 @@
 use Rattle.std.proofs.lemmas.Grind.{common_steps}
 use Rattle.std.proofs.Common.{◌≡◌, sym, ap, ◌∙◌, subst, arith}
 use Rattle.cip_presolve.specs.EntriesLeft.{gone_of}
+use Rattle.cip_presolve.specs.StepsBack.{StepsTaken}
 use Rattle.cip_presolve.specs.LeftProgram.{left_program}
 use Rattle.cip_presolve.specs.PresolvedPrograms.{IsPresolved, IsExactlyPresolved}
 use Rattle.cip_presolve.proofs.LeftPairs.{leaves, left_pair, left_exact_pair, left_numbers, left_whole, can_leave}
@@ -12,7 +13,7 @@ returns-in-Ok-left-clause-pair c =
     let gone : c.in-Ok.out.gone.items ≡ gone_of c.in-Ok.out.forms.items = c.in-Ok.ensures.gone in
     let reduced : c.in-Ok-left.reduced ≡ left_program c.args.program.now c.args.draft c.in-Ok.out.gone.items = c.in-Ok-left.ensures ∙ ap (λ g. left_program c.args.program.now c.args.draft g) c.as_slice.ensures.value in
     let whole : c.in-Ok.out.whole.items ≡ c.args.program.now.integral = c.in-Ok.ensures.lists.1 in
-    subst (IsPresolved c.args.program.now) (sym c.way_back.ensures) (record {
+    subst (λ (s : StepsTaken). IsPresolved c.args.program.now (record { reduced = c.in-Ok-left.reduced; steps = s; kept = c.in-Ok.out.kept })) (sym c.new.ensures) (record {
       pair = left_pair c.args.program.now c.args.draft c.in-Ok-left.reduced c.in-Ok.out.forms.items c.in-Ok.out.gone.items c.columns-columns.ensures.formed c.bounds-bounds.ensures.formed c.requires.step c.requires.rows
           (leaves c.args.draft c.in-Ok.out.forms.items c.bounds-bounds.ensures.formed c.in-Ok.ensures.may c.in-Ok.ensures.sources c.in-Ok.ensures.rows) gone reduced;
       numbers = record {
@@ -28,7 +29,7 @@ returns-in-Ok-left-clause-exact c step =
     let gone : c.in-Ok.out.gone.items ≡ gone_of c.in-Ok.out.forms.items = c.in-Ok.ensures.gone in
     let reduced : c.in-Ok-left.reduced ≡ left_program c.args.program.now c.args.draft c.in-Ok.out.gone.items = c.in-Ok-left.ensures ∙ ap (λ g. left_program c.args.program.now c.args.draft g) c.as_slice.ensures.value in
     let whole : c.in-Ok.out.whole.items ≡ c.args.program.now.integral = c.in-Ok.ensures.lists.1 in
-    subst (IsExactlyPresolved c.args.program.now) (sym c.way_back.ensures) (record {
+    subst (λ (s : StepsTaken). IsExactlyPresolved c.args.program.now (record { reduced = c.in-Ok-left.reduced; steps = s; kept = c.in-Ok.out.kept })) (sym c.new.ensures) (record {
       pair = left_exact_pair c.args.program.now c.args.draft c.in-Ok-left.reduced c.in-Ok.out.forms.items c.in-Ok.out.gone.items c.columns-columns.ensures.formed c.bounds-bounds.ensures.formed step c.requires.rows
           (leaves c.args.draft c.in-Ok.out.forms.items c.bounds-bounds.ensures.formed c.in-Ok.ensures.may c.in-Ok.ensures.sources c.in-Ok.ensures.rows) gone reduced;
       numbers = record {

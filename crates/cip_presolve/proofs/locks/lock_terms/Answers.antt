@@ -5,12 +5,12 @@ use Rattle.cip_presolve.specs.FreeColumns.{turned}
 use Rattle.cip_presolve.proofs.Free.{term_lets, term_locks}
 use Rattle.cip_presolve.proofs.locks.lock_terms.Goals as goal
 
-pub loop-term-preserved-then-high_lets_fall : goal.loop-term-preserved-then-high_lets_fall
-loop-term-preserved-then-high_lets_fall c =
+pub loop-term-preserved-then-let_fall : goal.loop-term-preserved-then-let_fall
+loop-term-preserved-then-let_fall c =
     let coef : c.turned-coef.result ≡ turned c.args.rising c.term-item.result.coefficient =
     c.turned-coef.ensures ∙ ap (λ (t : Term). turned c.args.rising t.coefficient) c.term.view_is in
     term_lets c.args.rising c.args.free.now.items c.loop-term.free.items c.args.low.now c.args.high.now c.args.terms.now c.loop-term.term-index c.term-item.result c.turned-coef.result
-    c.loop-term.invariant c.loop-term-test.true c.term-item.is coef c.if-low_lets_fall.ensures c.if-high_lets_fall.ensures
+    c.loop-term.invariant c.loop-term-test.true c.term-item.is coef c.if-let_fall.ensures.low c.if-let_fall.ensures.high
 
 pub loop-term-preserved : goal.loop-term-preserved
 loop-term-preserved c =

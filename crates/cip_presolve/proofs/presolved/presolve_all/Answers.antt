@@ -7,19 +7,19 @@ use Rattle.cip_search.proofs.Pairing.{exact_step}
 use Rattle.cip_presolve.specs.DraftParts.{unnamed}
 use Rattle.cip_presolve.proofs.presolved.presolve_all.Goals as goal
 
-pub reduce_exactly-requires : goal.reduce_exactly-requires
-reduce_exactly-requires c = subst (λ (p : Program). length p.rows ≤ most_rows) (sym c.in-Ok.ensures) c.columns-columns.ensures.formed.few_rows
+pub settle-told-requires : goal.settle-told-requires
+settle-told-requires c = subst (λ (p : Program). length p.rows ≤ most_rows) (sym c.in-Ok.ensures) c.columns-columns.ensures.formed.few_rows
 
 pub ended-requires-clause-step : goal.ended-requires-clause-step
-ended-requires-clause-step c = exact_step _ _ (subst (λ (p : Program). IsExactStep p c.reduce_exactly.new.draft) c.in-Ok.ensures c.reduce_exactly.ensures.step)
+ended-requires-clause-step c = exact_step _ _ (subst (λ (p : Program). IsExactStep p c.settle-told.new.draft) c.in-Ok.ensures c.settle-told.ensures.step)
 
 pub ended-requires-clause-rows : goal.ended-requires-clause-rows
-ended-requires-clause-rows c = c.reduce_exactly.ensures.rows ∙ ap (λ (p : Program). length p.rows) c.in-Ok.ensures
+ended-requires-clause-rows c = c.settle-told.ensures.rows ∙ ap (λ (p : Program). length p.rows) c.in-Ok.ensures
 
 pub returns : goal.returns
 returns c =
-    let step : IsExactStep (unnamed c.args.program.now) c.reduce_exactly.new.draft = subst (λ (p : Program). IsExactStep p c.reduce_exactly.new.draft) c.in-Ok.ensures c.reduce_exactly.ensures.step in
+    let step : IsExactStep (unnamed c.args.program.now) c.settle-told.new.draft = subst (λ (p : Program). IsExactStep p c.settle-told.new.draft) c.in-Ok.ensures c.settle-told.ensures.step in
     IfOk-weaker c.ended.result _ _ (λ found f. f step) c.ended.ensures.exact
 
 pub ended-requires-clause-end : goal.ended-requires-clause-end
-ended-requires-clause-end c = c.in-Ok-reduce_exactly.ensures.end
+ended-requires-clause-end c = c.in-Ok-told.ensures.end

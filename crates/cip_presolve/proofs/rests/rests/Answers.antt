@@ -5,7 +5,7 @@ use Rattle.cip_problem.specs.Program.{Term, Sides}
 use Rattle.cip_problem.specs.Box.{sides_at}
 use Rattle.cip_presolve.specs.RowSums.{least_added}
 use Rattle.cip_presolve.specs.Rests.{IsDifference}
-use Rattle.cip_presolve.proofs.RestSums.{rested}
+use Rattle.cip_presolve.proofs.RestSums.{rested, less_stands, rests_by}
 use Rattle.cip_presolve.proofs.ImpliedSides.{term_inside}
 use Rattle.cip_presolve.proofs.rests.rests.Goals as goal
 
@@ -30,14 +30,13 @@ sides-sides-requires c =
     subst (λ n. n < length c.args.bounds.now) (sym (ap (λ (t : Term). t.column) c.term.view_is))
     (term_inside (length c.args.bounds.now) c.args.row.now.terms c.args.at c.term_at-term.result c.requires.stands c.term_at-term.ensures.term)
 
-pub rests_summed-requires-clause-stands : goal.rests_summed-requires-clause-stands
-rests_summed-requires-clause-stands c = omega arith
-
 pub term_at-term-requires : goal.term_at-term-requires
 term_at-term-requires c = grind (arith, common_steps)
 
-pub rests_summed-requires-clause-inside : goal.rests_summed-requires-clause-inside
-rests_summed-requires-clause-inside c = grind (arith, common_steps)
+pub extent-requires : goal.extent-requires
+extent-requires c =
+    less_stands (length c.args.bounds.now) c.args.row.now.terms c.in-Some.rest.terms c.args.at (rw c.in-Some.is at c.in_ok-rest.ensures) c.requires.stands
 
-pub returns-then-anew : goal.returns-then-anew
-returns-then-anew c = grind (arith, common_steps)
+pub returns-in-Some : goal.returns-in-Some
+returns-in-Some c =
+    rests_by c.args.bounds.now c.args.row.now.terms c.in-Some.rest.terms c.args.at c.extent.result c.requires.inside (rw c.in-Some.is at c.in_ok-rest.ensures) c.extent.ensures

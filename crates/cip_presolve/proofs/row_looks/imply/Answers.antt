@@ -1,6 +1,6 @@
 use Rattle.std.proofs.lemmas.Grind.{common_steps}
 use Rattle.std.proofs.Common.{◌∙◌, refl, arith}
-use Rattle.cip_presolve.proofs.ImpliedSides.{stays_enclosed}
+use Rattle.cip_presolve.proofs.ImpliedSides.{enclosed_by, stays_enclosed}
 use Rattle.cip_search.proofs.Pairing.{exact_self, exact_after}
 use Rattle.cip_presolve.proofs.row_looks.imply.Goals as goal
 
@@ -21,7 +21,7 @@ pub returns-in_err-tell-in-Ok-clause-step : goal.returns-in_err-tell-in-Ok-claus
 returns-in_err-tell-in-Ok-clause-step c = exact_after _ _ _ c.loop-at.invariant.step c.try_implied.ensures.step
 
 pub loop-at-init : goal.loop-at-init
-loop-at-init c = record { step = exact_self c.args.draft.now; rows = refl; enclosed = c.row_extent-extent.ensures }
+loop-at-init c = record { step = exact_self c.args.draft.now; rows = refl; enclosed = enclosed_by c.args.draft.now c.args.row c.row.result.now c.bounds.result.now c.extent-extent.result c.row.ensures.row c.bounds.ensures.bounds c.extent-extent.ensures }
 
 pub returns-clause-rows : goal.returns-clause-rows
 returns-clause-rows c = grind (arith, common_steps)

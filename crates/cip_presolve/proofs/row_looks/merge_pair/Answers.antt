@@ -46,6 +46,3 @@ overflow_cast-stays c = grind (arith, common_steps)
 
 pub overflow_cast-gone : goal.overflow_cast-gone
 overflow_cast-gone c = grind (arith, common_steps)
-
-pub returns-then-not-are_alike-clause-end : goal.returns-then-not-are_alike-clause-end
-returns-then-not-are_alike-clause-end c = grind (arith, common_steps)

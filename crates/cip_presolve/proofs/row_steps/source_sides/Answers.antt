@@ -24,7 +24,7 @@ returns c =
     let other : c.sides.result ≡ sides_at c.args.draft.now.bounds c.args.form.now.source =
     c.sides.ensures ∙ ap (λ (box : List Sides). sides_at box c.form.inside.source) c.bounds-2.ensures.bounds ∙ ap (λ n. sides_at c.args.draft.now.bounds n) source in
     let are : c.met.result ≡ met (sides_at c.args.draft.now.bounds c.args.form.now.source) (single_sides c.is_whole.result c.empty-row.result term) =
-    c.met.ensures ∙ ap (λ s. met s c.in-Some-single_sides.implied) other ∙ ap (λ s. met (sides_at c.args.draft.now.bounds c.args.form.now.source) s) c.in-Some-single_sides.ensures in
+    c.met.ensures ∙ ap (λ s. met s c.in-Some-found.implied) other ∙ ap (λ s. met (sides_at c.args.draft.now.bounds c.args.form.now.source) s) c.in-Some-found.ensures in
     source_implied c.args.draft.now c.args.place c.args.column c.args.form.now c.empty-row.result term c.is_whole.result c.met.result c.requires.there c.requires.gives c.requires.substitute
     (λ e. true≢false (sym (c.is_zero.ensures.1 (factor ∙ e)) ∙ c.if-is_zero.false)) low high source factor whole are
 
@@ -40,5 +40,5 @@ sides-requires c =
 pub sides-own-requires : goal.sides-own-requires
 sides-own-requires c = grind (arith, common_steps)
 
-pub single_sides-requires : goal.single_sides-requires
-single_sides-requires c = grind (arith, common_steps)
+pub single_sides-found-requires : goal.single_sides-found-requires
+single_sides-found-requires c = grind (arith, common_steps)

@@ -1,18 +1,13 @@
 use Rattle.std.proofs.lemmas.Grind.{common_steps}
 use Rattle.std.proofs.Common.{ap, arith}
 use Rattle.cip_problem.specs.Program.{Term}
-use Rattle.cip_presolve.proofs.StayingColumns.{term_in, term_but, all_kept}
+use Rattle.cip_presolve.proofs.StayingColumns.{term_in, all_kept}
 use Rattle.cip_presolve.proofs.staying.keep_terms.Goals as goal
 
 pub loop-term-preserved : goal.loop-term-preserved
 loop-term-preserved c =
     term_in c.args.forms.now.items c.loop-term.forms.items c.keep_column.new.forms.items c.args.but c.args.terms.now c.loop-term.term-index c.term.inside.col c.term-item.result
     c.loop-term.invariant c.loop-term-test.true c.term-item.is (ap (λ (t : Term). t.column) c.term.view_is) c.keep_column.ensures.fewer c.keep_column.ensures.stays
-
-pub loop-term-preserved-then-is_but : goal.loop-term-preserved-then-is_but
-loop-term-preserved-then-is_but c =
-    term_but c.args.forms.now.items c.loop-term.forms.items c.args.but c.args.terms.now c.loop-term.term-index c.term.inside.col c.term-item.result
-    c.loop-term.invariant c.loop-term-test.true c.term-item.is (ap (λ (t : Term). t.column) c.term.view_is) c.if-is_but.ensures
 
 pub returns-clause-terms : goal.returns-clause-terms
 returns-clause-terms c = all_kept c.args.forms.now.items c.loop-term.forms.items c.args.but c.args.terms.now c.loop-term.term-index c.loop-term.invariant c.loop-term-test.false

@@ -27,9 +27,9 @@ returns-in-Some c =
     let left : c.in_ok-left.left.items ≡ whole_and_left c.args.steps.now.forms c.args.steps.now.whole =
     c.in_ok-left.ensures ∙ ap (λ (fs : List (Option Form)). whole_and_left fs c.as_slice.result.now) forms ∙ ap (λ (ws : List Bool). whole_and_left c.args.steps.now.forms ws) whole in
     let at : c.in_ok-at.at.items ≡ with_wholes c.in_ok-left.left.items c.args.wholes.now = c.in_ok-at.ensures ∙ ap (λ (ls : List Bool). with_wholes ls c.args.wholes.now) c.as_slice-2.ensures.value in
-    let is : IsFilled c.as_slice-forms.result.now c.as_slice-3.result.now c.in-Some.field-0.items = rw c.in-Some.is at c.in_ok-filled.ensures in
-    leaf_filled c.args.steps.now c.in_ok-left.left.items c.args.wholes.now c.in_ok-at.at.items c.in-Some.field-0.items left at
-    (subst (λ (fs : List (Option Form)). IsFilled fs c.in_ok-at.at.items c.in-Some.field-0.items) forms (subst (λ (vs : List ℚ). IsFilled c.as_slice-forms.result.now vs c.in-Some.field-0.items) c.as_slice-3.ensures.value is))
+    let is : IsFilled c.as_slice-forms.result.now c.as_slice-3.result.now c.in-Some.whole.items = rw c.in-Some.is at c.in_ok-whole.ensures in
+    leaf_filled c.args.steps.now c.in_ok-left.left.items c.args.wholes.now c.in_ok-at.at.items c.in-Some.whole.items left at
+    (subst (λ (fs : List (Option Form)). IsFilled fs c.in_ok-at.at.items c.in-Some.whole.items) forms (subst (λ (vs : List ℚ). IsFilled c.as_slice-forms.result.now vs c.in-Some.whole.items) c.as_slice-3.ensures.value is))
 
 pub returns : goal.returns
 returns c = grind (arith, common_steps)

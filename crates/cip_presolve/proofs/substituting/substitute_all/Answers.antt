@@ -5,30 +5,9 @@ use Rattle.cip_search.proofs.Pairing.{exact_after}
 
 pub loop-row-preserved : goal.loop-row-preserved
 loop-row-preserved c = record {
-  step = exact_after _ _ _ c.loop-row.invariant.step c.substitute_by.ensures.step;
-  rows = c.substitute_by.ensures.rows ∙ c.loop-row.invariant.rows;
+  step = exact_after _ _ _ c.loop-row.invariant.step c.substitute.ensures.step;
+  rows = c.substitute.ensures.rows ∙ c.loop-row.invariant.rows;
 }
-
-pub returns-in_default-clause-step : goal.returns-in_default-clause-step
-returns-in_default-clause-step c = exact_after _ _ _ c.loop-row.invariant.step c.substitute_by.ensures.step
-
-pub returns-in_default-2-clause-step : goal.returns-in_default-2-clause-step
-returns-in_default-2-clause-step c = exact_after _ _ _ c.loop-row.invariant.step c.substitute_by.ensures.step
-
-pub returns-in_default-clause-rows : goal.returns-in_default-clause-rows
-returns-in_default-clause-rows c = omega arith
-
-pub returns-in_default-2-clause-rows : goal.returns-in_default-2-clause-rows
-returns-in_default-2-clause-rows c = grind (arith, common_steps)
-
-pub returns-in_default-clause-end : goal.returns-in_default-clause-end
-returns-in_default-clause-end c = grind (arith, common_steps)
-
-pub returns-in_default-2-clause-end : goal.returns-in_default-2-clause-end
-returns-in_default-2-clause-end c = grind (arith, common_steps)
-
-pub substitute_by-requires : goal.substitute_by-requires
-substitute_by-requires c = grind (arith, common_steps)
 
 pub returns-clause-rows : goal.returns-clause-rows
 returns-clause-rows c = grind (arith, common_steps)
@@ -41,3 +20,9 @@ overflow_cast-row c = grind (arith, common_steps)
 
 pub returns-clause-end : goal.returns-clause-end
 returns-clause-end c = grind (arith, common_steps)
+
+pub returns-in_default-substitute-clause-step : goal.returns-in_default-substitute-clause-step
+returns-in_default-substitute-clause-step c = exact_after _ _ _ c.loop-row.invariant.step c.substitute.ensures.step
+
+pub returns-in_default-substitute-2-clause-step : goal.returns-in_default-substitute-2-clause-step
+returns-in_default-substitute-2-clause-step c = exact_after _ _ _ c.loop-row.invariant.step c.substitute.ensures.step

@@ -1,6 +1,6 @@
 use Rattle.std.proofs.lemmas.Grind.{common_steps}
 use Rattle.std.proofs.Common.{◌≡◌, refl, sym, ap, ◌∙◌, subst, arith}
-use Rattle.cip_rational.specs.Rational.{zeroℚ, ◌+ℚ◌}
+use Rattle.cip_rational.specs.Rational.{◌+ℚ◌}
 use Rattle.cip_problem.specs.Program.{Term}
 use Rattle.cip_presolve.specs.PutTerms.{HasMore}
 use Rattle.cip_presolve.proofs.TermsPut.{met_here, met_before}
@@ -13,18 +13,15 @@ returns-then-term-waiting-2 c =
     let wc : c.waiting.inside.col ≡ c.args.waiting.now.column = ap (λ (t : Term). t.column) c.waiting.view_is in
     let wq : c.waiting.inside.coef ≡ c.args.waiting.now.coefficient = ap (λ (t : Term). t.coefficient) c.waiting.view_is in
     let same : c.args.term.column ≡ c.args.waiting.now.column = sym tc ∙ c.if-term-waiting-2.true ∙ wc in
-    let nc : c.waiting-then-term-waiting-2.inside.col ≡ c.args.term.column = ap (λ (t : Term). t.column) c.waiting-then-term-waiting-2.view_is ∙ c.none_on.ensures.column ∙ tc in
-    let nq : c.waiting-then-term-waiting-2.inside.coef ≡ zeroℚ = ap (λ (t : Term). t.coefficient) c.waiting-then-term-waiting-2.view_is ∙ c.none_on.ensures.nothing in
-    met_here c.args.row.now c.args.row.now c.args.waiting.now _ c.args.term _ refl same nc nq tc
+    let nc : c.waiting.inside.col ≡ c.args.term.column = sym c.if-term-waiting-2.true ∙ tc in
+    met_here c.args.row.now c.args.row.now c.args.waiting.now _ c.args.term _ refl same nc c.zero-waiting-inside.ensures tc
     (c.in-Ok.ensures.1 ∙ ap (λ q. q +ℚ c.waiting.inside.coef) tq ∙ ap (λ q. c.args.term.coefficient +ℚ q) wq)
 
 pub returns : goal.returns
 returns c =
     let wc : c.waiting.inside.col ≡ c.args.waiting.now.column = ap (λ (t : Term). t.column) c.waiting.view_is in
     let more : HasMore c.args.row.now c.args.waiting.now c.put.new.row = subst (λ (t : Term). HasMore c.args.row.now t c.put.new.row) c.waiting.view_is (rw c.if-not-branch.false at c.in_ok-put.ensures) in
-    let nc : c.waiting-2.inside.col ≡ c.args.waiting.now.column = ap (λ (t : Term). t.column) c.waiting-2.view_is ∙ c.none_on-2.ensures.column ∙ wc in
-    let nq : c.waiting-2.inside.coef ≡ zeroℚ = ap (λ (t : Term). t.coefficient) c.waiting-2.view_is ∙ c.none_on-2.ensures.nothing in
-    met_before c.args.row.now c.put.new.row c.args.waiting.now _ c.args.term more nc nq
+    met_before c.args.row.now c.put.new.row c.args.waiting.now _ c.args.term more wc c.zero-waiting-inside-2.ensures
 
 pub same-term-2 : goal.same-term-2
 same-term-2 c = grind (arith, common_steps)

@@ -1,7 +1,7 @@
 use Rattle.std.proofs.lemmas.Grind.{common_steps}
 use Rattle.std.proofs.Common.{◌<◌, ◌≤◌, length, rules, arith}
-use Rattle.cip_presolve.specs.PutTerms.{HasBoth}
-use Rattle.cip_presolve.proofs.TermsPut.{none_put, next_put, all_there, under_ok}
+use Rattle.cip_presolve.specs.PutTerms.{HasMore, HasBoth}
+use Rattle.cip_presolve.proofs.TermsPut.{none_put, next_put, all_there, two_put, under_ok}
 use Rattle.cip_presolve.proofs.terms.put_all.Goals as goal
 
 pub loop-term-init : goal.loop-term-init
@@ -17,7 +17,9 @@ loop-term-preserved c =
 pub returns : goal.returns
 returns c =
     let past : length c.args.terms.now ≤ c.loop-term.term-index = search rules in
-    under_ok _ (λ a. all_there c.args.row.now c.loop-term.row _ c.args.first c.args.second c.loop-term.one c.loop-term.other c.args.terms.now c.loop-term.term-index c.loop-term.invariant past a) c.put_two.ensures
+    let more : HasMore c.loop-term.row c.loop-term.one c.put.new.row = rw c.if-not-branch-2.false at c.in_ok-put.ensures in
+    under_ok _ (λ m. all_there c.args.row.now c.loop-term.row _ c.args.first c.args.second c.loop-term.one c.loop-term.other c.args.terms.now c.loop-term.term-index c.loop-term.invariant past
+    (two_put c.loop-term.row c.put.new.row _ c.loop-term.one c.loop-term.other more m)) c.put-2.ensures
 
 pub bounds-terms-term-index : goal.bounds-terms-term-index
 bounds-terms-term-index c = omega arith

@@ -1,5 +1,6 @@
 use Rattle.std.proofs.lemmas.Grind.{common_steps}
-use Rattle.std.proofs.Common.{◌<◌, ◌≤◌, ◌++◌, sym, ap, subst, arith}
+use Rattle.std.proofs.Common.{◌<◌, ◌≤◌, ◌++◌, sym, ap, ◌∙◌, subst, true≢false, arith}
+use Rattle.std.specs.Prelude.{IsOk}
 use Rattle.cip_presolve.specs.Leaf.{at_wholes}
 use Rattle.cip_presolve.specs.Forms.{filled}
 use Rattle.cip_presolve.proofs.FilledPoints.{below_both, whole_skipped, whole_taken, all_taken, fits_at}
@@ -14,13 +15,8 @@ bounds-whole-column c = (below_both _ _ _ _ c.min-column-end.ensures c.loop-colu
 pub bounds-forms-column : goal.bounds-forms-column
 bounds-forms-column c = (below_both _ _ _ _ c.min-column-end.ensures c.loop-column-test.true).0
 
-pub fitting_value-requires-clause-inside : goal.fitting_value-requires-clause-inside
-fitting_value-requires-clause-inside c = subst (λ n. c.loop-column.column < n) c.requires.long (below_both _ _ _ _ c.min-column-end.ensures c.loop-column-test.true).0
-
-pub fitting_value-requires-clause-fits : goal.fitting_value-requires-clause-fits
-fitting_value-requires-clause-fits c =
-    let both = below_both _ _ _ _ c.min-column-end.ensures c.loop-column-test.true in
-    fits_at c.args.forms.now c.args.whole.now c.args.point.now c.loop-column.column c.index-forms-column.result c.index-forms-column.result c.requires.fit both.0 both.1 c.if-not-whole-column.false (sym c.index-forms-column.is)
+pub value_outcome-requires : goal.value_outcome-requires
+value_outcome-requires c = subst (λ n. c.loop-column.column < n) c.requires.long (below_both _ _ _ _ c.min-column-end.ensures c.loop-column-test.true).0
 
 pub loop-column-preserved-then-not-whole-column : goal.loop-column-preserved-then-not-whole-column
 loop-column-preserved-then-not-whole-column c =
@@ -30,8 +26,8 @@ loop-column-preserved-then-not-whole-column c =
 pub loop-column-preserved : goal.loop-column-preserved
 loop-column-preserved c =
     let both = below_both _ _ _ _ c.min-column-end.ensures c.loop-column-test.true in
-    whole_taken c.args.forms.now c.args.whole.now c.args.point.now c.loop-column.all.items _ _ c.loop-column.column c.index-forms-column.result c.index-forms-column.result c.fitting_value.result
-    c.requires.long both.0 both.1 c.if-not-whole-column.false (sym c.index-forms-column.is) c.fitting_value.ensures c.loop-column.invariant c.in_ok-push.ensures.items
+    whole_taken c.args.forms.now c.args.whole.now c.args.point.now c.loop-column.all.items _ _ c.loop-column.column c.index-forms-column.result c.index-forms-column.result c.in-Ok.value
+    c.requires.long both.0 both.1 c.if-not-whole-column.false (sym c.index-forms-column.is) (sym c.in-Ok.ensures) c.loop-column.invariant c.in_ok-push-in-Ok.ensures.items
 
 pub returns : goal.returns
 returns c =
@@ -39,3 +35,9 @@ returns c =
 
 pub offset_bounds-forms-column : goal.offset_bounds-forms-column
 offset_bounds-forms-column c = grind (arith, common_steps)
+
+pub unreachable-requires : goal.unreachable-requires
+unreachable-requires c =
+    let both = below_both _ _ _ _ c.min-column-end.ensures c.loop-column-test.true in
+    true≢false (sym (subst IsOk (sym c.value_outcome.ensures ∙ c.in-Err.is)
+    (fits_at c.args.forms.now c.args.whole.now c.args.point.now c.loop-column.column c.index-forms-column.result c.index-forms-column.result c.requires.fit both.0 both.1 c.if-not-whole-column.false (sym c.index-forms-column.is))))

@@ -1,14 +1,15 @@
 use Rattle.std.proofs.lemmas.Grind.{common_steps}
-use Rattle.std.proofs.Common.{List, subst, arith}
-use Rattle.cip_problem.specs.Program.{Sides}
+use Rattle.std.proofs.Common.{List, subst, ap, ◌∙◌, arith}
+use Rattle.cip_problem.specs.Program.{Sides, Row}
+use Rattle.cip_presolve.specs.NarrowedPrograms.{with_row}
 use Rattle.cip_search.specs.RowSteps.{HoldsInAll, HoldsNowhere}
 use Rattle.cip_presolve.proofs.Ruled.{dropped_by, broken_by}
 use Rattle.cip_presolve.proofs.drafts.Draft.try_redundant.Goals as goal
 
 pub returns-in-HoldsAlways-clause-step : goal.returns-in-HoldsAlways-clause-step
 returns-in-HoldsAlways-clause-step c =
-    dropped_by c.args.self.now c.clear_row.new.self c.args.number c.row.result.now c.row.ensures.row
-    (subst (λ (box : List Sides). HoldsInAll box c.row.result.now) c.bounds.ensures.bounds c.in-HoldsAlways.ensures) c.clear_row.ensures
+    dropped_by c.args.self.now c.set_row.new.self c.args.number c.row.result.now c.row.ensures.row
+    (subst (λ (box : List Sides). HoldsInAll box c.row.result.now) c.bounds.ensures.bounds c.in-HoldsAlways.ensures) (c.set_row.ensures ∙ ap (λ (r : Row). with_row c.args.self.now c.args.number r) c.empty.ensures)
 
 pub returns-in-HoldsNever-clause-end : goal.returns-in-HoldsNever-clause-end
 returns-in-HoldsNever-clause-end c =

@@ -1,6 +1,6 @@
 use Rattle.std.proofs.lemmas.Grind.{common_steps}
 use Rattle.std.proofs.Common.{length, refl, sym, ap, ◌∙◌, arith}
-use Rattle.cip_problem.specs.Program.{Program, no_row}
+use Rattle.cip_problem.specs.Program.{Program, Row, no_row}
 use Rattle.cip_presolve.specs.NarrowedPrograms.{with_row}
 use Rattle.cip_presolve.proofs.Singled.{taken_by}
 use Rattle.cip_presolve.proofs.Merged.{count_same}
@@ -34,17 +34,17 @@ set_sides-requires-clause-inside c = c.in-Some.ensures.inside
 pub set_sides-requires-clause-plain : goal.set_sides-requires-clause-plain
 set_sides-requires-clause-plain c = c.in-Some.ensures.plain
 
-pub clear_row-requires : goal.clear_row-requires
-clear_row-requires c = omega (arith, ap (λ (p : Program). length p.rows) c.set_sides.ensures, c.requires)
+pub set_row-requires-clause-inside : goal.set_row-requires-clause-inside
+set_row-requires-clause-inside c = omega (arith, ap (λ (p : Program). length p.rows) c.set_sides.ensures, c.requires)
 
 pub returns-clause-step : goal.returns-clause-step
 returns-clause-step c =
-    taken_by c.args.self.now c.clear_row.new.self c.args.number c.in-Some.found.column c.in-Some.found.sides
+    taken_by c.args.self.now c.set_row.new.self c.args.number c.in-Some.found.column c.in-Some.found.sides
     c.in-Some.ensures
-    (c.clear_row.ensures ∙ ap (λ (p : Program). with_row p c.args.number no_row) c.set_sides.ensures)
+    (c.set_row.ensures ∙ ap (λ (r : Row). with_row c.set_sides.new.self c.args.number r) c.empty.ensures ∙ ap (λ (p : Program). with_row p c.args.number no_row) c.set_sides.ensures)
 
 pub returns-clause-rows : goal.returns-clause-rows
-returns-clause-rows c = ap (λ (p : Program). length p.rows) c.clear_row.ensures ∙ count_same _ _ _
+returns-clause-rows c = ap (λ (p : Program). length p.rows) c.set_row.ensures ∙ count_same _ _ _
     ∙ ap (λ (p : Program). length p.rows) c.set_sides.ensures
 
 pub is_whole-requires : goal.is_whole-requires

@@ -1,7 +1,7 @@
 use Rattle.std.proofs.Common.{◌≡◌, length}
 use Rattle.cip_search.specs.NarrowedPrograms.{IsExactStep}
 use Rattle.cip_presolve.specs.Substitutions.{IsFound}
-use Rattle.cip_presolve.proofs.substituting.replace_all.Given as goal
+use Rattle.cip_presolve.proofs.substituting.substitute.Given as goal
 
 abbrev pub invariant-loop-at : goal.invariant-loop-at
 invariant-loop-at l = record {

@@ -1,6 +1,0 @@
-use Rattle.std.proofs.lemmas.Grind.{common_steps}
-use Rattle.std.proofs.Common.{arith}
-use Rattle.cip_presolve.proofs.lone.is_lone.Goals as goal
-
-pub get-requires : goal.get-requires
-get-requires c = grind (arith, common_steps)
