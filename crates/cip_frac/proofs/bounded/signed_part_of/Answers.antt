@@ -27,3 +27,6 @@ overflow_cast-result-then-g c = omega arith
 
 pub nonzero_div-result-else-is_short : goal.nonzero_div-result-else-is_short
 nonzero_div-result-else-is_short c = grind (arith, common_steps)
+
+pub overflow_cast-result-else-is_short : goal.overflow_cast-result-else-is_short
+overflow_cast-result-else-is_short c = grind (arith, common_steps)

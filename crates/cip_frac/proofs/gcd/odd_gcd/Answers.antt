@@ -1,3 +1,5 @@
+use Rattle.std.proofs.lemmas.Grind.{common_steps}
+use Rattle.std.proofs.Common.{arith}
 use Rattle.cip_frac.proofs.Halves.{low_odd, next_odd, same_gcd, same_itself}
 use Rattle.cip_frac.proofs.gcd.odd_gcd.Goals as goal
 
@@ -11,3 +13,9 @@ loop-x-preserved c =
 
 pub returns : goal.returns
 returns c = c.loop-x.invariant.same _ (same_itself _ _ c.loop-x-test.false)
+
+pub loop-x-smaller : goal.loop-x-smaller
+loop-x-smaller c = grind (arith, common_steps)
+
+pub loop-x-init : goal.loop-x-init
+loop-x-init c = grind (arith, common_steps)

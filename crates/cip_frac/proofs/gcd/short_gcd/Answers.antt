@@ -26,3 +26,15 @@ returns-then-b-eq0 c = grind (arith, common_steps)
 
 pub returns-then-a-eq0 : goal.returns-then-a-eq0
 returns-then-a-eq0 c = grind (arith, common_steps)
+
+pub stripped_gcd-requires-clause-second : goal.stripped_gcd-requires-clause-second
+stripped_gcd-requires-clause-second c = grind (arith, common_steps)
+
+pub stripped_gcd-requires-clause-first : goal.stripped_gcd-requires-clause-first
+stripped_gcd-requires-clause-first c = grind (arith, common_steps)
+
+pub narrowed-low-requires-clause-second : goal.narrowed-low-requires-clause-second
+narrowed-low-requires-clause-second c = grind (arith, common_steps)
+
+pub narrowed-low-requires-clause-first : goal.narrowed-low-requires-clause-first
+narrowed-low-requires-clause-first c = grind (arith, common_steps)

@@ -28,3 +28,18 @@ reduced-requires c = grind (arith, common_steps)
 
 pub short_sum-requires-clause-other_small : goal.short_sum-requires-clause-other_small
 short_sum-requires-clause-other_small c = omega arith
+
+pub returns-in-None : goal.returns-in-None
+returns-in-None c = grind (arith, common_steps)
+
+pub returns-in_default-checked_mul : goal.returns-in_default-checked_mul
+returns-in_default-checked_mul c = grind (arith, common_steps)
+
+pub returns-in_default-short_terms-2 : goal.returns-in_default-short_terms-2
+returns-in_default-short_terms-2 c = grind (arith, common_steps)
+
+pub returns-in_default-short_terms : goal.returns-in_default-short_terms
+returns-in_default-short_terms c = grind (arith, common_steps)
+
+pub returns-in_default : goal.returns-in_default
+returns-in_default c = grind (arith, common_steps)

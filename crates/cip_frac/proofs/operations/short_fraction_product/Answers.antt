@@ -1,4 +1,5 @@
-use Rattle.std.proofs.Common.{◌≡◌, ◌∙◌, rules}
+use Rattle.std.proofs.lemmas.Grind.{common_steps}
+use Rattle.std.proofs.Common.{◌≡◌, ◌∙◌, rules, arith}
 use Rattle.cip_frac.proofs.ShortSums.{word}
 use Rattle.cip_frac.proofs.ShortParts.{g_some, h_some, g_short, h_short, product_fits, product_lowest, product_is}
 use Rattle.cip_frac.proofs.operations.short_fraction_product.Goals as goal
@@ -59,3 +60,9 @@ returns c =
       c.of_lowest.ensures ∙ product_is c.args.left c.args.right c.in-Some.a c.in-Some-short_terms.c _ _ _ _ _ _ c.in-Some.ensures c.in-Some-short_terms.ensures ka kc c.unsigned_abs.ensures.value c.short_gcd-g.ensures c.unsigned_abs-2.ensures.value c.short_gcd-h.ensures
           _ _ _ _ _ _ c.short_signed_part_of.ensures c.short_signed_part_of-2.ensures kp kq c.wide_product-numerator.ensures.value c.wide_product-numerator.ensures.small c.short_part_of.ensures c.short_part_of-2.ensures c.wide_common-denominator.ensures,
     )
+
+pub returns-in_default-short_terms : goal.returns-in_default-short_terms
+returns-in_default-short_terms c = grind (arith, common_steps)
+
+pub returns-in_default : goal.returns-in_default
+returns-in_default c = grind (arith, common_steps)

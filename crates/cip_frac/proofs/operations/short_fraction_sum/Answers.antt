@@ -70,3 +70,12 @@ overflow_mul-under c = grind (arith, common_steps)
 
 pub overflow_cast-under : goal.overflow_cast-under
 overflow_cast-under c = omega arith
+
+pub overflow_cast-g : goal.overflow_cast-g
+overflow_cast-g c = grind (arith, common_steps)
+
+pub returns-in_default-short_terms : goal.returns-in_default-short_terms
+returns-in_default-short_terms c = grind (arith, common_steps)
+
+pub returns-in_default : goal.returns-in_default
+returns-in_default c = grind (arith, common_steps)

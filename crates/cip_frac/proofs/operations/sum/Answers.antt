@@ -1,3 +1,5 @@
+use Rattle.std.proofs.lemmas.Grind.{common_steps}
+use Rattle.std.proofs.Common.{arith}
 use Rattle.cip_frac.proofs.WholeNumbers.{whole_sum_is}
 use Rattle.cip_frac.proofs.operations.sum.Goals as goal
 
@@ -5,3 +7,6 @@ pub returns-then-d-eq1 : goal.returns-then-d-eq1
 returns-then-d-eq1 c =
     whole_sum_is c.args.left c.args.right _ _ _ _ c.terms-a.ensures.over c.terms-a.ensures.under c.terms-a.ensures.lowest c.terms-c.ensures.over c.terms-c.ensures.under c.terms-c.ensures.lowest
     c.if-b-eq1.true c.if-d-eq1.true c.whole_sum.result c.whole_sum.ensures
+
+pub returns : goal.returns
+returns c = grind (arith, common_steps)

@@ -12,3 +12,18 @@ returns-clause-text c = grind (arith, common_steps)
 
 pub copy_from_slice-requires : goal.copy_from_slice-requires
 copy_from_slice-requires c = omega arith
+
+pub overflow_add-end : goal.overflow_add-end
+overflow_add-end c = grind (arith, common_steps)
+
+pub slice_bounds-copy_from_slice-count : goal.slice_bounds-copy_from_slice-count
+slice_bounds-copy_from_slice-count c = grind (arith, common_steps)
+
+pub slice_bounds-copy_from_slice-start : goal.slice_bounds-copy_from_slice-start
+slice_bounds-copy_from_slice-start c = grind (arith, common_steps)
+
+pub slice_bounds-copy_from_slice-end : goal.slice_bounds-copy_from_slice-end
+slice_bounds-copy_from_slice-end c = grind (arith, common_steps)
+
+pub returns-clause-end : goal.returns-clause-end
+returns-clause-end c = grind (arith, common_steps)

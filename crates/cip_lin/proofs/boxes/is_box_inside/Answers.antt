@@ -10,3 +10,15 @@ loop-at-preserved c = grind (arith, common_steps)
 
 pub returns : goal.returns
 returns c = grind (arith, common_steps)
+
+pub bounds-outer-at : goal.bounds-outer-at
+bounds-outer-at c = grind (arith, common_steps)
+
+pub bounds-own-at : goal.bounds-own-at
+bounds-own-at c = grind (arith, common_steps)
+
+pub offset_bounds-outer-at : goal.offset_bounds-outer-at
+offset_bounds-outer-at c = grind (arith, common_steps)
+
+pub offset_bounds-own-at : goal.offset_bounds-own-at
+offset_bounds-own-at c = grind (arith, common_steps)

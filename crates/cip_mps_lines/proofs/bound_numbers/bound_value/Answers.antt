@@ -13,3 +13,6 @@ returns-in_default c =
 
 pub returns-in_default-2 : goal.returns-in_default-2
 returns-in_default-2 c = grind (arith, common_steps)
+
+pub returns-then-says_infinity : goal.returns-then-says_infinity
+returns-then-says_infinity c = grind (arith, common_steps)

@@ -8,3 +8,6 @@ returns c = far_read c.args.value c.in-Ok.far c.abs.result c.le.result c.in-Ok.e
 
 pub unreachable-requires : goal.unreachable-requires
 unreachable-requires c = grind (arith, common_steps)
+
+pub unreachable-unreachable : goal.unreachable-unreachable
+unreachable-unreachable c = grind (arith, common_steps)

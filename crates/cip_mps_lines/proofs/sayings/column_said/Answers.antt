@@ -67,3 +67,6 @@ slice_bounds-three_said-end-in-len3-2 c = grind (arith, common_steps)
 
 pub slice_bounds-three_said-end-in-len3 : goal.slice_bounds-three_said-end-in-len3
 slice_bounds-three_said-end-in-len3 c = grind (arith, common_steps)
+
+pub slice_bounds-three_said-end : goal.slice_bounds-three_said-end
+slice_bounds-three_said-end c = grind (arith, common_steps)

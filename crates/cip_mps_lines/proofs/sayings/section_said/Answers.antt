@@ -4,3 +4,9 @@ use Rattle.cip_mps_lines.proofs.sayings.section_said.Goals as goal
 
 pub returns-in-Some-section_of : goal.returns-in-Some-section_of
 returns-in-Some-section_of c = grind (arith, common_steps)
+
+pub returns-in-None : goal.returns-in-None
+returns-in-None c = grind (arith, common_steps)
+
+pub returns-in_default : goal.returns-in_default
+returns-in_default c = grind (arith, common_steps)

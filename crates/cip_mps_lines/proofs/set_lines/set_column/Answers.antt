@@ -28,3 +28,18 @@ bounds-words-0 c = grind (arith, common_steps)
 
 pub returns-in_default : goal.returns-in_default
 returns-in_default c = grind (arith, common_steps)
+
+pub slice_bounds-result-end-in-len3-2 : goal.slice_bounds-result-end-in-len3-2
+slice_bounds-result-end-in-len3-2 c = grind (arith, common_steps)
+
+pub slice_bounds-result-end-in-len2-2 : goal.slice_bounds-result-end-in-len2-2
+slice_bounds-result-end-in-len2-2 c = grind (arith, common_steps)
+
+pub slice_bounds-result-end-in-len3 : goal.slice_bounds-result-end-in-len3
+slice_bounds-result-end-in-len3 c = grind (arith, common_steps)
+
+pub slice_bounds-result-end-in-len1 : goal.slice_bounds-result-end-in-len1
+slice_bounds-result-end-in-len1 c = grind (arith, common_steps)
+
+pub slice_bounds-result-end-in-len2 : goal.slice_bounds-result-end-in-len2
+slice_bounds-result-end-in-len2 c = grind (arith, common_steps)

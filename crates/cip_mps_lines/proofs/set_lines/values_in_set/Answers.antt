@@ -40,3 +40,9 @@ slice_bounds-two_values-end-in-len4 c = grind (arith, common_steps)
 
 pub slice_bounds-two_values-end : goal.slice_bounds-two_values-end
 slice_bounds-two_values-end c = grind (arith, common_steps)
+
+pub slice_bounds-one_value-end-in-len2 : goal.slice_bounds-one_value-end-in-len2
+slice_bounds-one_value-end-in-len2 c = grind (arith, common_steps)
+
+pub slice_bounds-one_value-end : goal.slice_bounds-one_value-end
+slice_bounds-one_value-end c = grind (arith, common_steps)

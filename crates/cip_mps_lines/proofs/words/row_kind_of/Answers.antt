@@ -7,3 +7,6 @@ returns-then-eq-3 c = grind (arith, common_steps)
 
 pub returns-then-eq-2 : goal.returns-then-eq-2
 returns-then-eq-2 c = grind (arith, common_steps)
+
+pub returns-then-eq : goal.returns-then-eq
+returns-then-eq c = grind (arith, common_steps)

@@ -16,3 +16,6 @@ loop-known-preserved c =
 
 pub returns : goal.returns
 returns c = grind (arith, common_steps)
+
+pub offset_bounds-words-known-index : goal.offset_bounds-words-known-index
+offset_bounds-words-known-index c = grind (arith, common_steps)

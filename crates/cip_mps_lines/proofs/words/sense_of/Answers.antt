@@ -10,3 +10,6 @@ returns-then-eq_ignore_ascii_case-3 c = grind (arith, common_steps)
 
 pub returns-then-eq_ignore_ascii_case-2 : goal.returns-then-eq_ignore_ascii_case-2
 returns-then-eq_ignore_ascii_case-2 c = grind (arith, common_steps)
+
+pub returns-then-eq_ignore_ascii_case : goal.returns-then-eq_ignore_ascii_case
+returns-then-eq_ignore_ascii_case c = grind (arith, common_steps)

@@ -10,3 +10,9 @@ returns c = grind (arith, common_steps)
 
 pub unallowed_column-requires-clause-values : goal.unallowed_column-requires-clause-values
 unallowed_column-requires-clause-values c = grind (arith, common_steps)
+
+pub unallowed_column-requires-clause-columns : goal.unallowed_column-requires-clause-columns
+unallowed_column-requires-clause-columns c = grind (arith, common_steps)
+
+pub choice_column-requires : goal.choice_column-requires
+choice_column-requires c = grind (arith, common_steps)

@@ -7,3 +7,21 @@ returns c = grind (arith, common_steps)
 
 pub returns-then-not-allows : goal.returns-then-not-allows
 returns-then-not-allows c = grind (arith, common_steps)
+
+pub loop-column-preserved : goal.loop-column-preserved
+loop-column-preserved c = grind (arith, common_steps)
+
+pub bounds-point-column : goal.bounds-point-column
+bounds-point-column c = grind (arith, common_steps)
+
+pub overflow_cast-column : goal.overflow_cast-column
+overflow_cast-column c = grind (arith, common_steps)
+
+pub offset_bounds-point-column : goal.offset_bounds-point-column
+offset_bounds-point-column c = grind (arith, common_steps)
+
+pub loop-column-init : goal.loop-column-init
+loop-column-init c = grind (arith, common_steps)
+
+pub listed-column-end-requires : goal.listed-column-end-requires
+listed-column-end-requires c = grind (arith, common_steps)

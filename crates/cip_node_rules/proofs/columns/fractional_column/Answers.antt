@@ -13,3 +13,18 @@ returns-then-is_fractional c = grind (arith, common_steps)
 
 pub sides-requires : goal.sides-requires
 sides-requires c = grind (arith, common_steps)
+
+pub bounds-whole-at : goal.bounds-whole-at
+bounds-whole-at c = grind (arith, common_steps)
+
+pub returns : goal.returns
+returns c = grind (arith, common_steps)
+
+pub overflow_cast-at : goal.overflow_cast-at
+overflow_cast-at c = grind (arith, common_steps)
+
+pub overflow_cast-column-end : goal.overflow_cast-column-end
+overflow_cast-column-end c = grind (arith, common_steps)
+
+pub loop-column-init : goal.loop-column-init
+loop-column-init c = grind (arith, common_steps)

@@ -23,3 +23,12 @@ loop-column-init c = grind (arith, common_steps)
 
 pub returns-then-lacks_whole : goal.returns-then-lacks_whole
 returns-then-lacks_whole c = grind (arith, common_steps)
+
+pub bounds-whole-column : goal.bounds-whole-column
+bounds-whole-column c = grind (arith, common_steps)
+
+pub overflow_cast-column : goal.overflow_cast-column
+overflow_cast-column c = grind (arith, common_steps)
+
+pub overflow_cast-column-end : goal.overflow_cast-column-end
+overflow_cast-column-end c = grind (arith, common_steps)

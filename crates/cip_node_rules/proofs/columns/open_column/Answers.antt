@@ -7,3 +7,18 @@ returns-then-is_open c = grind (arith, common_steps)
 
 pub sides-requires : goal.sides-requires
 sides-requires c = grind (arith, common_steps)
+
+pub bounds-whole-column : goal.bounds-whole-column
+bounds-whole-column c = grind (arith, common_steps)
+
+pub returns : goal.returns
+returns c = grind (arith, common_steps)
+
+pub overflow_cast-column : goal.overflow_cast-column
+overflow_cast-column c = grind (arith, common_steps)
+
+pub overflow_cast-column-end : goal.overflow_cast-column-end
+overflow_cast-column-end c = grind (arith, common_steps)
+
+pub loop-column-init : goal.loop-column-init
+loop-column-init c = grind (arith, common_steps)

@@ -10,3 +10,18 @@ chosen_choice-requires-clause-values c = grind (arith, common_steps)
 
 pub returns-in-Some : goal.returns-in-Some
 returns-in-Some c = grind (arith, common_steps)
+
+pub returns-in_err-col : goal.returns-in_err-col
+returns-in_err-col c = grind (arith, common_steps)
+
+pub chosen_choice-requires-clause-columns : goal.chosen_choice-requires-clause-columns
+chosen_choice-requires-clause-columns c = grind (arith, common_steps)
+
+pub whole_place-requires-clause-long : goal.whole_place-requires-clause-long
+whole_place-requires-clause-long c = grind (arith, common_steps)
+
+pub whole_place-requires-clause-values : goal.whole_place-requires-clause-values
+whole_place-requires-clause-values c = grind (arith, common_steps)
+
+pub whole_place-requires-clause-columns : goal.whole_place-requires-clause-columns
+whole_place-requires-clause-columns c = grind (arith, common_steps)

@@ -7,3 +7,6 @@ returns c = grind (arith, common_steps)
 
 pub overflow_add-result : goal.overflow_add-result
 overflow_add-result c = grind (arith, common_steps)
+
+pub overflow_cast-result : goal.overflow_cast-result
+overflow_cast-result c = grind (arith, common_steps)

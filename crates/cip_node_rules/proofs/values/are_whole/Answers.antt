@@ -20,3 +20,12 @@ loop-at-preserved c = grind (arith, common_steps)
 
 pub loop-at-init : goal.loop-at-init
 loop-at-init c = grind (arith, common_steps)
+
+pub bounds-point-at : goal.bounds-point-at
+bounds-point-at c = grind (arith, common_steps)
+
+pub bounds-whole-at : goal.bounds-whole-at
+bounds-whole-at c = grind (arith, common_steps)
+
+pub offset_bounds-point-at : goal.offset_bounds-point-at
+offset_bounds-point-at c = grind (arith, common_steps)

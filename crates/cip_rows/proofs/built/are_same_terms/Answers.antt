@@ -13,3 +13,18 @@ returns-then-a-b c = grind (arith, common_steps)
 
 pub loop-at-preserved : goal.loop-at-preserved
 loop-at-preserved c = grind (arith, common_steps)
+
+pub bounds-b-at : goal.bounds-b-at
+bounds-b-at c = grind (arith, common_steps)
+
+pub bounds-a-at : goal.bounds-a-at
+bounds-a-at c = grind (arith, common_steps)
+
+pub offset_bounds-b-at : goal.offset_bounds-b-at
+offset_bounds-b-at c = grind (arith, common_steps)
+
+pub offset_bounds-a-at : goal.offset_bounds-a-at
+offset_bounds-a-at c = grind (arith, common_steps)
+
+pub loop-at-init : goal.loop-at-init
+loop-at-init c = grind (arith, common_steps)

@@ -25,3 +25,6 @@ bounds-coefficients-at c = grind (arith, common_steps)
 
 pub offset_bounds-coefficients-at : goal.offset_bounds-coefficients-at
 offset_bounds-coefficients-at c = grind (arith, common_steps)
+
+pub same-row : goal.same-row
+same-row c = grind (arith, common_steps)

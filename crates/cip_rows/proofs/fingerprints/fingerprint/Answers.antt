@@ -13,3 +13,15 @@ returns-in-None c = grind (arith, common_steps)
 
 pub loop-term-preserved : goal.loop-term-preserved
 loop-term-preserved c = grind (arith, common_steps)
+
+pub mix_number-from-requires : goal.mix_number-from-requires
+mix_number-from-requires c = grind (arith, common_steps)
+
+pub mix-requires-clause-from : goal.mix-requires-clause-from
+mix-requires-clause-from c = grind (arith, common_steps)
+
+pub offset_bounds-term-items-term-index : goal.offset_bounds-term-items-term-index
+offset_bounds-term-items-term-index c = grind (arith, common_steps)
+
+pub mix-requires-clause-more : goal.mix-requires-clause-more
+mix-requires-clause-more c = grind (arith, common_steps)

@@ -19,3 +19,18 @@ place_of-requires c = grind (arith, common_steps)
 
 pub returns-in-None : goal.returns-in-None
 returns-in-None c = grind (arith, common_steps)
+
+pub inside-requires : goal.inside-requires
+inside-requires c = grind (arith, common_steps)
+
+pub bounds-rows-place-then-is_same : goal.bounds-rows-place-then-is_same
+bounds-rows-place-then-is_same c = grind (arith, common_steps)
+
+pub offset_bounds-rows-place-then-is_same : goal.offset_bounds-rows-place-then-is_same
+offset_bounds-rows-place-then-is_same c = grind (arith, common_steps)
+
+pub bounds-rows-place : goal.bounds-rows-place
+bounds-rows-place c = grind (arith, common_steps)
+
+pub offset_bounds-rows-place : goal.offset_bounds-rows-place
+offset_bounds-rows-place c = grind (arith, common_steps)

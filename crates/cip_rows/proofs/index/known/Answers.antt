@@ -1,3 +1,4 @@
+use Rattle.std.proofs.lemmas.Grind.{common_steps}
 use Rattle.std.proofs.Common.{arith}
 use Rattle.std.proofs.lemmas.List.Elements.{AllWithin-upto}
 use Rattle.cip_rows.proofs.IndexedRows.{IsPassed, passed_before, passed_next, passed_rest, unknown}
@@ -30,3 +31,6 @@ returns-then-is_known_as c = c.if-is_known_as.ensures
 
 pub loop-at-preserved : goal.loop-at-preserved
 loop-at-preserved c = passed_next _ _ _ _ c.loop-at.at _ c.loop-at-test.true c.loop-at.invariant c.if-is_known_as.ensures
+
+pub offset_bounds-entries-at : goal.offset_bounds-entries-at
+offset_bounds-entries-at c = grind (arith, common_steps)

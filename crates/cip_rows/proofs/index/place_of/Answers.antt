@@ -19,3 +19,12 @@ returns-else-place-rows c =
 
 pub returns-then-rows-place : goal.returns-then-rows-place
 returns-then-rows-place c = grind (arith, common_steps)
+
+pub bounds-rows-place : goal.bounds-rows-place
+bounds-rows-place c = grind (arith, common_steps)
+
+pub bounds-rows-place-then-place-rows : goal.bounds-rows-place-then-place-rows
+bounds-rows-place-then-place-rows c = grind (arith, common_steps)
+
+pub offset_bounds-rows-place : goal.offset_bounds-rows-place
+offset_bounds-rows-place c = grind (arith, common_steps)

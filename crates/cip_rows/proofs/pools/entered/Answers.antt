@@ -1,4 +1,5 @@
-use Rattle.std.proofs.Common.{◌<◌, ◌≤◌, sym, subst, length, List}
+use Rattle.std.proofs.lemmas.Grind.{common_steps}
+use Rattle.std.proofs.Common.{◌<◌, ◌≤◌, sym, subst, length, List, arith}
 use Rattle.std.specs.List.{AllWithin}
 use Rattle.cip_rows.specs.declared.index.Entry.{Entry}
 use Rattle.cip_rows.specs.RowIndex.{IsEntered, AreSorted}
@@ -29,3 +30,9 @@ returns-in-Ok-clause-entered c =
 
 pub returns-in-Err-clause-entered : goal.returns-in-Err-clause-entered
 returns-in-Err-clause-entered c = c.in-Err.ensures.items
+
+pub insert-requires : goal.insert-requires
+insert-requires c = grind (arith, common_steps)
+
+pub returns-in_err-reserve-clause-rows : goal.returns-in_err-reserve-clause-rows
+returns-in_err-reserve-clause-rows c = grind (arith, common_steps)

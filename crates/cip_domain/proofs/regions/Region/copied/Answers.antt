@@ -4,3 +4,6 @@ use Rattle.cip_domain.proofs.regions.Region.copied.Goals as goal
 
 pub returns : goal.returns
 returns c = grind (arith, common_steps)
+
+pub same-bounds : goal.same-bounds
+same-bounds c = grind (arith, common_steps)

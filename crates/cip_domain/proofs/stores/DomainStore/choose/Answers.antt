@@ -1,3 +1,4 @@
+use Rattle.std.proofs.lemmas.Grind.{common_steps}
 use Rattle.std.proofs.Common.{◌≡◌, ◌∙◌, sym, ap, refl, arith}
 use Rattle.cip_problem.specs.Program.{Open}
 use Rattle.cip_problem.specs.Box.{sides_at}
@@ -60,3 +61,6 @@ returns-clause-after c =
 
 pub returns-clause-marks : goal.returns-clause-marks
 returns-clause-marks c = c.make.ensures.marks
+
+pub same-self-2 : goal.same-self-2
+same-self-2 c = grind (arith, common_steps)

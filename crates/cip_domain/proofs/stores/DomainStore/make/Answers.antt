@@ -94,3 +94,12 @@ settle-requires-clause-column c = grind (arith, common_steps)
 
 pub sides-own-requires : goal.sides-own-requires
 sides-own-requires c = grind (arith, common_steps)
+
+pub same-self : goal.same-self
+same-self c = grind (arith, common_steps)
+
+pub same-self-then-cross : goal.same-self-then-cross
+same-self-then-cross c = grind (arith, common_steps)
+
+pub same-self-2 : goal.same-self-2
+same-self-2 c = grind (arith, common_steps)

@@ -37,3 +37,15 @@ returns-then-change-len-clause-narrowed c = grind (arith, common_steps)
 
 pub same-change : goal.same-change
 same-change c = grind (arith, common_steps)
+
+pub overflow_cast-change-inside : goal.overflow_cast-change-inside
+overflow_cast-change-inside c = grind (arith, common_steps)
+
+pub returns-in-Empty-clause-err : goal.returns-in-Empty-clause-err
+returns-in-Empty-clause-err c = grind (arith, common_steps)
+
+pub returns-then-change-len-clause-err : goal.returns-then-change-len-clause-err
+returns-then-change-len-clause-err c = grind (arith, common_steps)
+
+pub same-self : goal.same-self
+same-self c = grind (arith, common_steps)

@@ -144,3 +144,9 @@ returns-in-Some-clause-room c = omega (
 
 pub sides-sides-requires : goal.sides-sides-requires
 sides-sides-requires c = grind (arith, common_steps)
+
+pub same-self-in-Some : goal.same-self-in-Some
+same-self-in-Some c = grind (arith, common_steps)
+
+pub same-self : goal.same-self
+same-self c = grind (arith, common_steps)

@@ -43,3 +43,9 @@ step-requires-clause-column c = grind (arith, common_steps)
 
 pub step-requires-clause-room : goal.step-requires-clause-room
 step-requires-clause-room c = grind (arith, common_steps)
+
+pub same-sides : goal.same-sides
+same-sides c = grind (arith, common_steps)
+
+pub same-self : goal.same-self
+same-self c = grind (arith, common_steps)

@@ -1,3 +1,4 @@
+use Rattle.std.proofs.lemmas.Grind.{common_steps}
 use Rattle.std.proofs.Common.{◌≡◌, ◌∙◌, sym, ap, arith}
 use Rattle.cip_problem.specs.Box.{sides_at}
 use Rattle.cip_problem.specs.Choices.{choice_at}
@@ -50,3 +51,6 @@ returns-else-not-is_settled-clause-marks c = keeps_itself c.args.self.now
 
 pub returns-else-not-is_settled-clause-room : goal.returns-else-not-is_settled-clause-room
 returns-else-not-is_settled-clause-room c = omega arith
+
+pub same-self-else-not-is_settled : goal.same-self-else-not-is_settled
+same-self-else-not-is_settled c = grind (arith, common_steps)

@@ -61,3 +61,9 @@ returns-clause-after c = grind (arith, common_steps)
 
 pub sides-sides-requires : goal.sides-sides-requires
 sides-sides-requires c = grind (arith, common_steps)
+
+pub same-self-then-not-contains : goal.same-self-then-not-contains
+same-self-then-not-contains c = grind (arith, common_steps)
+
+pub same-self-2 : goal.same-self-2
+same-self-2 c = grind (arith, common_steps)

@@ -30,3 +30,12 @@ returns-then-g-eq1 c = grind (arith, common_steps)
 
 pub overflow_cast-total : goal.overflow_cast-total
 overflow_cast-total c = grind (arith, common_steps)
+
+pub overflow_cast-common-2 : goal.overflow_cast-common-2
+overflow_cast-common-2 c = grind (arith, common_steps)
+
+pub overflow_cast-size : goal.overflow_cast-size
+overflow_cast-size c = grind (arith, common_steps)
+
+pub with_sign-numerator-requires : goal.with_sign-numerator-requires
+with_sign-numerator-requires c = grind (arith, common_steps)

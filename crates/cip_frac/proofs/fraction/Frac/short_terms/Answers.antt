@@ -1,3 +1,4 @@
+use Rattle.std.proofs.lemmas.Grind.{common_steps}
 use Rattle.std.proofs.Common.{◌≡◌, ◌∙◌, ◌≤◌, ◌^◌, to_z, of_z, unsigned_abs, arith, subst, rules}
 use Rattle.std.specs.Int.{w64}
 use Rattle.cip_frac.proofs.Fields.{numerator_field, denominator_is, lowest_ratio}
@@ -15,3 +16,6 @@ returns-in-Some c =
 
 pub overflow_cast-result : goal.overflow_cast-result
 overflow_cast-result c = omega arith
+
+pub returns-then-denominator : goal.returns-then-denominator
+returns-then-denominator c = grind (arith, common_steps)

@@ -33,3 +33,6 @@ returns-then-denominator-eq1-clause-within c = omega arith
 
 pub put-start-requires : goal.put-start-requires
 put-start-requires c = omega arith
+
+pub put-end-requires : goal.put-end-requires
+put-end-requires c = grind (arith, common_steps)

@@ -1,7 +1,14 @@
-use Rattle.std.proofs.Common.{◌∙◌}
+use Rattle.std.proofs.lemmas.Grind.{common_steps}
+use Rattle.std.proofs.Common.{◌∙◌, arith}
 use Rattle.cip_frac.proofs.PassedOn.{eq_by_cmp-compare}
 use Rattle.cip_lin.proofs.boxes.Sides.is_fixed.Goals as goal
 
 pub returns-in-Some-Some : goal.returns-in-Some-Some
 returns-in-Some-Some c =
     rw (← c.self.view_is, c.in-Some-Some.is-0, c.in-Some-Some.is-1) (c.eq.ensures.test ∙ eq_by_cmp-compare _ _)
+
+pub returns-in_default : goal.returns-in_default
+returns-in_default c = grind (arith, common_steps)
+
+pub returns-in_default-2 : goal.returns-in_default-2
+returns-in_default-2 c = grind (arith, common_steps)

@@ -7,3 +7,6 @@ returns-then-at-len c = grind (arith, common_steps)
 
 pub returns-else-at-len : goal.returns-else-at-len
 returns-else-at-len c = grind (arith, common_steps)
+
+pub index_mut-requires : goal.index_mut-requires
+index_mut-requires c = grind (arith, common_steps)

@@ -8,3 +8,6 @@ returns-clause-value c = rw (c.sum_of_products.ensures.steps, c.as_slice.ensures
 
 pub returns-clause-steps : goal.returns-clause-steps
 returns-clause-steps c = grind (arith, common_steps)
+
+pub as_slice-requires : goal.as_slice-requires
+as_slice-requires c = grind (arith, common_steps)

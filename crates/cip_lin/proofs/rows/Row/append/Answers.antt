@@ -10,3 +10,9 @@ returns-in-Some c = grind (arith, common_steps)
 
 pub returns-after-push : goal.returns-after-push
 returns-after-push c = grind (arith, common_steps)
+
+pub push-requires : goal.push-requires
+push-requires c = grind (arith, common_steps)
+
+pub as_slice-requires : goal.as_slice-requires
+as_slice-requires c = grind (arith, common_steps)

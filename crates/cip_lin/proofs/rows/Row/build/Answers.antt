@@ -21,3 +21,6 @@ returns-in-Err c =
 
 pub returns : goal.returns
 returns c = grind (arith, common_steps)
+
+pub offset_bounds-terms-term-index : goal.offset_bounds-terms-term-index
+offset_bounds-terms-term-index c = grind (arith, common_steps)

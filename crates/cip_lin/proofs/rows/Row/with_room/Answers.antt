@@ -7,3 +7,6 @@ returns c = grind (arith, common_steps)
 
 pub invariant_of-result : goal.invariant_of-result
 invariant_of-result c = grind (arith, common_steps)
+
+pub with_capacity-requires : goal.with_capacity-requires
+with_capacity-requires c = grind (arith, common_steps)

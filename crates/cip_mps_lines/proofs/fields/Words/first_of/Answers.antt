@@ -23,3 +23,6 @@ loop-kept-smaller c = grind (arith, common_steps)
 
 pub push-requires : goal.push-requires
 push-requires c = grind (arith, common_steps)
+
+pub loop-kept-init : goal.loop-kept-init
+loop-kept-init c = grind (arith, common_steps)

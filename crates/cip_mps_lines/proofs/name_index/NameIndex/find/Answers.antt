@@ -4,3 +4,6 @@ use Rattle.cip_mps_lines.proofs.name_index.NameIndex.find.Goals as goal
 
 pub returns-clause-within : goal.returns-clause-within
 returns-clause-within c = grind (arith, common_steps)
+
+pub returns-clause-number : goal.returns-clause-number
+returns-clause-number c = grind (arith, common_steps)

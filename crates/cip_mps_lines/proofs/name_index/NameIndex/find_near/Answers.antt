@@ -7,3 +7,9 @@ returns-then-eq-clause-within c = grind (arith, common_steps)
 
 pub name-requires : goal.name-requires
 name-requires c = grind (arith, common_steps)
+
+pub returns-clause-number : goal.returns-clause-number
+returns-clause-number c = grind (arith, common_steps)
+
+pub returns-clause-within : goal.returns-clause-within
+returns-clause-within c = grind (arith, common_steps)

@@ -4,3 +4,6 @@ use Rattle.cip_mps_lines.proofs.place.LinePlace.skips.Goals as goal
 
 pub returns-then-self : goal.returns-then-self
 returns-then-self c = grind (arith, common_steps)
+
+pub returns-else-self : goal.returns-else-self
+returns-else-self c = grind (arith, common_steps)

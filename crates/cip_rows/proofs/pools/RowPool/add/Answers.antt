@@ -47,3 +47,15 @@ row_from-requires c = grind (arith, common_steps)
 
 pub returns-in-Some-clause-columns : goal.returns-in-Some-clause-columns
 returns-in-Some-clause-columns c = grind (arith, common_steps)
+
+pub returns-in_default-clause-added : goal.returns-in_default-clause-added
+returns-in_default-clause-added c = grind (arith, common_steps)
+
+pub returns-in_default-clause-columns : goal.returns-in_default-clause-columns
+returns-in_default-clause-columns c = grind (arith, common_steps)
+
+pub same-self-2 : goal.same-self-2
+same-self-2 c = grind (arith, common_steps)
+
+pub same-self : goal.same-self
+same-self c = grind (arith, common_steps)

@@ -30,3 +30,9 @@ returns-then-count-le-KEPT_POOL_ROWS c = grind (arith, common_steps)
 
 pub index-requires : goal.index-requires
 index-requires c = grind (arith, common_steps)
+
+pub overflow_sub-count : goal.overflow_sub-count
+overflow_sub-count c = grind (arith, common_steps)
+
+pub rotate_left-requires : goal.rotate_left-requires
+rotate_left-requires c = grind (arith, common_steps)

@@ -1,0 +1,21 @@
+use Rattle.std.proofs.lemmas.Grind.{common_steps}
+use Rattle.std.proofs.Common.{arith}
+use Rattle.cip_frac.proofs.bounded.part_of.Goals as goal
+
+pub nonzero_div-result : goal.nonzero_div-result
+nonzero_div-result c = grind (arith, common_steps)
+
+pub overflow_cast-result-then-g-lt-SHORT-2 : goal.overflow_cast-result-then-g-lt-SHORT-2
+overflow_cast-result-then-g-lt-SHORT-2 c = grind (arith, common_steps)
+
+pub overflow_cast-result-then-g-lt-SHORT : goal.overflow_cast-result-then-g-lt-SHORT
+overflow_cast-result-then-g-lt-SHORT c = grind (arith, common_steps)
+
+pub overflow_cast-result : goal.overflow_cast-result
+overflow_cast-result c = grind (arith, common_steps)
+
+pub returns-then-g-eq1 : goal.returns-then-g-eq1
+returns-then-g-eq1 c = grind (arith, common_steps)
+
+pub nonzero_div-result-else-a-lt-SHORT : goal.nonzero_div-result-else-a-lt-SHORT
+nonzero_div-result-else-a-lt-SHORT c = grind (arith, common_steps)

@@ -1,0 +1,12 @@
+use Rattle.std.proofs.lemmas.Grind.{common_steps}
+use Rattle.std.proofs.Common.{arith}
+use Rattle.cip_frac.proofs.words.short_part_of.Goals as goal
+
+pub returns-then-g-a : goal.returns-then-g-a
+returns-then-g-a c = grind (arith, common_steps)
+
+pub returns-then-g-eq1 : goal.returns-then-g-eq1
+returns-then-g-eq1 c = grind (arith, common_steps)
+
+pub nonzero_div-result : goal.nonzero_div-result
+nonzero_div-result c = grind (arith, common_steps)
