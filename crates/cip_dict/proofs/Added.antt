@@ -1,8 +1,8 @@
 -- Products that are added to values.
 use borrow.Author.Differences.{same_in, product_is}
-use Rattle.std.proofs.Common.{to_z, of_z, ◌-◌, ◌≡◌, ℕ, ◌*◌, ◌<◌, ◌^◌, ℤ, pos, ◌+ℤ◌, ◌*ℤ◌, Bool, true, false, not, ◌&&◌, None, refl, sym, ap, ap₂, ◌∙◌, arith}
-use Rattle.std.specs.Int.{w64}
-use Rattle.std.proofs.lemmas.Int.{ints, unsigned_abs-mul}
+use Rattle.std.proofs.Common.{to_z, of_z, FitsSigned, subst, ◌-◌, ◌≡◌, ℕ, ◌*◌, ◌<◌, ◌^◌, ℤ, pos, ◌+ℤ◌, ◌*ℤ◌, Bool, true, false, cond, not, ◌&&◌, ◌||◌, [], None, Some, MatchBool, refl, sym, ap, ap₂, ◌∙◌, arith}
+use Rattle.std.specs.Int.{w64, w128}
+use Rattle.std.proofs.lemmas.Int.{ints, unsigned_abs-mul, fits_signed_from_abs, to_z-of_z}
 use Rattle.std.proofs.lemmas.Nat.{mul-le}
 use Rattle.std.proofs.Math.Nat.{mul-pos}
 use Rattle.cip_rational.specs.Rational.{ℚ, ◌+ℚ◌, ◌*ℚ◌, ratio, numerator, denominator, is_ratio, is_zero}
@@ -11,11 +11,15 @@ use Rattle.cip_rational.proofs.Rational.Ratio.{ratio-add, ratio-mul}
 use Rattle.cip_rational.proofs.Rational.Lowest.{denominator-pos}
 use Rattle.cip_bland.specs.declared.places.Line.TheVariants.{Cost}
 use Rattle.cip_bland.specs.declared.places.EntryPlace.{EntryPlace}
+use Rattle.cip_bland.specs.Exchange.{moved_at}
+use Rattle.cip_bland.specs.Operations.{first_overflow, sum_at}
+use Rattle.cip_bland.specs.MoveOperations.{moved_operations_at}
 use Rattle.cip_dict.specs.Values.{IsAdded}
 use Rattle.cip_dict.specs.WholeLines.{HasTermsBelow}
 use Rattle.cip_dict.proofs.Formed.{sum_zero_left, sum_zero_right}
 use Rattle.cip_dict.proofs.WholeLines.{whole_lines_tell}
 use Rattle.cip_dict.proofs.WholePuts.{sum_none}
+use Rattle.cip_dict.proofs.WideProducts.{read_wide, size_of_sum}
 
 -- where a factor is 0 the value stays
 
@@ -70,9 +74,43 @@ long_size a c p q = let l = mul-le (magnitude a) (magnitude c) (2 ^ 40 - 1) (2 ^
 pub read_word : (z : ℤ) → magnitude z < 2 ^ 63 → to_z w64 (of_z w64 z) ≡ z
 read_word z h = omega (arith, ints, h)
 
+pub short_read : (z : ℤ) → magnitude z < 2 ^ 20 → magnitude (to_z w64 (of_z w64 z)) < 2 ^ 20
+short_read z h = rw (read_word z (omega (arith, h))) h
+
+pub short_word : (z : ℤ) (u : ℕ) → FitsSigned w64 z → u ≡ magnitude (to_z w64 (of_z w64 z)) → u < 2 ^ 20 → magnitude z < 2 ^ 20
+short_word z u f e l = subst (λ (x : ℤ). magnitude x < 2 ^ 20) (to_z-of_z w64 z f) (subst (λ (n : ℕ). n < 2 ^ 20) e l)
+
+-- sums of two products
+pub sum_size : (a b : ℤ) → magnitude a < 2 ^ 60 → magnitude b < 2 ^ 60 → magnitude (a +ℤ b) < 2 ^ 61
+sum_size a b p q = let l = size_of_sum a b in omega (arith, l, p, q)
+
+pub sum_read : (a b : ℤ) → magnitude a < 2 ^ 60 → magnitude b < 2 ^ 60 → to_z w64 (of_z w64 (a +ℤ b)) ≡ a +ℤ b
+sum_read a b p q = let l = sum_size a b p q in read_word (a +ℤ b) (omega (arith, l))
+
+pub sum_fits_word : (a b : ℤ) → magnitude a < 2 ^ 60 → magnitude b < 2 ^ 60 → FitsSigned w64 (a +ℤ b)
+sum_fits_word a b p q = let l = sum_size a b p q in fits_signed_from_abs w64 (a +ℤ b) (omega (arith, l))
+
+pub widened_sum : (z : ℤ) → magnitude z < 2 ^ 61 → to_z w128 (of_z w128 (to_z w64 (of_z w64 z))) ≡ z
+widened_sum z h = ap (λ x. to_z w128 (of_z w128 x)) (read_word z (omega (arith, h))) ∙ read_wide z (omega (arith, h))
+
+pub widened_fits : (z : ℤ) → magnitude z < 2 ^ 61 → FitsSigned w128 (to_z w64 (of_z w64 z))
+widened_fits z h = rw (read_word z (omega (arith, h))) (fits_signed_from_abs w128 z (omega (arith, h)))
+
 -- the row of a basic variable other than the one that leaves has no entry where it doesn't change
 pub unreached : (basic leaves none changes : Bool) → basic ≡ true → leaves ≡ false → changes ≡ (basic && (not leaves && not none)) → changes ≡ false → none ≡ true
 unreached true false true changes b l m f = refl
 unreached true false false changes b l m f = absurd (cc)
 unreached true true none changes b l m f = absurd (cc)
 unreached false leaves none changes b l m f = absurd (cc)
+
+-- the value of a basic variable after its product was added
+added_moves : (r : Bool) (place : EntryPlace) (v a t new : ℚ) → IsAdded r v a t new → MatchBool r ((first_overflow (sum_at place v a t) ≡ None) × (new ≡ v +ℚ a *ℚ t)) (first_overflow (sum_at place v a t) ≡ Some place)
+added_moves true place v a t new h = (h.0 place, h.1)
+added_moves false place v a t new h = h place
+
+module _ (r basic here : Bool) (place : EntryPlace) (v w a a' t new : ℚ) (b : basic ≡ true) (o : here ≡ false) (same : w ≡ v) (entry : a' ≡ a) (h : IsAdded r w a' t new) where
+  pub added_flip : MatchBool r ((first_overflow (cond basic (sum_at place v a t) []) ≡ None) × (cond (basic || here) new v ≡ moved_at here basic t v a)) (first_overflow (cond basic (sum_at place v a t) []) ≡ Some place)
+  added_flip = rw (b, o, sym same, sym entry) (added_moves r place w a' t new h)
+
+  pub added_move : MatchBool r ((first_overflow (moved_operations_at place here basic t v a) ≡ None) × (cond (basic || here) new v ≡ moved_at here basic t v a)) (first_overflow (moved_operations_at place here basic t v a) ≡ Some place)
+  added_move = rw (b, o, sym same, sym entry) (added_moves r place w a' t new h)

@@ -1,5 +1,5 @@
 -- The lists that are begun with are those of the first state.
-use Rattle.std.proofs.Common.{◌≡◌, ℕ, ◌+◌, ◌-◌, ◌<◌, ◌≤◌, ◌==◌, true, false, cond, not, is_some, List, [], ◌∷◌, ◌++◌, length, get_or, replicate, Option, None, Some, refl, sym, ap, ap₂, ◌∙◌, inl, inr, arith, length-append}
+use Rattle.std.proofs.Common.{◌≡◌, ℕ, ◌+◌, ◌-◌, ◌<◌, ◌≤◌, ◌==◌, true, false, cond, not, is_some, List, [], ◌∷◌, ◌++◌, length, get_or, replicate, Option, None, Some, refl, sym, ap, ap₂, ◌∙◌, inl, inr, arith, length-append, Result, Ok, Err, IsErrAnd, MatchResult}
 use Rattle.std.specs.Prelude.{nat_lt}
 use Rattle.std.specs.List.{AllByRecursion}
 use Rattle.std.proofs.lemmas.Bool.{lt-ltb, le-ltb, cases_lt, ne_eqb, and_right}
@@ -181,3 +181,8 @@ module _ (columns : List Sides) (m : ℕ) (standing : List (Option Stand)) (stan
 pub row_fault_more : (xs ys : List Placed) (fault : FirstFault) → IsRowFault xs fault → IsRowFault (xs ++ ys) fault
 row_fault_more xs ys (OutOfRange place) h = overflow-found xs ys place h
 row_fault_more xs ys NoMemory h = tt
+
+-- memory was refused
+pub row_fault_memory : {X : Type 0} (r : Result X FirstFault) (P : X → Type 0) (xs : List Placed) → IsErrAnd r (λ fault. fault ≡ NoMemory) → MatchResult r P (IsRowFault xs)
+row_fault_memory (Ok x) P xs h = absurd h
+row_fault_memory (Err fault) P xs h = rw h tt

@@ -1,5 +1,5 @@
 -- Lists of kept entries, read as dense lines.
-use Rattle.std.proofs.Common.{◌≡◌, ℕ, ◌<◌, ◌==◌, Bool, cond, List, [], length, get_or, set, replicate, None, Result, Ok, Err, MatchResult, OnOk, sym, ap, ◌∙◌, subst, inl, inr, arith, length-set, zero, suc, ◌++◌, refl, ap₂}
+use Rattle.std.proofs.Common.{◌≡◌, ℕ, ◌<◌, ◌==◌, Bool, cond, List, [], length, get_or, set, replicate, None, Result, Ok, Err, MatchResult, OnOk, OnErr, sym, ap, ◌∙◌, subst, inl, inr, arith, length-set, zero, suc, ◌++◌, refl, ap₂}
 use Rattle.std.proofs.lemmas.Bool.{cases_eq, eq-eqb, ne_eqb}
 use Rattle.std.proofs.lemmas.List.{get_or-set_same, get_or-set_other, get_or-replicate, length-replicate}
 use Rattle.cip_rational.specs.Rational.{ℚ, zeroℚ}
@@ -50,6 +50,10 @@ dense_written n ops ops' f f' out (Ok v) ho hf h =
 dense_written n ops ops' f f' out (Err fault) ho hf h = subst (λ (all : List Placed). IsMoveFault all fault) (each_same n ops ops' ho) h
 
 -- what follows from what an Ok says
+pub on_err : {X E P : Type 0} (r : Result X E) → P → OnErr r P
+on_err (Ok x) h = tt
+on_err (Err e) h = h
+
 pub on_ok : {X E : Type 0} (r : Result X E) (P Q : Type 0) → OnOk r P → (P → Q) → OnOk r Q
 on_ok (Ok v) P Q h f = f h
 on_ok (Err e) P Q h f = tt

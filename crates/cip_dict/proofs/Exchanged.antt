@@ -11,9 +11,10 @@ use Rattle.cip_problem.proofs.Rows.{zero_of_test}
 use Rattle.cip_bland.specs.Tables.{table, each}
 use Rattle.cip_bland.specs.Dictionary.{Dictionary, size, stand, is_basic, entry, cost_entry, standing_value, IsConsistent}
 use Rattle.cip_bland.specs.Exchange.{is_absent, substituted, pivot, entering, exchanged_row, exchanged_rows, exchanged_stand, CanExchange, moved, step}
-use Rattle.cip_bland.specs.Operations.{Placed}
+use Rattle.cip_bland.specs.Operations.{Placed, first_overflow}
 use Rattle.cip_bland.specs.MoveOperations.{exchange_operations, solved_operations, substituted_operations, step_operations, moved_operations, cost_operations}
 use Rattle.cip_bland.specs.declared.places.Line.TheVariants.{Row, Cost}
+use Rattle.cip_bland.specs.declared.places.EntryPlace.{EntryPlace}
 use Rattle.cip_bland.specs.declared.moves.Stand.{Stand}
 use Rattle.cip_bland.proofs.Tables.{same_table, at_table}
 use Rattle.cip_bland.proofs.Forms.{IsFree, substituted_leaving, substituted_absent, substituted_kept}
@@ -159,3 +160,10 @@ planned sides standing lists i j to before between later cost e l m =
       values = ap (λ n. table n (taken_value standing j lists.values.items later.values.items)) e ∙ m.values ∙ ap (λ n. table n (moved d j (step d i j to))) (sym e);
       cost_is = m.cost_is;
     }
+
+-- the values after an exchange, by what its pivot and its side are
+pub values_as : (standing : List (Option Stand)) (i j : ℕ) (side side' q q' : ℚ) (lists : Lists) (old new : Room) (cost : ℚ) → side' ≡ side → q' ≡ q → (first_overflow (values_operations standing i j side' q' lists) ≡ None) × MovesWritten standing j (step_in i side' q' lists) lists old new cost → (first_overflow (values_operations standing i j side q lists) ≡ None) × MovesWritten standing j (step_in i side q lists) lists old new cost
+values_as standing i j side side' q q' lists old new cost es eq h = rw (sym es, sym eq) h
+
+pub values_fault_as : (standing : List (Option Stand)) (i j : ℕ) (side side' q q' : ℚ) (lists : Lists) (place : EntryPlace) → side' ≡ side → q' ≡ q → first_overflow (values_operations standing i j side' q' lists) ≡ Some place → first_overflow (values_operations standing i j side q lists) ≡ Some place
+values_fault_as standing i j side side' q q' lists place es eq h = rw (sym es, sym eq) h

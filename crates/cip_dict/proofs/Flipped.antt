@@ -1,5 +1,5 @@
 -- What a flip writes and takes over makes the state after it.
-use Rattle.std.proofs.Common.{◌≡◌, ℕ, ◌<◌, ◌==◌, false, cond, not, is_some, List, [], ◌∷◌, ◌++◌, length, get_or, set, Option, None, Some, refl, sym, ap, ◌∙◌, inl, inr, arith, length-set}
+use Rattle.std.proofs.Common.{◌≡◌, ℕ, ◌<◌, ◌==◌, false, cond, not, is_some, List, [], ◌∷◌, ◌++◌, length, get_or, set, Option, None, Some, refl, sym, ap, ◌∙◌, inl, inr, arith, length-set, true}
 use Rattle.std.proofs.lemmas.Bool.{eq-eqb, ne_eqb, cases_eq}
 use Rattle.std.proofs.lemmas.List.{get_or-set_same, get_or-set_other}
 use Rattle.cip_rational.specs.Rational.{ℚ, ◌+ℚ◌, ◌-ℚ◌}
@@ -102,3 +102,6 @@ arrive side v t e = rw e (linear_same (side ∷ v ∷ []) (λ s w. omega arith))
 
 pub difference_fits : (place : EntryPlace) (a b : ℚ) → difference_overflows a b ≡ false → first_overflow (placed place (Difference a b) ∷ []) ≡ None
 difference_fits place a b e = rw e refl
+
+pub difference_first : (a b : ℚ) (place at : EntryPlace) (rest : List Placed) → difference_overflows a b ≡ true → at ≡ place → first_overflow ((placed place (Difference a b) ∷ []) ++ rest) ≡ Some at
+difference_first a b place at rest o e = rw (o, e) refl

@@ -1,5 +1,6 @@
 -- Lines that are written in whole numbers.
-use Rattle.std.proofs.Common.{◌≡◌, ℕ, ◌<◌, Bool, true, List, length, None, Ok, refl, sym, ◌∙◌, subst, arith}
+use Rattle.std.proofs.Common.{◌≡◌, ℕ, ◌<◌, Bool, true, false, List, [], length, Option, None, Some, IfSome, Ok, refl, sym, ◌∙◌, subst, arith}
+use Rattle.std.proofs.lemmas.Bool.{true≢false}
 use Rattle.cip_rational.specs.Rational.{ℚ}
 use Rattle.cip_problem.specs.Activity.{value_at}
 use Rattle.cip_bland.specs.Tables.{table, each}
@@ -35,6 +36,18 @@ module _ (n : ℕ) (basic : ℕ → Bool) (i j : ℕ) (row : List ℚ) (lr d : �
 pub whole_form : (n below : ℕ) (ws : List Whole) (es : List Kept) → IsWhole below ws → AreKept 0 n (over below ws) → IsForm n true below ws es
 whole_form n below ws es h k = record { kept = k; whole = λ _. h }
 
+-- fractions
+pub parts_form : (n below : ℕ) (ws : List Whole) (es : List Kept) → AreKept 0 n es → IsForm n false below ws es
+parts_form n below ws es k = record { kept = k; whole = λ e. absurd (true≢false (sym e)) }
+
+pub empty_form : (n below : ℕ) (ws : List Whole) (es : List Kept) → es ≡ [] → IsForm n false below ws es
+empty_form n below ws es e = parts_form n below ws es (subst (AreKept 0 n) (sym e) tt)
+
+-- whole numbers, whatever entries are left
+pub rest_form : (n : ℕ) (is_whole : Bool) (below : ℕ) (ws : List Whole) (es fs : List Kept) → is_whole ≡ true → IsForm n is_whole below ws es → IsForm n is_whole below ws fs
+rest_form n true below ws es fs e h = record { kept = h.kept; whole = h.whole }
+rest_form n false below ws es fs e h = absurd (true≢false (sym e))
+
 -- a row that is turned round
 pub turn_written : (n : ℕ) (line : Line) (basic : ℕ → Bool) (i j : ℕ) (q : ℚ) (row : List ℚ) (lr d : ℕ) (wr : List Whole) (below : ℕ) (out : List Whole) → dense lr (over d wr) ≡ row → length row ≡ n
     → first_overflow (each n (solved_operations line basic i j q (entry_on (over d wr)))) ≡ None
@@ -42,3 +55,7 @@ pub turn_written : (n : ℕ) (line : Line) (basic : ℕ → Bool) (i j : ℕ) (q
     → (first_overflow (each n (solved_operations line basic i j q (value_at row))) ≡ None)
     × (dense n (over below out) ≡ table n (solved basic i j q (value_at row)))
 turn_written n line basic i j q row lr d wr below out vr long f k = solved_written {X = Unit {0}} n basic i j q lr (over d wr) row vr long (over below out) (Ok tt) line (f, k)
+
+-- what was put, by the lists that slices are of
+pub put_as : (found : Option ℕ) (below n : ℕ) (basic : ℕ → Bool) (i j d e : ℕ) (own row other new out : List Whole) → found ≡ Some below → own ≡ row → other ≡ new → IfSome found (λ b. IsWhole b out × IsPut n basic i j d own e other b out) → IsWhole below out × IsPut n basic i j d row e new below out
+put_as found below n basic i j d e own row other new out f o w h = rw (f, o, w) at h

@@ -14,6 +14,7 @@ pub mod Grown
 pub mod KeptLoops
 pub mod KeptRows
 pub mod LeastBasic
+pub mod LineEntries
 pub mod Loops
 pub mod MoveFaults
 pub mod NearSums
@@ -25,6 +26,8 @@ pub mod ReadNumbers
 pub mod RowLists
 pub mod Settled
 pub mod SparseLines
+pub mod TakenOver
+pub mod TakenRows
 pub mod TakenValues
 pub mod Unchanged
 pub mod WideProducts

@@ -1,5 +1,6 @@
 -- Sums that fit 64 bits, and their division where they stand.
-use Rattle.std.proofs.Common.{◌≡◌, ℕ, zero, suc, ◌*◌, ◌<◌, ◌^◌, ℤ, pos, ◌*ℤ◌, List, [], ◌∷◌, length, get_or, set, refl, sym, ap, ap₂, ◌∙◌, subst, arith}
+use Rattle.std.proofs.Common.{◌≡◌, ℕ, zero, suc, ◌*◌, ◌<◌, ◌^◌, false, ℤ, pos, negsuc, ◌*ℤ◌, int_lt, int_le, List, [], ◌∷◌, length, get_or, set, refl, sym, ap, ap₂, ◌∙◌, subst, arith}
+use Rattle.std.proofs.lemmas.Int.{ints}
 use Rattle.cip_rational.specs.Rational.{ℚ, ratio}
 use Rattle.cip_rational.specs.Range.{magnitude}
 use Rattle.cip_dict.specs.SparseLines.{Kept}
@@ -48,3 +49,7 @@ divided_step g zero now (b ∷ bs) w l h e s =
 divided_step g (suc p) now [] w l h e s = absurd (omega (arith, l))
 divided_step g (suc p) [] (b ∷ bs) w l h e s = absurd h
 divided_step g (suc p) (a ∷ ns) (b ∷ bs) w l h e s = (h.0, h.1, h.2, divided_step g p ns bs w (omega (arith, l)) h.3 e s)
+
+-- what two tests tell of a number
+pub near_by_tests : (z : ℤ) → int_le z (negsuc 9223372036854775807) ≡ false → int_lt (pos 9223372036854775807) z ≡ false → magnitude z < 2 ^ 63
+near_by_tests z low high = omega (arith, ints, low, high)

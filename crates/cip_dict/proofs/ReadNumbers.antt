@@ -5,6 +5,7 @@ use Rattle.std.proofs.lemmas.Bool.{eq-eqb, ne_eqb}
 use Rattle.std.proofs.lemmas.Int.{ints}
 use Rattle.cip_rational.specs.Range.{magnitude}
 use Rattle.cip_dict.proofs.WholeParts.{read_small}
+use Rattle.cip_dict.proofs.WideProducts.{read_wide, size_of_sum}
 
 -- in 64 and in 128 bits
 abbrev word : ℤ → ℤ
@@ -22,8 +23,8 @@ natural_below d h = rw (natural_word d h) h
 pub word_below : (z : ℤ) → magnitude z < 2 ^ 42 → magnitude (word z) < 2 ^ 42
 word_below z h = rw (read_small z h) h
 
-wide_kept : (z : ℤ) → magnitude z < 2 ^ 86 → wide z ≡ z
-wide_kept z h = omega (arith, ints, h)
+pub wide_kept : (z : ℤ) → magnitude z < 2 ^ 86 → wide z ≡ z
+wide_kept z h = read_wide z (omega (arith, h))
 
 pub product_below : (z : ℤ) → magnitude z < 2 ^ 84 → magnitude (wide z) < 2 ^ 84
 product_below z h = rw (wide_kept z (omega (arith, h))) h
@@ -33,6 +34,13 @@ product_small z h = let s = product_below z h in omega (arith, s)
 
 pub sum_small : (z : ℤ) → magnitude z < 2 ^ 86 → magnitude (wide z) < 2 ^ 86
 sum_small z h = rw (wide_kept z h) h
+
+pub two_products : (p q : ℤ) → magnitude p < 2 ^ 84 → magnitude q < 2 ^ 84 → magnitude (wide p +ℤ wide q) < 2 ^ 86
+two_products p q hp hq =
+    let l = size_of_sum (wide p) (wide q) in
+    let sp = product_below p hp in
+    let sq = product_below q hq in
+    omega (arith, l, sp, sq)
 
 pub product_read : (a c p : ℤ) → magnitude a < 2 ^ 42 → magnitude c < 2 ^ 42 → p ≡ word a *ℤ word c → magnitude p < 2 ^ 84 → wide p ≡ a *ℤ c
 product_read a c p sa sc e s = wide_kept p (omega (arith, s)) ∙ e ∙ ap₂ (λ x y. x *ℤ y) (read_small a sa) (read_small c sc)

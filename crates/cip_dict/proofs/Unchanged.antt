@@ -1,5 +1,5 @@
 -- Rows without an entry on the variable that enters stay as they are, and nothing is formed for them.
-use Rattle.std.proofs.Common.{◌≡◌, ℕ, zero, suc, ◌==◌, Bool, true, false, cond, not, ◌&&◌, ◌||◌, List, [], length, Option, None, refl, ap, ◌∙◌}
+use Rattle.std.proofs.Common.{◌≡◌, ℕ, zero, suc, ◌==◌, Bool, true, false, cond, not, ◌&&◌, ◌||◌, List, [], length, Option, None, refl, sym, ap, ◌∙◌}
 use Rattle.cip_rational.specs.Rational.{ℚ, zeroℚ, negate, is_zero}
 use Rattle.cip_problem.specs.Activity.{value_at}
 use Rattle.cip_problem.proofs.Rows.{zero_of_test}
@@ -33,6 +33,13 @@ by_cases false leaves none ops e f = refl
 by_cases true true none ops e f = refl
 by_cases true false true ops e f = f refl
 by_cases true false false ops e f = absurd (cc)
+
+first_of : (a b : Bool) → true ≡ (a && b) → a ≡ true
+first_of true b e = refl
+first_of false b e = sym e
+
+pub changed_basic : (standing : List (Option Stand)) (i j v : ℕ) (row : List ℚ) → true ≡ form_changes standing i j v row → basic_in standing v ≡ true
+changed_basic standing i j v row e = first_of (basic_in standing v) _ e
 
 pub unchanged_fits : (standing : List (Option Stand)) (i j : ℕ) (q : ℚ) (new : ℕ → ℚ) (v : ℕ) (row : List ℚ) → form_changes standing i j v row ≡ false → first_overflow (form_operations_in standing i j q new v row) ≡ None
 unchanged_fits standing i j q new v row e =

@@ -1,6 +1,7 @@
 -- What was said without fault keeps what the code keeps of the facts.
 use Rattle.std.proofs.Common.{◌≡◌, ℕ, ◌<◌, ◌≤◌, Bool, true, false, ◌||◌, cond, List, [], ◌∷◌, ◌++◌, length, Option, None, Some, refl, sym, ap, subst, ◌∙◌, arith}
 use Rattle.std.specs.Prelude.{All, IfSome, is_some, slice_set, Result, Ok, Err, OnOk, OnErr}
+use Rattle.std.proofs.lemmas.Bool.{true≢false}
 use Rattle.std.proofs.lemmas.List.{length-set}
 use Rattle.std.proofs.lemmas.List.Elements.{All-nil}
 use Rattle.cip_problem.specs.Limits.{most_columns}
@@ -212,3 +213,14 @@ row_ended (Err x) f name low high row row_names rows row_name form h e r ok err 
     let same : ◌≡◌ {A = LpFacts} (record f { row_name = row_name; form = form }) (record f { row_names = row_names; rows = rows; row_name = row_name; form = form }) =
     λ i. record f { row_names = (sym err.0) i; rows = (sym err.1) i; row_name = row_name; form = form } in
     subst IsKeptLp same (row_let_go f row_name form h o t)
+
+-- ---- facts of which one thing is other
+
+pub constant_kept : (facts : LpFacts) (q : ℚ) → IsKeptLp facts → IsKeptLp (record facts { constant = q })
+constant_kept facts q h = record { sound = record { costs = h.sound.costs; bounds = h.sound.bounds; integral = h.sound.integral; row_names = h.sound.row_names; few_columns = h.sound.few_columns; few_rows = h.sound.few_rows; room = h.sound.room; few_entries = h.sound.few_entries; form = h.sound.form; rising = h.sound.rising; rows = h.sound.rows }; fresh = h.fresh }
+
+pub objective_kept : (facts : LpFacts) (name : Option (List ℕ)) → IsKeptLp facts → IsKeptLp (record facts { objective = name })
+objective_kept facts name h = record { sound = record { costs = h.sound.costs; bounds = h.sound.bounds; integral = h.sound.integral; row_names = h.sound.row_names; few_columns = h.sound.few_columns; few_rows = h.sound.few_rows; room = h.sound.room; few_entries = h.sound.few_entries; form = h.sound.form; rising = h.sound.rising; rows = h.sound.rows }; fresh = h.fresh }
+
+pub row_left : (facts : LpFacts) (name : Option (List ℕ)) (form : List FormTerm) → name ≡ None → form ≡ [] → IsKeptLp facts → IsKeptLp (record facts { row_name = name; form = form })
+row_left facts name form e f h = rw (e, f) (record { sound = record { costs = h.sound.costs; bounds = h.sound.bounds; integral = h.sound.integral; row_names = h.sound.row_names; few_columns = h.sound.few_columns; few_rows = h.sound.few_rows; room = λ s. absurd (true≢false (sym s)); few_entries = h.sound.few_entries; form = All-nil _; rising = refl; rows = h.sound.rows }; fresh = refl })

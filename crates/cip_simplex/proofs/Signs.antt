@@ -12,3 +12,11 @@ positive_test q false h =
       | inl below ↦ sym (lt_test_of_le below)
       | inr above ↦ absurd (true≢false (sym (h.1 above)))
     ]
+
+pub negative_test : (q : ℚ) (b : Bool) → (IsTrue b ↔ (q <ℚ zeroℚ)) → b ≡ lt_test q zeroℚ
+negative_test q true h = sym (test_of_lt (h.0 refl))
+negative_test q false h =
+    elim (le_or_lt zeroℚ q) [
+      | inl above ↦ sym (lt_test_of_le above)
+      | inr below ↦ absurd (true≢false (sym (h.1 below)))
+    ]

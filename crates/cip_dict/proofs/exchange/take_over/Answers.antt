@@ -1,5 +1,6 @@
+use Rattle.cip_dict.proofs.TakenOver.{rows_after_as, entered_as, values_taken_as}
 use Rattle.std.proofs.lemmas.Grind.{common_steps}
-use Rattle.std.proofs.Common.{◌∙◌, ap, refl, length, arith}
+use Rattle.std.proofs.Common.{◌∙◌, ap, refl, length, arith, ◌≡◌}
 use Rattle.cip_bland.proofs.Tables.{length-table}
 use Rattle.cip_dict.specs.Values.{taken_value}
 use Rattle.cip_dict.proofs.RowLists.{written_back}
@@ -48,18 +49,19 @@ index_mut-requires-2 c = omega (arith, c.requires.entering, c.args.standing.now.
 
 pub returns : goal.returns
 returns c =
-    let rows_long = rw c.as_slice-places.ensures.value at c.take_over_rows.ensures.rows_long in
-    let other_long = rw c.as_slice-places.ensures.value at c.take_over_rows.ensures.other_long in
-    let values = rw (c.as_slice-places.ensures.value, c.as_mut_slice-values.ensures.value, c.as_slice.ensures.value) at c.take_values.ensures in
+    let rows_long : length c.take_over_rows.new.rows ≡ length c.args.standing.now.items = c.take_over_rows.ensures.rows_long.each_one ∙ ap length c.as_slice-places.ensures.value in
+    let other_long : length c.take_over_rows.new.other ≡ length c.args.standing.now.items = c.take_over_rows.ensures.other_long.each_one ∙ ap length c.as_slice-places.ensures.value in
+    let rows = written_back c.args.lists.now.rows.len _ c.take_over_rows.new.rows c.args.lists.now.rows.items (omega (arith, c.args.lists.now.rows.ok.0, rows_long, c.requires.lists_long.rows.each_one)) in
+    let values = values_taken_as c.as_slice-places.result.now c.args.standing.now.items c.args.asked.leaving c.args.asked.entering c.as_slice-places.ensures.value c.as_mut_slice-values.result.now c.args.lists.now.values.items c.as_slice.result.now c.args.room.now.values.items c.as_mut_slice-values.ensures.value c.as_slice.ensures.value c.take_values.new.values c.take_values.ensures in
     record {
       stands = refl;
-      rows = rw (written_back c.args.lists.now.rows.len _ c.take_over_rows.new.rows c.args.lists.now.rows.items (omega (arith, c.args.lists.now.rows.ok.0, rows_long.each_one, c.requires.lists_long.rows.each_one))) (rw (c.as_slice-places.ensures.value, c.as_mut_slice-rows.ensures.value, c.as_mut_slice-other.ensures.value) at c.take_over_rows.ensures.rows);
+      rows = entered_as c.as_slice-places.result.now c.args.standing.now.items c.args.asked.leaving c.args.asked.entering c.as_slice-places.ensures.value c.take_over_rows.new.rows _ c.as_mut_slice-rows.result.now c.args.lists.now.rows.items c.as_mut_slice-other.result.now c.args.room.now.rows.items c.args.room.now.entering rows c.as_mut_slice-rows.ensures.value c.as_mut_slice-other.ensures.value c.take_over_rows.ensures.rows;
       costs = c.swap.ensures.x_after;
       values = written_back c.args.lists.now.values.len _ c.take_values.new.values c.args.lists.now.values.items (omega (arith, c.args.lists.now.values.ok.0, c.requires.lists_long.values, ap length values, length-table (length c.args.standing.now.items) (taken_value c.args.standing.now.items c.args.asked.entering c.args.lists.now.values.items c.args.room.now.values.items))) ∙ values;
       cost_is = refl;
-      long = rw (written_back c.args.lists.now.rows.len _ c.take_over_rows.new.rows c.args.lists.now.rows.items (omega (arith, c.args.lists.now.rows.ok.0, rows_long.each_one, c.requires.lists_long.rows.each_one))) rows_long;
-      rest_long = rw (written_back c.args.room.now.rows.len _ c.take_over_rows.new.other c.args.room.now.rows.items (omega (arith, c.args.room.now.rows.ok.0, other_long.each_one, c.requires.room_long.rows.each_one))) other_long;
-      rest_entering = rw c.as_slice-places.ensures.value at c.take_over_rows.ensures.entering_long;
+      long = rows_after_as c.as_slice-places.result.now c.args.standing.now.items c.args.asked.leaving c.args.asked.entering c.as_slice-places.ensures.value _ c.take_over_rows.new.rows rows c.take_over_rows.ensures.rows_long;
+      rest_long = rows_after_as c.as_slice-places.result.now c.args.standing.now.items c.args.asked.leaving c.args.asked.entering c.as_slice-places.ensures.value _ c.take_over_rows.new.other (written_back c.args.room.now.rows.len _ c.take_over_rows.new.other c.args.room.now.rows.items (omega (arith, c.args.room.now.rows.ok.0, other_long, c.requires.room_long.rows.each_one))) c.take_over_rows.ensures.other_long;
+      rest_entering = c.take_over_rows.ensures.entering_long ∙ ap length c.as_slice-places.ensures.value;
       rest_changed = c.requires.room_long.changed;
       rest_costs = c.swap.ensures.y_after;
       rest_values = c.requires.room_long.values;

@@ -1,3 +1,4 @@
+use Rattle.cip_dict.proofs.Begun.{row_fault_memory}
 use Rattle.std.proofs.lemmas.Grind.{common_steps}
 use Rattle.std.proofs.Common.{◌≡◌, ◌∙◌, ◌++◌, ◌∷◌, [], length, sym, ap, ap₂, arith}
 use Rattle.std.proofs.lemmas.List.{get_or_default}
@@ -21,12 +22,15 @@ pub returns-in-Ok-found : goal.returns-in-Ok-found
 returns-in-Ok-found c =
     let end : c.loop-k.k ≡ length c.args.columns.now = omega arith in
     let at : c.as_slice-begun.result.now ≡ column_values_of c.args.columns.now = c.as_slice-begun.ensures.value ∙ c.loop-k.invariant ∙ ap (λ n. table n (column_value c.args.columns.now)) end in
-    let values : c.extend_from_slice.new.self.items ≡ c.as_slice-begun.result.now = grind (arith, common_steps) in
+    let values : c.extend_from_slice.new.self.items ≡ c.as_slice-begun.result.now = c.in_ok-extend_from_slice.ensures.items ∙ ap (λ xs. xs ++ c.as_slice-begun.result.now) c.emptied-values.ensures in
     let e = rw at at c.in-Ok-found.ensures in
     (e.0, e.1 ∙ ap (λ xs. xs ++ table c.args.m (row_form (length c.args.columns.now) c.args.rows.now (column_values_of c.args.columns.now))) (values ∙ at), e.2)
 
 pub returns-in-Err : goal.returns-in-Err
-returns-in-Err c = grind (arith, common_steps)
+returns-in-Err c =
+    let end : c.loop-k.k ≡ length c.args.columns.now = omega arith in
+    let at : c.as_slice-begun.result.now ≡ column_values_of c.args.columns.now = c.as_slice-begun.ensures.value ∙ c.loop-k.invariant ∙ ap (λ n. table n (column_value c.args.columns.now)) end in
+    rw at at c.in-Err.ensures
 
 pub rows_and_cost-found-requires-clause-long : goal.rows_and_cost-found-requires-clause-long
 rows_and_cost-found-requires-clause-long c = omega arith
@@ -57,3 +61,6 @@ offset_bounds-columns-k c = grind (arith, common_steps)
 
 pub returns-in_default : goal.returns-in_default
 returns-in_default c = grind (arith, common_steps)
+
+pub returns-in_err-extend_from_slice : goal.returns-in_err-extend_from_slice
+returns-in_err-extend_from_slice c = row_fault_memory c.from_residual.result _ _ c.from_residual.ensures.1

@@ -1,5 +1,7 @@
+use Rattle.cip_dict.specs.FirstLists.{stand_in}
+use Rattle.cip_bland.specs.Tables.{table}
 use Rattle.std.proofs.lemmas.Grind.{common_steps}
-use Rattle.std.proofs.Common.{◌∙◌, ◌++◌, ◌∷◌, [], sym, ap₂, arith}
+use Rattle.std.proofs.Common.{◌∙◌, ◌++◌, ◌∷◌, [], sym, ap₂, arith, ◌≡◌, ap}
 use Rattle.cip_dict.proofs.Grown.{table_none, table_more}
 use Rattle.cip_dict.proofs.first.first_stands.Goals as goal
 
@@ -11,3 +13,8 @@ loop-v-preserved c = c.in-Ok.ensures.items ∙ ap₂ (λ xs x. xs ++ x ∷ []) c
 
 pub returns-in_default : goal.returns-in_default
 returns-in_default c = grind (arith, common_steps)
+
+pub returns : goal.returns
+returns c =
+    let end : c.loop-v.v ≡ c.args.n = omega (arith, c.loop-v-test.false, c.loop-v.auto.v-end) in
+    c.loop-v.invariant ∙ ap (λ n. table n (stand_in c.args.columns.now)) end

@@ -1,17 +1,18 @@
+use Rattle.cip_rational.specs.Range.{difference_overflows}
 use Rattle.std.proofs.lemmas.Grind.{common_steps}
-use Rattle.std.proofs.Common.{◌≡◌, ◌∙◌, ap, length, [], ◌∷◌, arith}
+use Rattle.std.proofs.Common.{◌≡◌, ◌∙◌, ap, length, [], ◌∷◌, arith, true, sym, ap₂}
 use Rattle.cip_problem.specs.Activity.{value_at}
 use Rattle.cip_problem.specs.Box.{sides_at}
 use Rattle.cip_bland.specs.Dictionary.{stand, standing_value}
 use Rattle.cip_bland.specs.Exchange.{way, other_stand}
 use Rattle.cip_bland.specs.Tables.{least}
-use Rattle.cip_bland.specs.Operations.{placed, Difference, value_place}
+use Rattle.cip_bland.specs.Operations.{placed, Difference, value_place, first_overflow}
 use Rattle.cip_bland.specs.MoveOperations.{first_line, flip_operations}
 use Rattle.cip_dict.specs.Lists.{basic_in}
 use Rattle.cip_dict.specs.State.{state}
 use Rattle.cip_dict.specs.Written.{MovesWritten, flips_operations}
 use Rattle.cip_dict.proofs.Chains.{then_rest_as}
-use Rattle.cip_dict.proofs.Flipped.{arrive, difference_fits, flip_split, flip_planned}
+use Rattle.cip_dict.proofs.Flipped.{arrive, difference_fits, flip_split, flip_planned, difference_first}
 use Rattle.cip_dict.proofs.flip.plan_flip.Goals as goal
 
 pub write_flips-requires-clause-arrives : goal.write_flips-requires-clause-arrives
@@ -70,3 +71,11 @@ bounds-standing-j c = grind (arith, common_steps)
 
 pub offset_bounds-standing-j : goal.offset_bounds-standing-j
 offset_bounds-standing-j c = grind (arith, common_steps)
+
+pub returns-in-Err-clause-written : goal.returns-in-Err-clause-written
+returns-in-Err-clause-written c =
+    let v : c.number_at-value.result ≡ value_at c.args.lists.now.values.items c.args.j = c.number_at-value.ensures ∙ ap (λ xs. value_at xs c.args.j) c.as_slice.ensures.value in
+    let side : c.side_of-side.result ≡ standing_value (sides_at c.args.sides.now c.args.j) (other_stand (stand (state c.args.sides.now c.args.standing.now c.args.lists.now) c.args.j)) = c.side_of-side.ensures ∙ ap (standing_value (sides_at c.args.sides.now c.args.j)) c.other_of-other.ensures in
+    let wide : difference_overflows (standing_value (sides_at c.args.sides.now c.args.j) (other_stand (stand (state c.args.sides.now c.args.standing.now c.args.lists.now) c.args.j))) (value_at c.args.lists.now.values.items c.args.j) ≡ true = sym (ap₂ difference_overflows side v) ∙ c.in-Err.ensures.0 in
+    ap first_overflow (flip_split c.args.sides.now c.args.standing.now c.args.lists.now c.args.j c.requires.sides_long)
+    ∙ difference_first _ _ (value_place (first_line (least (length c.args.standing.now) (basic_in c.args.standing.now)))) c.value_of-place.result _ wide (c.value_of-place.ensures ∙ ap value_place c.first_basic.ensures)

@@ -1,11 +1,14 @@
+use Rattle.cip_bland.specs.declared.places.Line.TheVariants.{Cost}
+use Rattle.cip_bland.specs.Operations.{first_overflow, value_place}
+use Rattle.cip_dict.proofs.LineEntries.{sum_as}
 use Rattle.std.proofs.lemmas.Grind.{common_steps}
-use Rattle.std.proofs.Common.{◌≡◌, ◌∙◌, ap, length, refl, arith}
-use Rattle.cip_rational.specs.Rational.{◌+ℚ◌, ◌*ℚ◌}
+use Rattle.std.proofs.Common.{◌≡◌, ◌∙◌, ap, length, refl, arith, List, None}
+use Rattle.cip_rational.specs.Rational.{◌+ℚ◌, ◌*ℚ◌, ℚ}
 use Rattle.cip_problem.specs.Activity.{value_at}
 use Rattle.cip_bland.proofs.Overflow.{overflow-found}
-use Rattle.cip_bland.specs.Tables.{table}
-use Rattle.cip_dict.specs.Values.{taken_value}
-use Rattle.cip_dict.proofs.Chains.{then_rest}
+use Rattle.cip_bland.specs.Tables.{table, each}
+use Rattle.cip_dict.specs.Values.{taken_value, flipped_operations_in, moved_in}
+use Rattle.cip_dict.proofs.Chains.{then_rest, both_as}
 use Rattle.cip_dict.proofs.RowLists.{written_back}
 use Rattle.cip_dict.proofs.flip.write_flips.Goals as goal
 
@@ -16,9 +19,9 @@ returns-in-Err-clause-written c =
 
 pub returns-clause-written : goal.returns-clause-written
 returns-clause-written c =
-    let h = rw (c.as_slice.ensures.value, c.as_slice-2.ensures.value) at c.in-Ok.ensures.written in
+    let h = both_as (λ (rows : List (List ℚ)) (values : List ℚ). (first_overflow (each (length c.args.standing.now) (flipped_operations_in c.args.standing.now rows c.args.j c.args.t values)) ≡ None) × (table (length c.args.standing.now) (taken_value c.args.standing.now c.args.j values c.write_flipped.new.out) ≡ table (length c.args.standing.now) (moved_in c.args.standing.now rows c.args.j c.args.t values))) c.as_slice.result.now c.args.lists.now.rows.items c.as_slice-2.result.now c.args.lists.now.values.items c.as_slice.ensures.value c.as_slice-2.ensures.value c.in-Ok.ensures.written in
     let e = c.entry-entry.ensures in
-    let last = rw (c.value_of.ensures, e) at c.sum.ensures in
+    let last = sum_as c.sum.result (value_place Cost) c.value_of.result c.args.lists.now.cost (value_at c.args.lists.now.costs c.args.j) c.entry-entry.result c.args.t c.args.t c.value_of.ensures e refl c.sum.ensures in
     then_rest _ _ c.sum.result (λ v. v ≡ c.args.lists.now.cost +ℚ value_at c.args.lists.now.costs c.args.j *ℚ c.args.t) _ h.0 last
     (λ v p. record {
       entering = refl;
@@ -37,7 +40,7 @@ returns-in-Err-clause-long c =
       rows = c.requires.room_long.rows;
       changed = c.requires.room_long.changed;
       costs = c.requires.room_long.costs;
-      values = rw (written_back c.args.room.now.values.len _ c.write_flipped.new.out c.args.room.now.values.items (omega (arith, c.args.room.now.values.ok.0, values))) (values ∙ c.requires.room_long.values);
+      values = ap length (written_back c.args.room.now.values.len _ c.write_flipped.new.out c.args.room.now.values.items (omega (arith, c.args.room.now.values.ok.0, values))) ∙ values ∙ c.requires.room_long.values;
     }
 
 pub returns-clause-long : goal.returns-clause-long
@@ -48,7 +51,7 @@ returns-clause-long c =
       rows = c.requires.room_long.rows;
       changed = c.requires.room_long.changed;
       costs = c.requires.room_long.costs;
-      values = rw (written_back c.args.room.now.values.len _ c.write_flipped.new.out c.args.room.now.values.items (omega (arith, c.args.room.now.values.ok.0, values))) (values ∙ c.requires.room_long.values);
+      values = ap length (written_back c.args.room.now.values.len _ c.write_flipped.new.out c.args.room.now.values.items (omega (arith, c.args.room.now.values.ok.0, values))) ∙ values ∙ c.requires.room_long.values;
     }
 
 pub write_flipped-requires-clause-arrives : goal.write_flipped-requires-clause-arrives

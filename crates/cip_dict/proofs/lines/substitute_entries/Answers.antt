@@ -1,5 +1,8 @@
+use Rattle.cip_dict.specs.Pivots.{absent_by}
+use Rattle.cip_bland.specs.Operations.{entry_place}
+use Rattle.cip_dict.proofs.LineEntries.{substituted_as}
 use Rattle.std.proofs.lemmas.Grind.{common_steps}
-use Rattle.std.proofs.Common.{◌∙◌, refl, length, arith, suc}
+use Rattle.std.proofs.Common.{◌∙◌, refl, length, arith, suc, ◌==◌}
 use Rattle.cip_bland.specs.Exchange.{substituted}
 use Rattle.cip_bland.specs.MoveOperations.{substituted_operations}
 use Rattle.cip_dict.specs.Lists.{basic_in}
@@ -23,7 +26,7 @@ pub loop-k-preserved : goal.loop-k-preserved
 loop-k-preserved c =
     let next : IsNext c.args.row.now c.args.new.now c.place_past-here.result c.place_past-there.result (suc c.loop-k.k) c.next_variable-k-in-loop-k.result =
     c.next_variable-k-in-loop-k.ensures.next (suc c.loop-k.k) (omega arith) c.place_past-here.ensures c.place_past-there.ensures in
-    let here = c.in-Ok.ensures.written _ _ (rw (c.entry_from-a.ensures, c.entry_from-c.ensures, c.requires.on) at c.substituted_entry.ensures) in
+    let here = c.in-Ok.ensures.written _ _ (substituted_as (entry_place c.args.line c.loop-k.k) (c.loop-k.k == c.args.pivot.now.leaving) (absent_by c.args.pivot.now c.loop-k.k) c.args.pivot.now.inverse c.entry_from-a.result (entry_on c.args.row.now c.loop-k.k) c.args.b (entry_on c.args.row.now c.args.pivot.now.entering) c.entry_from-c.result (entry_on c.args.new.now c.loop-k.k) c.substituted_entry.result c.entry_from-a.ensures c.requires.on c.entry_from-c.ensures c.substituted_entry.ensures) in
     let more = keep_more c.loop-k.k c.next_variable-k-in-loop-k.result
     (substituted_operations c.args.line (basic_in c.args.pivot.now.standing.now) c.args.pivot.now.leaving c.args.pivot.now.entering c.args.pivot.now.inverse (entry_on c.args.new.now) (entry_on c.args.row.now))
     (substituted (basic_in c.args.pivot.now.standing.now) c.args.pivot.now.leaving c.args.pivot.now.entering c.args.pivot.now.inverse (entry_on c.args.new.now) (entry_on c.args.row.now))
@@ -34,7 +37,7 @@ loop-k-preserved c =
 pub returns-in-Err-clause-written : goal.returns-in-Err-clause-written
 returns-in-Err-clause-written c =
     fault_at (length c.args.pivot.now.standing.now) c.loop-k.k _ c.in-Err.fault (omega arith) c.loop-k.invariant.fits
-    (c.in-Err.ensures.written _ _ (rw (c.entry_from-a.ensures, c.entry_from-c.ensures, c.requires.on) at c.substituted_entry.ensures))
+    (c.in-Err.ensures.written _ _ (substituted_as (entry_place c.args.line c.loop-k.k) (c.loop-k.k == c.args.pivot.now.leaving) (absent_by c.args.pivot.now c.loop-k.k) c.args.pivot.now.inverse c.entry_from-a.result (entry_on c.args.row.now c.loop-k.k) c.args.b (entry_on c.args.row.now c.args.pivot.now.entering) c.entry_from-c.result (entry_on c.args.new.now c.loop-k.k) c.substituted_entry.result c.entry_from-a.ensures c.requires.on c.entry_from-c.ensures c.substituted_entry.ensures))
 
 pub returns-in-Err-clause-kept : goal.returns-in-Err-clause-kept
 returns-in-Err-clause-kept c = are_kept c.loop-k.k (length c.args.pivot.now.standing.now) _ _ (c.in-Err.ensures.left ∙ c.loop-k.invariant.written) c.loop-k.invariant.within

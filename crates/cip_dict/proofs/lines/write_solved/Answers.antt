@@ -12,7 +12,7 @@ use Rattle.cip_dict.proofs.WholePuts.{turned_whole}
 use Rattle.cip_dict.proofs.Dense.{solved_written, dense_kept, dense_long}
 use Rattle.cip_dict.proofs.KeptLoops.{are_kept}
 use Rattle.cip_dict.proofs.FormParts.{one_kept, whole_view, whole_read, parted_kept, parted_view}
-use Rattle.cip_dict.proofs.FormPuts.{as_long, turn_written, whole_form}
+use Rattle.cip_dict.proofs.FormPuts.{as_long, turn_written, whole_form, empty_form}
 use Rattle.cip_dict.proofs.lines.write_solved.Goals as goal
 
 signed_some : (b : Bool) (d : ℕ) → 0 < d → cond b (pos d) (neg_ℤ (pos d)) ≡ pos 0 → ⊥
@@ -44,7 +44,7 @@ pub invariant_of-out-2 : goal.invariant_of-out-2
 invariant_of-out-2 c = grind (arith, common_steps)
 
 pub invariant_of-out-in-Err : goal.invariant_of-out-in-Err
-invariant_of-out-in-Err c = grind (arith, common_steps)
+invariant_of-out-in-Err c = empty_form _ _ _ _ c.clear.ensures.items
 
 pub number_of-own-requires-clause-kept : goal.number_of-own-requires-clause-kept
 number_of-own-requires-clause-kept c = ((length c.args.pivot.now.standing.now), rw c.as_slice-wholes.ensures.value (as_long c.row.inside.len (length c.args.pivot.now.standing.now) (over c.row.inside.below c.row.inside.wholes.items) (over 1 c.row.inside.wholes.items) c.args.row.now (whole_view c.row.inside.len c.row.inside.is_whole c.row.inside.below c.row.inside.wholes.items c.row.inside.entries.items c.args.row.now c.row.invariant c.row.view_is c.if-row.true) c.requires.row_long (one_kept c.row.inside.len c.row.inside.is_whole c.row.inside.below c.row.inside.wholes.items c.row.inside.entries.items c.args.row.now c.row.invariant c.row.view_is c.if-row.true)))

@@ -1,6 +1,7 @@
+use Rattle.std.specs.Int.{w64}
 use Rattle.std.proofs.lemmas.Grind.{common_steps}
 use Rattle.std.proofs.Common.{◌≡◌, ◌∙◌, pos, ap, arith}
-use Rattle.std.proofs.lemmas.Int.{ints}
+use Rattle.std.proofs.lemmas.Int.{ints, to_z-of_z}
 use Rattle.cip_rational.specs.Rational.{ratio}
 use Rattle.cip_rational.proofs.Rational.Inverse.{ratio_zero}
 use Rattle.cip_bland.proofs.Zeros.{is_zero_of}
@@ -16,7 +17,7 @@ pub returns-in-None : goal.returns-in-None
 returns-in-None c = grind (arith, common_steps)
 
 pub returns-in-Some : goal.returns-in-Some
-returns-in-Some c = grind (arith, common_steps)
+returns-in-Some c = rw (to_z-of_z w64 c.args.n c.ranges.n) at c.in-Some.ensures
 
 pub fraction-requires-clause-positive : goal.fraction-requires-clause-positive
 fraction-requires-clause-positive c = grind (arith, common_steps)

@@ -1,9 +1,9 @@
 use Rattle.std.proofs.Common.{◌≡◌, ◌<◌, ◌-◌, ◌^◌, ◌*◌, pos, ◌+ℤ◌, ◌*ℤ◌, to_z, of_z, ap₂, refl, arith}
 use Rattle.std.specs.Int.{w64}
 use Rattle.std.proofs.lemmas.Nat.{mul-le}
-use Rattle.std.proofs.lemmas.Int.{ints, fits_signed_from_abs}
+use Rattle.std.proofs.lemmas.Int.{ints, fits_signed_from_abs, to_z_pos}
 use Rattle.cip_rational.specs.Range.{magnitude}
-use Rattle.cip_dict.proofs.Added.{read_word, short_size}
+use Rattle.cip_dict.proofs.Added.{read_word, short_size, sum_size, sum_read, sum_fits_word}
 use Rattle.cip_dict.proofs.moved.terms_of_sum.Goals as goal
 
 pub overflow_cast-under : goal.overflow_cast-under
@@ -38,7 +38,7 @@ pub overflow_add-result : goal.overflow_add-result
 overflow_add-result c =
     let a = read_word c.long_product-first.result (omega (arith, c.long_product-first.ensures.short)) in
     let b = read_word c.long_product-second.result (omega (arith, c.long_product-second.ensures.short)) in
-    rw (a, b) (fits_signed_from_abs w64 (c.long_product-first.result +ℤ c.long_product-second.result) (omega (arith, ints, c.long_product-first.ensures.short, c.long_product-second.ensures.short)))
+    rw (a, b) (sum_fits_word c.long_product-first.result c.long_product-second.result c.long_product-first.ensures.short c.long_product-second.ensures.short)
 
 pub returns-clause-under : goal.returns-clause-under
 returns-clause-under c = refl
@@ -47,11 +47,11 @@ pub returns-clause-over : goal.returns-clause-over
 returns-clause-over c =
     let a = read_word c.long_product-first.result (omega (arith, c.long_product-first.ensures.short)) in
     let b = read_word c.long_product-second.result (omega (arith, c.long_product-second.ensures.short)) in
-    let r = read_word (c.long_product-first.result +ℤ c.long_product-second.result) (omega (arith, ints, c.long_product-first.ensures.short, c.long_product-second.ensures.short)) in
+    let r = sum_read c.long_product-first.result c.long_product-second.result c.long_product-first.ensures.short c.long_product-second.ensures.short in
     let l = mul-le c.args.below c.args.d (2 ^ 20 - 1) (2 ^ 20 - 1) (omega (arith, c.requires.entry_below)) (omega (arith, c.requires.factor_below)) in
     let short : c.args.below * c.args.d < 2 ^ 40 = omega (arith, l) in
-    let under : to_z w64 (c.args.below * c.args.d) ≡ pos (c.args.below * c.args.d) = omega (arith, ints, short) in
-    let under_b : to_z w64 c.args.b ≡ pos c.args.b = omega (arith, ints, c.requires.own_below) in
+    let under : to_z w64 (c.args.below * c.args.d) ≡ pos (c.args.below * c.args.d) = to_z_pos w64 (c.args.below * c.args.d) (omega (arith, short)) in
+    let under_b : to_z w64 c.args.b ≡ pos c.args.b = to_z_pos w64 c.args.b (omega (arith, c.requires.own_below)) in
     let own = read_word c.args.a (omega (arith, c.requires.own)) in
     let n = read_word c.args.n (omega (arith, c.requires.entry)) in
     let f = read_word c.args.c (omega (arith, c.requires.factor)) in
@@ -65,8 +65,8 @@ pub returns-clause-short : goal.returns-clause-short
 returns-clause-short c =
     let a = read_word c.long_product-first.result (omega (arith, c.long_product-first.ensures.short)) in
     let b = read_word c.long_product-second.result (omega (arith, c.long_product-second.ensures.short)) in
-    let r = read_word (c.long_product-first.result +ℤ c.long_product-second.result) (omega (arith, ints, c.long_product-first.ensures.short, c.long_product-second.ensures.short)) in
-    rw (a, b, r) (omega (arith, ints, c.long_product-first.ensures.short, c.long_product-second.ensures.short))
+    let r = sum_read c.long_product-first.result c.long_product-second.result c.long_product-first.ensures.short c.long_product-second.ensures.short in
+    rw (a, b, r) (sum_size c.long_product-first.result c.long_product-second.result c.long_product-first.ensures.short c.long_product-second.ensures.short)
 
 pub overflow_mul-under : goal.overflow_mul-under
 overflow_mul-under c =

@@ -1,14 +1,19 @@
+use Rattle.cip_dict.specs.Pivots.{absent_by}
+use Rattle.cip_dict.proofs.WideProducts.{number_as}
+use Rattle.std.proofs.lemmas.Result.{IfOk-from_err}
 use Rattle.std.proofs.lemmas.Grind.{common_steps}
-use Rattle.std.proofs.Common.{◌≡◌, ◌<◌, ◌≤◌, ◌∙◌, to_z, of_z, length, arith, suc, sym, subst, lit<, ◌^◌, ap}
+use Rattle.std.proofs.Common.{◌≡◌, ◌<◌, ◌≤◌, ◌∙◌, to_z, of_z, length, arith, suc, sym, subst, lit<, ◌^◌, ap, ◌==◌}
 use Rattle.std.specs.Int.{w64, w128}
-use Rattle.std.proofs.lemmas.Int.{ints, fits_signed_from_abs}
+use Rattle.std.proofs.lemmas.Int.{fits_signed_from_abs}
 use Rattle.cip_rational.specs.Range.{magnitude}
 use Rattle.cip_dict.specs.Lists.{basic_in}
 use Rattle.cip_dict.specs.SparseLines.{IsNext}
-use Rattle.cip_dict.specs.WholeLines.{over, put_number, AreBelow, wholes_of}
+use Rattle.cip_dict.specs.WholeLines.{over, put_number, AreBelow, wholes_of, number_on}
 use Rattle.cip_dict.proofs.Places.{place_zero}
 use Rattle.cip_dict.proofs.WholeParts.{none_over, read_small}
 use Rattle.cip_dict.proofs.WholeLoops.{whole_gap, whole_more, put_none}
+use Rattle.cip_dict.proofs.ReadNumbers.{wide_kept}
+use Rattle.cip_dict.proofs.NearSums.{near_by_tests}
 use Rattle.cip_dict.proofs.near_sums.sum_near.Goals as goal
 use Rattle.cip_dict.proofs.Added.{read_word}
 
@@ -38,13 +43,11 @@ pub substituted_number-z-requires-clause-new_small : goal.substituted_number-z-r
 substituted_number-z-requires-clause-new_small c = rw (read_small c.loop-step.step.y c.loop-step.invariant.new_small) c.loop-step.invariant.new_small
 
 pub overflow_cast-z : goal.overflow_cast-z
-overflow_cast-z c =
-    let near : magnitude (to_z w128 (of_z w128 c.substituted_number-z.result)) < 2 ^ 63 = omega (arith, ints, c.if-z.false, c.if-z-2.false) in
-    fits_signed_from_abs w64 _ near
+overflow_cast-z c = fits_signed_from_abs w64 _ (near_by_tests (to_z w128 (of_z w128 c.substituted_number-z.result)) c.if-z.false c.if-z-2.false)
 
 pub overflow_cast-z-in-loop-step : goal.overflow_cast-z-in-loop-step
 overflow_cast-z-in-loop-step c =
-    let near : magnitude (to_z w128 (of_z w128 c.substituted_number-z.result)) < 2 ^ 63 = omega (arith, ints, c.if-z.false, c.if-z-2.false) in
+    let near : magnitude (to_z w128 (of_z w128 c.substituted_number-z.result)) < 2 ^ 63 = near_by_tests (to_z w128 (of_z w128 c.substituted_number-z.result)) c.if-z.false c.if-z-2.false in
     fits_signed_from_abs w64 _ near
 
 pub loop-step-preserved : goal.loop-step-preserved
@@ -53,9 +56,9 @@ loop-step-preserved c =
     let next : IsNext (over 1 c.args.row.now) (over 1 c.args.new.now) c.loop-step.step.here c.loop-step.step.there (suc c.loop-step.step.k) c.next_step-step-in-loop-step.result.k =
     c.next_step-step-in-loop-step.ensures.next (suc c.loop-step.step.k) (omega arith) (c.loop-step.invariant.row_past l) (c.loop-step.invariant.new_past l) in
     let z : c.substituted_number-z.result ≡ put_number (basic_in c.args.pivot.now.standing.now) c.args.pivot.now.leaving c.args.pivot.now.entering c.args.factors.own c.args.factors.new c.args.row.now c.args.new.now c.loop-step.step.k =
-    rw (read_small c.loop-step.step.n c.loop-step.invariant.row_small, read_small c.loop-step.step.y c.loop-step.invariant.new_small, c.loop-step.invariant.row_value l, c.loop-step.invariant.new_value l) at c.substituted_number-z.ensures.value in
-    let kept : to_z w128 (of_z w128 c.substituted_number-z.result) ≡ c.substituted_number-z.result = omega (arith, ints, c.substituted_number-z.ensures.small) in
-    let near : magnitude (to_z w128 (of_z w128 c.substituted_number-z.result)) < 2 ^ 63 = omega (arith, ints, c.if-z.false, c.if-z-2.false) in
+    number_as (c.loop-step.step.k == c.args.pivot.now.leaving) (absent_by c.args.pivot.now c.loop-step.step.k) c.args.factors.own c.args.factors.new (number_on c.args.row.now c.loop-step.step.k) _ (number_on c.args.new.now c.loop-step.step.k) _ c.substituted_number-z.result (read_small c.loop-step.step.n c.loop-step.invariant.row_small ∙ c.loop-step.invariant.row_value l) (read_small c.loop-step.step.y c.loop-step.invariant.new_small ∙ c.loop-step.invariant.new_value l) c.substituted_number-z.ensures.value in
+    let kept : to_z w128 (of_z w128 c.substituted_number-z.result) ≡ c.substituted_number-z.result = wide_kept c.substituted_number-z.result c.substituted_number-z.ensures.small in
+    let near : magnitude (to_z w128 (of_z w128 c.substituted_number-z.result)) < 2 ^ 63 = near_by_tests (to_z w128 (of_z w128 c.substituted_number-z.result)) c.if-z.false c.if-z-2.false in
     let short : to_z w64 (of_z w64 (to_z w128 (of_z w128 c.substituted_number-z.result))) ≡ to_z w128 (of_z w128 c.substituted_number-z.result) = read_word (to_z w128 (of_z w128 c.substituted_number-z.result)) near in
     record {
       within = c.next_step-step-in-loop-step.ensures.within;
@@ -83,7 +86,7 @@ loop-step-smaller c =
 
 pub returns-in_err-keep_number-clause-near : goal.returns-in_err-keep_number-clause-near
 returns-in_err-keep_number-clause-near c =
-    let near : magnitude (to_z w128 (of_z w128 c.substituted_number-z.result)) < 2 ^ 63 = omega (arith, ints, c.if-z.false, c.if-z-2.false) in
+    let near : magnitude (to_z w128 (of_z w128 c.substituted_number-z.result)) < 2 ^ 63 = near_by_tests (to_z w128 (of_z w128 c.substituted_number-z.result)) c.if-z.false c.if-z-2.false in
     c.in_err-keep_number.ensures.below (2 ^ 63) (rw (read_word (to_z w128 (of_z w128 c.substituted_number-z.result)) near) near) c.loop-step.invariant.near
 
 pub returns-clause-told : goal.returns-clause-told
@@ -138,3 +141,6 @@ overflow_cast-len c = grind (arith, common_steps)
 
 pub returns-then-z-clause-told : goal.returns-then-z-clause-told
 returns-then-z-clause-told c = grind (arith, common_steps)
+
+pub returns-in_err-keep_number-clause-told : goal.returns-in_err-keep_number-clause-told
+returns-in_err-keep_number-clause-told c = IfOk-from_err c.from_residual.result _ c.from_residual.ensures.0

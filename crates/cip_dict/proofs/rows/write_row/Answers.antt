@@ -1,7 +1,7 @@
 use Rattle.std.proofs.lemmas.Grind.{common_steps}
-use Rattle.std.proofs.Common.{sym, arith}
+use Rattle.std.proofs.Common.{sym, arith, ◌∙◌}
 use Rattle.cip_problem.specs.Activity.{value_at}
-use Rattle.cip_dict.proofs.Unchanged.{unchanged_fits, unchanged_stays}
+use Rattle.cip_dict.proofs.Unchanged.{unchanged_fits, unchanged_stays, changed_basic}
 use Rattle.cip_dict.proofs.rows.write_row.Goals as goal
 
 pub returns-then-not-changes-clause-written : goal.returns-then-not-changes-clause-written
@@ -53,7 +53,7 @@ pub returns-in-Ok-count_room-clause-written : goal.returns-in-Ok-count_room-clau
 returns-in-Ok-count_room-clause-written c = grind (arith, common_steps)
 
 pub write_substituted-requires-clause-row_long : goal.write_substituted-requires-clause-row_long
-write_substituted-requires-clause-row_long c = grind (arith, common_steps)
+write_substituted-requires-clause-row_long c = c.requires.row_long (changed_basic c.args.pivot.now.standing.now c.args.pivot.now.leaving c.args.pivot.now.entering c.args.v c.args.row.now c.if-not-changes.ensures)
 
 pub overflow_cast-v : goal.overflow_cast-v
 overflow_cast-v c = grind (arith, common_steps)
@@ -66,3 +66,12 @@ returns-in-Err-clause-marked c = grind (arith, common_steps)
 
 pub returns-then-not-changes-clause-long : goal.returns-then-not-changes-clause-long
 returns-then-not-changes-clause-long c = grind (arith, common_steps)
+
+pub returns-in-Err-clause-long : goal.returns-in-Err-clause-long
+returns-in-Err-clause-long c = c.write_substituted.ensures.long ∙ sym (c.requires.out_long (changed_basic c.args.pivot.now.standing.now c.args.pivot.now.leaving c.args.pivot.now.entering c.args.v c.args.row.now c.if-not-changes.ensures))
+
+pub returns-in-Err-count_room-clause-long : goal.returns-in-Err-count_room-clause-long
+returns-in-Err-count_room-clause-long c = c.write_substituted.ensures.long ∙ sym (c.requires.out_long (changed_basic c.args.pivot.now.standing.now c.args.pivot.now.leaving c.args.pivot.now.entering c.args.v c.args.row.now c.if-not-changes.ensures))
+
+pub returns-in-Ok-count_room-clause-long : goal.returns-in-Ok-count_room-clause-long
+returns-in-Ok-count_room-clause-long c = c.write_substituted.ensures.long ∙ sym (c.requires.out_long (changed_basic c.args.pivot.now.standing.now c.args.pivot.now.leaving c.args.pivot.now.entering c.args.v c.args.row.now c.if-not-changes.ensures))

@@ -1,5 +1,10 @@
+use Rattle.cip_dict.specs.Pivots.{form_operations_by, written_by, changes_by}
+use Rattle.cip_bland.specs.Operations.{first_overflow}
+use Rattle.cip_problem.specs.Activity.{value_at}
+use Rattle.cip_rational.specs.Rational.{ℚ}
+use Rattle.cip_dict.proofs.Chains.{both_as}
 use Rattle.std.proofs.lemmas.Grind.{common_steps}
-use Rattle.std.proofs.Common.{arith, length, ◌<◌, ◌≡◌, [], get_or, false, length-set, ◌∙◌, ap, sym}
+use Rattle.std.proofs.Common.{arith, length, ◌<◌, ◌≡◌, [], get_or, false, length-set, ◌∙◌, ap, sym, subst, List, None}
 use Rattle.std.proofs.lemmas.List.{get_or-set_other}
 use Rattle.cip_bland.proofs.Overflow.{first_more}
 use Rattle.cip_dict.specs.Row.{row_in}
@@ -20,11 +25,11 @@ loop-v-preserved c =
     let here : c.index-out-v.result ≡ row_in c.loop-v.out c.loop-v.v = row_read c.loop-v.out c.loop-v.v c.index-out-v.result within c.index-out-v.is in
     let o : get_or c.loop-v.out c.loop-v.v c.index-out-v.result ≡ row_in c.args.out.now c.loop-v.v = sym c.index-out-v.is ∙ here ∙ c.loop-v.invariant.rest c.loop-v.v (omega arith) in
     record {
-      fits = first_more c.loop-v.v _ c.loop-v.invariant.fits (rw r at c.in-Ok.ensures.written.0);
-      written = written_more _ c.loop-v.out c.loop-v.v c.write_row.new.out [] within c.loop-v.invariant.written (rw (r, o) at c.in-Ok.ensures.written.1);
+      fits = first_more c.loop-v.v _ c.loop-v.invariant.fits (subst (λ (row : List ℚ). first_overflow (form_operations_by c.args.pivot.now (value_at c.args.new.now) c.loop-v.v row) ≡ None) r c.in-Ok.ensures.written.0);
+      written = written_more _ c.loop-v.out c.loop-v.v c.write_row.new.out [] within c.loop-v.invariant.written (both_as (λ (row out : List ℚ). c.write_row.new.out ≡ written_by c.args.pivot.now (value_at c.args.new.now) c.loop-v.v row out) _ _ _ _ r o c.in-Ok.ensures.written.1);
       rest = λ m l. get_or-set_other c.loop-v.out c.loop-v.v m c.write_row.new.out [] (λ (e : m ≡ c.loop-v.v). omega (arith, l, e)) ∙ c.loop-v.invariant.rest m (omega (arith, l));
       long = HasRows-set c.args.pivot.now.standing.now c.loop-v.out c.loop-v.v c.write_row.new.out c.loop-v.invariant.long (c.in-Ok.ensures.long ∙ ap length (sym c.index-out-v.is ∙ here)) within;
-      marked = written_more _ c.loop-v.changed c.loop-v.v c.in-Ok.changes false (omega (arith, c.loop-v.invariant.changed_long, c.requires.changed_long)) c.loop-v.invariant.marked (rw r at c.in-Ok.ensures.marked);
+      marked = written_more _ c.loop-v.changed c.loop-v.v c.in-Ok.changes false (omega (arith, c.loop-v.invariant.changed_long, c.requires.changed_long)) c.loop-v.invariant.marked (subst (λ (row : List ℚ). c.in-Ok.changes ≡ changes_by c.args.pivot.now c.loop-v.v row) r c.in-Ok.ensures.marked);
       changed_long = length-set c.loop-v.changed c.loop-v.v c.in-Ok.changes ∙ c.loop-v.invariant.changed_long;
       spelled = c.in-Ok.ensures.spelled;
     }
@@ -100,3 +105,9 @@ offset_bounds-rows-v c = grind (arith, common_steps)
 
 pub returns-in-Err-clause-marked : goal.returns-in-Err-clause-marked
 returns-in-Err-clause-marked c = grind (arith, common_steps)
+
+pub returns-in-Err-clause-long : goal.returns-in-Err-clause-long
+returns-in-Err-clause-long c =
+    let within : c.loop-v.v < length c.loop-v.out = omega (arith, c.loop-v.invariant.long.each_one) in
+    let here : c.index-out-v.result ≡ row_in c.loop-v.out c.loop-v.v = row_read c.loop-v.out c.loop-v.v c.index-out-v.result within c.index-out-v.is in
+    HasRows-set c.args.pivot.now.standing.now c.loop-v.out c.loop-v.v c.write_row.new.out c.loop-v.invariant.long (c.in-Err.ensures.long ∙ ap length (sym c.index-out-v.is ∙ here)) within

@@ -1,3 +1,4 @@
+use Rattle.std.proofs.lemmas.Result.{IfOk-from_err}
 use Rattle.std.proofs.lemmas.Grind.{common_steps}
 use Rattle.std.proofs.Common.{◌≡◌, ◌∙◌, to_z, of_z, sym, subst, ◌^◌, arith}
 use Rattle.std.specs.Int.{w64}
@@ -37,3 +38,6 @@ bounds-entries-at c = grind (arith, common_steps)
 
 pub offset_bounds-entries-at : goal.offset_bounds-entries-at
 offset_bounds-entries-at c = grind (arith, common_steps)
+
+pub returns-in_err-push-in-Some : goal.returns-in_err-push-in-Some
+returns-in_err-push-in-Some c = IfOk-from_err c.from_residual.result _ c.from_residual.ensures.0

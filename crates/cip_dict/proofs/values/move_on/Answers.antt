@@ -1,10 +1,14 @@
+use Rattle.cip_bland.specs.declared.places.Line.TheVariants.{Row}
+use Rattle.cip_bland.specs.Operations.{value_place}
+use Rattle.cip_problem.specs.Activity.{value_at}
+use Rattle.std.proofs.lemmas.List.{get_or_default}
 use Rattle.std.proofs.lemmas.Grind.{common_steps}
-use Rattle.std.proofs.Common.{◌≡◌, ◌==◌, ◌∙◌, true, false, get_or, sym, arith}
-use Rattle.std.proofs.lemmas.Bool.{true≢false}
+use Rattle.std.proofs.Common.{◌≡◌, ◌==◌, ◌∙◌, true, false, get_or, sym, arith, ◌<◌, [], length, ap}
+use Rattle.std.proofs.lemmas.Bool.{true≢false, ne_eqb}
 use Rattle.cip_rational.specs.Rational.{is_zero}
 use Rattle.cip_dict.specs.Lists.{basic_in, entry_in}
 use Rattle.cip_dict.specs.Values.{IsAdded}
-use Rattle.cip_dict.proofs.Added.{zero_left, unreached}
+use Rattle.cip_dict.proofs.Added.{zero_left, unreached, added_move}
 use Rattle.cip_dict.proofs.values.move_on.Goals as goal
 use Rattle.cip_dict.proofs.values.move_on.Goals.{then-changed-v, else-changed-v}
 
@@ -27,7 +31,10 @@ pub returns-else-is_basic : goal.returns-else-is_basic
 returns-else-is_basic c = grind (arith, common_steps)
 
 pub returns-then-v-pivot-2 : goal.returns-then-v-pivot-2
-returns-then-v-pivot-2 c = grind (arith, common_steps)
+returns-then-v-pivot-2 c =
+    let within : c.args.v < length c.args.shift.now.rows.now = omega (arith, c.requires.within, c.requires.rows_long.each_one) in
+    added_move c.add_times.result (basic_in c.args.pivot.now.standing.now c.args.v) (c.args.v == c.args.pivot.now.entering) (value_place (Row c.args.v)) (value_at c.args.shift.now.values.now c.args.v) c.number_at-then-is_basic.result (entry_in c.args.shift.now.rows.now c.args.v c.args.pivot.now.entering) _ c.args.shift.now.by c.add_times.new.value
+    (sym c.if-is_basic.ensures) (ne_eqb c.args.v c.args.pivot.now.entering c.if-v-pivot.false) c.number_at-then-is_basic.ensures (ap (λ row. value_at row c.args.pivot.now.entering) (get_or_default c.args.shift.now.rows.now c.args.v c.index-shift-v.result [] within)) c.add_times.ensures
 
 pub returns-then-v-pivot : goal.returns-then-v-pivot
 returns-then-v-pivot c = grind (arith, common_steps)

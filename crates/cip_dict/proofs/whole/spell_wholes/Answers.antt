@@ -1,3 +1,4 @@
+use Rattle.std.proofs.lemmas.Result.{IfOk-from_err}
 use Rattle.std.proofs.lemmas.Grind.{common_steps}
 use Rattle.std.proofs.Common.{◌≡◌, ◌++◌, ◌∷◌, [], pos, get_or, take, length, sym, ap, ap₂, ◌∙◌, arith, ◌^◌}
 use Rattle.std.proofs.Math.Seq.{take-length}
@@ -40,3 +41,6 @@ offset_bounds-wholes-at c = grind (arith, common_steps)
 
 pub loop-at-init : goal.loop-at-init
 loop-at-init c = grind (arith, common_steps)
+
+pub returns-in_err-push : goal.returns-in_err-push
+returns-in_err-push c = IfOk-from_err c.from_residual.result _ c.from_residual.ensures.0

@@ -1,7 +1,6 @@
 use Rattle.std.proofs.lemmas.Grind.{common_steps}
-use Rattle.std.proofs.Common.{◌≡◌, to_z, of_z, arith}
+use Rattle.std.proofs.Common.{◌≡◌, ◌∙◌, to_z, of_z, sym, ap, arith}
 use Rattle.std.specs.Int.{w64}
-use Rattle.std.proofs.lemmas.Int.{ints}
 use Rattle.cip_dict.proofs.WholeParts.{read_small}
 use Rattle.cip_dict.proofs.PutBehind.{behind_entry, behind_kept, behind_whole, nothing_entry}
 use Rattle.cip_dict.proofs.WholeParts.{rising_over}
@@ -21,7 +20,7 @@ returns-in_ok-push-clause-kept c =
     let n : to_z w64 (of_z w64 c.in-Some.number) ≡ c.in-Some.number = read_small c.in-Some.number c.in-Some.ensures.1 in
     let place = (rw c.as_slice.ensures.value at c.is_past.ensures) c.if-not-is_past.false in
     let is = rw n at c.in_ok-push.ensures.items in
-    behind_kept c.args.k c.args.entry c.in-Some.number c.args.below one c.in-Some.ensures.0 c.args.wholes.now.items place c.push.new.self.items is (λ z. c.if-number-ne0.true (omega (arith, ints, z)))
+    behind_kept c.args.k c.args.entry c.in-Some.number c.args.below one c.in-Some.ensures.0 c.args.wholes.now.items place c.push.new.self.items is (λ z. c.if-number-ne0.true (ap (of_z w64) z))
 
 pub returns-in_ok-push-clause-whole : goal.returns-in_ok-push-clause-whole
 returns-in_ok-push-clause-whole c =
@@ -33,7 +32,7 @@ pub returns-else-number-ne0-clause-put : goal.returns-else-number-ne0-clause-put
 returns-else-number-ne0-clause-put c =
     let one : c.args.below ≡ 1 = omega (arith, c.if-below-ne1.false) in
     let place = (rw c.as_slice.ensures.value at c.is_past.ensures) c.if-not-is_past.false in
-    λ _. nothing_entry c.args.k c.args.entry c.in-Some.number c.args.below one c.in-Some.ensures.0 c.args.wholes.now.items place c.requires.kept.0 c.requires.kept.1 (omega (arith, ints, c.if-number-ne0.false, c.in-Some.ensures.1))
+    λ _. nothing_entry c.args.k c.args.entry c.in-Some.number c.args.below one c.in-Some.ensures.0 c.args.wholes.now.items place c.requires.kept.0 c.requires.kept.1 (sym (read_small c.in-Some.number c.in-Some.ensures.1) ∙ ap (to_z w64) c.if-number-ne0.false)
 
 pub is_past-requires : goal.is_past-requires
 is_past-requires c = rw c.as_slice.ensures.value (rising_over c.args.below 0 c.requires.kept.0 c.args.wholes.now.items c.requires.kept.1)

@@ -66,7 +66,7 @@ pub overflow_add-place : goal.overflow_add-place
 overflow_add-place c = omega arith
 
 pub places-smaller : goal.places-smaller
-places-smaller c = omega arith
+places-smaller c = omega (arith, c.places-test.ensures.within refl)
 
 pub whole_step-requires-clause-there : goal.whole_step-requires-clause-there
 whole_step-requires-clause-there c = grind (arith, common_steps)

@@ -1,11 +1,12 @@
+use Rattle.std.proofs.lemmas.Result.{IfOk-from_err}
 use Rattle.std.proofs.lemmas.Grind.{common_steps}
 use Rattle.std.proofs.Common.{◌≡◌, pos, to_z, of_z, length, get_or, take, ap, subst, sym, arith, ◌∙◌, ◌*◌, ◌^◌}
 use Rattle.std.specs.Int.{w64, w128}
-use Rattle.std.proofs.lemmas.Int.{ints}
 use Rattle.std.proofs.Math.Seq.{take-length}
 use Rattle.cip_dict.specs.WholeLines.{AreBelow, over}
 use Rattle.cip_dict.proofs.WholeParts.{read_small, append_below, item_below}
 use Rattle.cip_dict.proofs.WholeLoops.{divided_more}
+use Rattle.cip_dict.proofs.ReadNumbers.{wide_kept}
 use Rattle.cip_dict.proofs.whole_sums.divide_all.Goals as goal
 
 pub loop-at-init : goal.loop-at-init
@@ -17,7 +18,7 @@ loop-at-init c = record {
 pub loop-at-preserved : goal.loop-at-preserved
 loop-at-preserved c =
     let z : to_z w128 (of_z w128 (get_or c.args.sums.now c.loop-at.at (0, pos 0)).1) ≡ (get_or c.args.sums.now c.loop-at.at (0, pos 0)).1 =
-    omega (arith, ints, item_below (2 ^ 86) c.args.sums.now c.loop-at.at (0, pos 0) c.requires.wide c.loop-at-test.true) in
+    wide_kept (get_or c.args.sums.now c.loop-at.at (0, pos 0)).1 (item_below (2 ^ 86) c.args.sums.now c.loop-at.at (0, pos 0) c.requires.wide c.loop-at-test.true) in
     let w : to_z w64 (of_z w64 c.in-Some.number) ≡ c.in-Some.number = read_small c.in-Some.number c.in-Some.ensures.1 in
     let is = rw w at c.in_ok-push-in-Some.ensures.items in
     record {
@@ -53,3 +54,6 @@ bounds-sums-at c = grind (arith, common_steps)
 
 pub offset_bounds-sums-at : goal.offset_bounds-sums-at
 offset_bounds-sums-at c = grind (arith, common_steps)
+
+pub returns-in_err-push-in-Some-clause-divided : goal.returns-in_err-push-in-Some-clause-divided
+returns-in_err-push-in-Some-clause-divided c = IfOk-from_err c.from_residual.result _ c.from_residual.ensures.0

@@ -1,3 +1,4 @@
+use Rattle.std.proofs.lemmas.Result.{IfOk-from_err}
 use Rattle.std.proofs.lemmas.Grind.{common_steps}
 use Rattle.std.proofs.Common.{◌≡◌, to_z, of_z, sym, ◌∙◌, ◌-◌, ◌^◌, length, arith, mul-pos}
 use Rattle.std.specs.Int.{w64}
@@ -118,3 +119,6 @@ overflow_cast-under c = grind (arith, common_steps)
 
 pub returns-in-Large : goal.returns-in-Large
 returns-in-Large c = grind (arith, common_steps)
+
+pub returns-in_err-sum_entries : goal.returns-in_err-sum_entries
+returns-in_err-sum_entries c = IfOk-from_err c.from_residual-in_err-sum_entries.result _ c.from_residual-in_err-sum_entries.ensures.0

@@ -4,7 +4,7 @@ use Rattle.std.specs.Int.{w128}
 use Rattle.std.proofs.lemmas.Int.{ints, fits_signed_from_abs}
 use Rattle.cip_rational.specs.Range.{magnitude}
 use Rattle.cip_dict.specs.Pivots.{absent_by}
-use Rattle.cip_dict.proofs.ReadNumbers.{natural_below, word_below, product_below, product_small, sum_small, product_read, multiple_read, sum_read, chosen_first, chosen_second, chosen_third}
+use Rattle.cip_dict.proofs.ReadNumbers.{natural_below, word_below, two_products, product_small, sum_small, product_read, multiple_read, sum_read, chosen_first, chosen_second, chosen_third}
 use Rattle.cip_dict.proofs.whole_sums.substituted_number.Goals as goal
 
 pub product_of-requires-clause-first : goal.product_of-requires-clause-first
@@ -45,9 +45,7 @@ returns-then-is_absent_on-clause-small c = lit< tt
 
 pub returns-else-is_absent_on-clause-value : goal.returns-else-is_absent_on-clause-value
 returns-else-is_absent_on-clause-value c =
-    let first = product_below c.product_of-else-is_absent_on.result c.product_of-else-is_absent_on.ensures.small in
-    let second = product_below c.product_of-else-is_absent_on-2.result c.product_of-else-is_absent_on-2.ensures.small in
-    let small : magnitude (to_z w128 (of_z w128 c.product_of-else-is_absent_on.result) +ℤ to_z w128 (of_z w128 c.product_of-else-is_absent_on-2.result)) < 2 ^ 86 = omega (arith, ints, first, second) in
+    let small : magnitude (to_z w128 (of_z w128 c.product_of-else-is_absent_on.result) +ℤ to_z w128 (of_z w128 c.product_of-else-is_absent_on-2.result)) < 2 ^ 86 = two_products c.product_of-else-is_absent_on.result c.product_of-else-is_absent_on-2.result c.product_of-else-is_absent_on.ensures.small c.product_of-else-is_absent_on-2.ensures.small in
     chosen_third c.args.k c.args.pivot.now.leaving (absent_by c.args.pivot.now c.args.k) _ _ _ _ c.is_absent_on.result c.if-k-pivot.false c.is_absent_on.ensures c.if-is_absent_on.false
     (sum_read c.product_of-else-is_absent_on.result c.product_of-else-is_absent_on-2.result (c.args.n *ℤ pos c.args.factors.own) (c.args.factors.new *ℤ c.args.y) (to_z w128 (of_z w128 c.product_of-else-is_absent_on.result) +ℤ to_z w128 (of_z w128 c.product_of-else-is_absent_on-2.result)) refl small
     (multiple_read c.args.n c.args.factors.own c.product_of-else-is_absent_on.result c.requires.row_small c.requires.factor_small c.product_of-else-is_absent_on.ensures.value c.product_of-else-is_absent_on.ensures.small)
@@ -55,16 +53,12 @@ returns-else-is_absent_on-clause-value c =
 
 pub returns-else-is_absent_on-clause-small : goal.returns-else-is_absent_on-clause-small
 returns-else-is_absent_on-clause-small c =
-    let first = product_below c.product_of-else-is_absent_on.result c.product_of-else-is_absent_on.ensures.small in
-    let second = product_below c.product_of-else-is_absent_on-2.result c.product_of-else-is_absent_on-2.ensures.small in
-    let small : magnitude (to_z w128 (of_z w128 c.product_of-else-is_absent_on.result) +ℤ to_z w128 (of_z w128 c.product_of-else-is_absent_on-2.result)) < 2 ^ 86 = omega (arith, ints, first, second) in
+    let small : magnitude (to_z w128 (of_z w128 c.product_of-else-is_absent_on.result) +ℤ to_z w128 (of_z w128 c.product_of-else-is_absent_on-2.result)) < 2 ^ 86 = two_products c.product_of-else-is_absent_on.result c.product_of-else-is_absent_on-2.result c.product_of-else-is_absent_on.ensures.small c.product_of-else-is_absent_on-2.ensures.small in
     sum_small (to_z w128 (of_z w128 c.product_of-else-is_absent_on.result) +ℤ to_z w128 (of_z w128 c.product_of-else-is_absent_on-2.result)) small
 
 pub overflow_add-result : goal.overflow_add-result
 overflow_add-result c =
-    let first = product_below c.product_of-else-is_absent_on.result c.product_of-else-is_absent_on.ensures.small in
-    let second = product_below c.product_of-else-is_absent_on-2.result c.product_of-else-is_absent_on-2.ensures.small in
-    let small : magnitude (to_z w128 (of_z w128 c.product_of-else-is_absent_on.result) +ℤ to_z w128 (of_z w128 c.product_of-else-is_absent_on-2.result)) < 2 ^ 86 = omega (arith, ints, first, second) in
+    let small : magnitude (to_z w128 (of_z w128 c.product_of-else-is_absent_on.result) +ℤ to_z w128 (of_z w128 c.product_of-else-is_absent_on-2.result)) < 2 ^ 86 = two_products c.product_of-else-is_absent_on.result c.product_of-else-is_absent_on-2.result c.product_of-else-is_absent_on.ensures.small c.product_of-else-is_absent_on-2.ensures.small in
     fits_signed_from_abs w128 (to_z w128 (of_z w128 c.product_of-else-is_absent_on.result) +ℤ to_z w128 (of_z w128 c.product_of-else-is_absent_on-2.result)) (omega (arith, small))
 
 pub is_absent_on-requires : goal.is_absent_on-requires

@@ -1,13 +1,16 @@
+use Rattle.cip_dict.specs.Pivots.{absent_by}
+use Rattle.cip_dict.proofs.WideProducts.{number_as}
+use Rattle.std.proofs.lemmas.Result.{IfOk-from_err}
 use Rattle.std.proofs.lemmas.Grind.{common_steps}
-use Rattle.std.proofs.Common.{◌≡◌, ◌<◌, ◌∙◌, to_z, of_z, length, arith, suc, sym, subst, lit<, ◌^◌, ap, ◌≤◌}
+use Rattle.std.proofs.Common.{◌≡◌, ◌<◌, ◌∙◌, to_z, of_z, length, arith, suc, sym, subst, lit<, ◌^◌, ap, ◌≤◌, ◌==◌}
 use Rattle.std.specs.Int.{w128}
-use Rattle.std.proofs.lemmas.Int.{ints}
 use Rattle.cip_dict.specs.Lists.{basic_in}
 use Rattle.cip_dict.specs.SparseLines.{IsNext}
-use Rattle.cip_dict.specs.WholeLines.{over, put_number, AreBelow, wholes_of}
+use Rattle.cip_dict.specs.WholeLines.{over, put_number, AreBelow, wholes_of, number_on}
 use Rattle.cip_dict.proofs.Places.{place_zero}
 use Rattle.cip_dict.proofs.WholeParts.{none_over, read_small}
 use Rattle.cip_dict.proofs.WholeLoops.{whole_gap, whole_more, put_none}
+use Rattle.cip_dict.proofs.ReadNumbers.{wide_kept}
 use Rattle.cip_dict.proofs.whole_sums.sum_entries.Goals as goal
 
 pub loop-step-init : goal.loop-step-init
@@ -38,8 +41,8 @@ loop-step-preserved c =
     let next : IsNext (over 1 c.args.row.now) (over 1 c.args.new.now) c.loop-step.step.here c.loop-step.step.there (suc c.loop-step.step.k) c.next_step-step-in-loop-step.result.k =
     c.next_step-step-in-loop-step.ensures.next (suc c.loop-step.step.k) (omega arith) (c.loop-step.invariant.row_past l) (c.loop-step.invariant.new_past l) in
     let z : c.substituted_number-z.result ≡ put_number (basic_in c.args.pivot.now.standing.now) c.args.pivot.now.leaving c.args.pivot.now.entering c.args.factors.own c.args.factors.new c.args.row.now c.args.new.now c.loop-step.step.k =
-    rw (read_small c.loop-step.step.n c.loop-step.invariant.row_small, read_small c.loop-step.step.y c.loop-step.invariant.new_small, c.loop-step.invariant.row_value l, c.loop-step.invariant.new_value l) at c.substituted_number-z.ensures.value in
-    let kept : to_z w128 (of_z w128 c.substituted_number-z.result) ≡ c.substituted_number-z.result = omega (arith, ints, c.substituted_number-z.ensures.small) in
+    number_as (c.loop-step.step.k == c.args.pivot.now.leaving) (absent_by c.args.pivot.now c.loop-step.step.k) c.args.factors.own c.args.factors.new (number_on c.args.row.now c.loop-step.step.k) _ (number_on c.args.new.now c.loop-step.step.k) _ c.substituted_number-z.result (read_small c.loop-step.step.n c.loop-step.invariant.row_small ∙ c.loop-step.invariant.row_value l) (read_small c.loop-step.step.y c.loop-step.invariant.new_small ∙ c.loop-step.invariant.new_value l) c.substituted_number-z.ensures.value in
+    let kept : to_z w128 (of_z w128 c.substituted_number-z.result) ≡ c.substituted_number-z.result = wide_kept c.substituted_number-z.result c.substituted_number-z.ensures.small in
     record {
       within = c.next_step-step-in-loop-step.ensures.within;
       row_value = λ l. c.next_step-step-in-loop-step.ensures.row_value l next.row_place;
@@ -55,7 +58,7 @@ loop-step-preserved c =
 
 pub returns-in_err-keep_sum-clause-wide : goal.returns-in_err-keep_sum-clause-wide
 returns-in_err-keep_sum-clause-wide c =
-    let kept : to_z w128 (of_z w128 c.substituted_number-z.result) ≡ c.substituted_number-z.result = omega (arith, ints, c.substituted_number-z.ensures.small) in
+    let kept : to_z w128 (of_z w128 c.substituted_number-z.result) ≡ c.substituted_number-z.result = wide_kept c.substituted_number-z.result c.substituted_number-z.ensures.small in
     c.in_err-keep_sum.ensures.below (2 ^ 86) (rw kept c.substituted_number-z.ensures.small) c.loop-step.invariant.wide
 
 pub returns-clause-kept : goal.returns-clause-kept
@@ -109,3 +112,6 @@ next_step-step-requires-clause-row_small c = grind (arith, common_steps)
 
 pub overflow_cast-len : goal.overflow_cast-len
 overflow_cast-len c = grind (arith, common_steps)
+
+pub returns-in_err-keep_sum-clause-kept : goal.returns-in_err-keep_sum-clause-kept
+returns-in_err-keep_sum-clause-kept c = IfOk-from_err c.from_residual.result _ c.from_residual.ensures.0

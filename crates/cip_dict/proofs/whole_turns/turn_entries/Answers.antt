@@ -1,3 +1,4 @@
+use Rattle.std.proofs.lemmas.Result.{IfOk-from_err}
 use Rattle.std.proofs.lemmas.Grind.{common_steps}
 use Rattle.std.proofs.Common.{◌≡◌, ◌<◌, ◌≤◌, ◌^◌, List, [], ◌∷◌, ℕ, ℤ, ◌∙◌, to_z, of_z, length, arith, suc, sym, subst, lit<, ap}
 use Rattle.std.specs.Int.{w64}
@@ -103,3 +104,6 @@ next_step-step-requires-clause-row_small c = grind (arith, common_steps)
 
 pub overflow_cast-len : goal.overflow_cast-len
 overflow_cast-len c = grind (arith, common_steps)
+
+pub returns-in_err-keep_number-clause-kept : goal.returns-in_err-keep_number-clause-kept
+returns-in_err-keep_number-clause-kept c = IfOk-from_err c.from_residual.result _ c.from_residual.ensures.0

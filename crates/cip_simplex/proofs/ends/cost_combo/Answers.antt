@@ -1,3 +1,4 @@
+use Rattle.std.proofs.lemmas.Result.{IfOk-from_err}
 use Rattle.std.proofs.lemmas.Grind.{common_steps}
 use Rattle.std.proofs.Common.{◌∙◌, ◌++◌, ◌∷◌, [], sym, ap₂, arith, ◌≡◌, subst, IfOk, ap, ◌+◌}
 use Rattle.cip_bland.specs.Dictionary.{size, cost_entry}
@@ -41,16 +42,16 @@ loop-v-preserved c =
     let both : (c.if-at-costs_len.entry ≡ cost_entry c.args.dict.now c.loop-v.v) × IsPlace (c.loop-v.v + 1) (kept_of (size c.args.dict.now) (cost_entry c.args.dict.now)) c.if-at-costs_len.at =
     elim c.if-at-costs_len.branch [
       | then-at-costs_len+then-k-v w ↦ (
-        w.entry-is ∙ on_entry (size c.args.dict.now) (cost_entry c.args.dict.now) c.loop-v.v c.loop-v.at (omega arith) c.loop-v.invariant.place w.cost_at-k.result (omega arith) w.cost_at-k.ensures w.if-k-v.true,
-        subst (IsPlace (c.loop-v.v + 1) (kept_of (size c.args.dict.now) (cost_entry c.args.dict.now))) (sym w.at-is) (past_entry (size c.args.dict.now) (cost_entry c.args.dict.now) c.loop-v.v c.loop-v.at (omega arith) c.loop-v.invariant.place w.cost_at-k.result (omega arith) w.cost_at-k.ensures w.if-k-v.true),
+        w.entry-is ∙ on_entry (size c.args.dict.now) (cost_entry c.args.dict.now) c.loop-v.v c.loop-v.at (omega (arith, c.loop-v-test.true, c.len-v-end.ensures.variables)) c.loop-v.invariant.place w.cost_at-k.result (omega (arith, w.if-at-costs_len.true, c.costs_len.ensures)) w.cost_at-k.ensures w.if-k-v.true,
+        subst (IsPlace (c.loop-v.v + 1) (kept_of (size c.args.dict.now) (cost_entry c.args.dict.now))) (sym w.at-is) (past_entry (size c.args.dict.now) (cost_entry c.args.dict.now) c.loop-v.v c.loop-v.at (omega (arith, c.loop-v-test.true, c.len-v-end.ensures.variables)) c.loop-v.invariant.place w.cost_at-k.result (omega (arith, w.if-at-costs_len.true, c.costs_len.ensures)) w.cost_at-k.ensures w.if-k-v.true),
       )
       | then-at-costs_len+else-k-v w ↦ (
-        w.entry-is ∙ c.zero-entry.ensures ∙ on_none (size c.args.dict.now) (cost_entry c.args.dict.now) c.loop-v.v c.loop-v.at (omega arith) c.loop-v.invariant.place (λ x l s. w.if-k-v.false (ap (λ (p : Kept). p.0) (w.cost_at-k.ensures x) ∙ s)),
-        subst (IsPlace (c.loop-v.v + 1) (kept_of (size c.args.dict.now) (cost_entry c.args.dict.now))) (sym w.at-is) (past_none (size c.args.dict.now) (cost_entry c.args.dict.now) c.loop-v.v c.loop-v.at (omega arith) c.loop-v.invariant.place (λ x l s. w.if-k-v.false (ap (λ (p : Kept). p.0) (w.cost_at-k.ensures x) ∙ s))),
+        w.entry-is ∙ c.zero-entry.ensures ∙ on_none (size c.args.dict.now) (cost_entry c.args.dict.now) c.loop-v.v c.loop-v.at (omega (arith, c.loop-v-test.true, c.len-v-end.ensures.variables)) c.loop-v.invariant.place (λ x l s. w.if-k-v.false (ap (λ (p : Kept). p.0) (w.cost_at-k.ensures x) ∙ s)),
+        subst (IsPlace (c.loop-v.v + 1) (kept_of (size c.args.dict.now) (cost_entry c.args.dict.now))) (sym w.at-is) (past_none (size c.args.dict.now) (cost_entry c.args.dict.now) c.loop-v.v c.loop-v.at (omega (arith, c.loop-v-test.true, c.len-v-end.ensures.variables)) c.loop-v.invariant.place (λ x l s. w.if-k-v.false (ap (λ (p : Kept). p.0) (w.cost_at-k.ensures x) ∙ s))),
       )
       | else-at-costs_len w ↦ (
-        w.entry-is ∙ c.zero-entry.ensures ∙ on_none (size c.args.dict.now) (cost_entry c.args.dict.now) c.loop-v.v c.loop-v.at (omega arith) c.loop-v.invariant.place (λ x l. absurd (omega (arith, l))),
-        subst (IsPlace (c.loop-v.v + 1) (kept_of (size c.args.dict.now) (cost_entry c.args.dict.now))) (sym w.at-is) (past_none (size c.args.dict.now) (cost_entry c.args.dict.now) c.loop-v.v c.loop-v.at (omega arith) c.loop-v.invariant.place (λ x l. absurd (omega (arith, l)))),
+        w.entry-is ∙ c.zero-entry.ensures ∙ on_none (size c.args.dict.now) (cost_entry c.args.dict.now) c.loop-v.v c.loop-v.at (omega (arith, c.loop-v-test.true, c.len-v-end.ensures.variables)) c.loop-v.invariant.place (λ x l. absurd (omega (arith, l, w.if-at-costs_len.false, c.costs_len.ensures))),
+        subst (IsPlace (c.loop-v.v + 1) (kept_of (size c.args.dict.now) (cost_entry c.args.dict.now))) (sym w.at-is) (past_none (size c.args.dict.now) (cost_entry c.args.dict.now) c.loop-v.v c.loop-v.at (omega (arith, c.loop-v-test.true, c.len-v-end.ensures.variables)) c.loop-v.invariant.place (λ x l. absurd (omega (arith, l, w.if-at-costs_len.false, c.costs_len.ensures)))),
       )
     ] in
     record {
@@ -66,3 +67,6 @@ overflow_add-at c = grind (arith, common_steps)
 
 pub overflow_cast-v : goal.overflow_cast-v
 overflow_cast-v c = grind (arith, common_steps)
+
+pub returns-in_err-push : goal.returns-in_err-push
+returns-in_err-push c = IfOk-from_err c.from_residual-in_err-push.result _ c.from_residual-in_err-push.ensures.0

@@ -1,3 +1,4 @@
+use Rattle.std.proofs.lemmas.Result.{IfOk-from_err}
 use Rattle.std.proofs.lemmas.Grind.{common_steps}
 use Rattle.std.proofs.Common.{◌∙◌, ◌++◌, ◌∷◌, [], sym, ap₂, arith, ◌≡◌, subst, IfOk, ap, ◌+◌}
 use Rattle.cip_bland.specs.Dictionary.{size, entry}
@@ -44,16 +45,16 @@ loop-v-preserved c =
     let both : (c.if-at-row_len.entry ≡ entry c.args.dict.now c.args.i c.loop-v.v) × IsPlace (c.loop-v.v + 1) (kept_of (size c.args.dict.now) (entry c.args.dict.now c.args.i)) c.if-at-row_len.at =
     elim c.if-at-row_len.branch [
       | then-at-row_len+then-k-v w ↦ (
-        w.entry-is ∙ on_entry (size c.args.dict.now) (entry c.args.dict.now c.args.i) c.loop-v.v c.loop-v.at (omega arith) c.loop-v.invariant.place w.row_entry-k.result (omega arith) w.row_entry-k.ensures w.if-k-v.true,
-        subst (IsPlace (c.loop-v.v + 1) (kept_of (size c.args.dict.now) (entry c.args.dict.now c.args.i))) (sym w.at-is) (past_entry (size c.args.dict.now) (entry c.args.dict.now c.args.i) c.loop-v.v c.loop-v.at (omega arith) c.loop-v.invariant.place w.row_entry-k.result (omega arith) w.row_entry-k.ensures w.if-k-v.true),
+        w.entry-is ∙ on_entry (size c.args.dict.now) (entry c.args.dict.now c.args.i) c.loop-v.v c.loop-v.at (omega (arith, c.loop-v-test.true, c.len-v-end.ensures.variables)) c.loop-v.invariant.place w.row_entry-k.result (omega (arith, w.if-at-row_len.true, c.row_len.ensures)) w.row_entry-k.ensures w.if-k-v.true,
+        subst (IsPlace (c.loop-v.v + 1) (kept_of (size c.args.dict.now) (entry c.args.dict.now c.args.i))) (sym w.at-is) (past_entry (size c.args.dict.now) (entry c.args.dict.now c.args.i) c.loop-v.v c.loop-v.at (omega (arith, c.loop-v-test.true, c.len-v-end.ensures.variables)) c.loop-v.invariant.place w.row_entry-k.result (omega (arith, w.if-at-row_len.true, c.row_len.ensures)) w.row_entry-k.ensures w.if-k-v.true),
       )
       | then-at-row_len+else-k-v w ↦ (
-        w.entry-is ∙ c.zero-entry.ensures ∙ on_none (size c.args.dict.now) (entry c.args.dict.now c.args.i) c.loop-v.v c.loop-v.at (omega arith) c.loop-v.invariant.place (λ x l s. w.if-k-v.false (ap (λ (p : Kept). p.0) (w.row_entry-k.ensures x) ∙ s)),
-        subst (IsPlace (c.loop-v.v + 1) (kept_of (size c.args.dict.now) (entry c.args.dict.now c.args.i))) (sym w.at-is) (past_none (size c.args.dict.now) (entry c.args.dict.now c.args.i) c.loop-v.v c.loop-v.at (omega arith) c.loop-v.invariant.place (λ x l s. w.if-k-v.false (ap (λ (p : Kept). p.0) (w.row_entry-k.ensures x) ∙ s))),
+        w.entry-is ∙ c.zero-entry.ensures ∙ on_none (size c.args.dict.now) (entry c.args.dict.now c.args.i) c.loop-v.v c.loop-v.at (omega (arith, c.loop-v-test.true, c.len-v-end.ensures.variables)) c.loop-v.invariant.place (λ x l s. w.if-k-v.false (ap (λ (p : Kept). p.0) (w.row_entry-k.ensures x) ∙ s)),
+        subst (IsPlace (c.loop-v.v + 1) (kept_of (size c.args.dict.now) (entry c.args.dict.now c.args.i))) (sym w.at-is) (past_none (size c.args.dict.now) (entry c.args.dict.now c.args.i) c.loop-v.v c.loop-v.at (omega (arith, c.loop-v-test.true, c.len-v-end.ensures.variables)) c.loop-v.invariant.place (λ x l s. w.if-k-v.false (ap (λ (p : Kept). p.0) (w.row_entry-k.ensures x) ∙ s))),
       )
       | else-at-row_len w ↦ (
-        w.entry-is ∙ c.zero-entry.ensures ∙ on_none (size c.args.dict.now) (entry c.args.dict.now c.args.i) c.loop-v.v c.loop-v.at (omega arith) c.loop-v.invariant.place (λ x l. absurd (omega (arith, l))),
-        subst (IsPlace (c.loop-v.v + 1) (kept_of (size c.args.dict.now) (entry c.args.dict.now c.args.i))) (sym w.at-is) (past_none (size c.args.dict.now) (entry c.args.dict.now c.args.i) c.loop-v.v c.loop-v.at (omega arith) c.loop-v.invariant.place (λ x l. absurd (omega (arith, l)))),
+        w.entry-is ∙ c.zero-entry.ensures ∙ on_none (size c.args.dict.now) (entry c.args.dict.now c.args.i) c.loop-v.v c.loop-v.at (omega (arith, c.loop-v-test.true, c.len-v-end.ensures.variables)) c.loop-v.invariant.place (λ x l. absurd (omega (arith, l, w.if-at-row_len.false, c.row_len.ensures))),
+        subst (IsPlace (c.loop-v.v + 1) (kept_of (size c.args.dict.now) (entry c.args.dict.now c.args.i))) (sym w.at-is) (past_none (size c.args.dict.now) (entry c.args.dict.now c.args.i) c.loop-v.v c.loop-v.at (omega (arith, c.loop-v-test.true, c.len-v-end.ensures.variables)) c.loop-v.invariant.place (λ x l. absurd (omega (arith, l, w.if-at-row_len.false, c.row_len.ensures)))),
       )
     ] in
     let here : c.if-v-i.multiplier ≡ row_multiplier c.args.dict.now c.args.i c.loop-v.v =
@@ -89,3 +90,6 @@ row_len-requires-clause-basic c = grind (arith, common_steps)
 
 pub outside_heading-heading-requires : goal.outside_heading-heading-requires
 outside_heading-heading-requires c = grind (arith, common_steps)
+
+pub returns-in_err-push : goal.returns-in_err-push
+returns-in_err-push c = IfOk-from_err c.from_residual-in_err-push.result _ c.from_residual-in_err-push.ensures.0

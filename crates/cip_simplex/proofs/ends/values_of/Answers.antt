@@ -1,5 +1,7 @@
+use Rattle.cip_bland.specs.Dictionary.{value}
+use Rattle.cip_bland.specs.Tables.{table}
 use Rattle.std.proofs.lemmas.Grind.{common_steps}
-use Rattle.std.proofs.Common.{◌∙◌, ◌++◌, ◌∷◌, [], sym, ap₂, arith}
+use Rattle.std.proofs.Common.{◌∙◌, ◌++◌, ◌∷◌, [], sym, ap₂, arith, ◌≡◌, ap}
 use Rattle.cip_dict.proofs.Grown.{table_none, table_more}
 use Rattle.cip_simplex.proofs.ends.values_of.Goals as goal
 
@@ -10,7 +12,9 @@ pub loop-v-preserved : goal.loop-v-preserved
 loop-v-preserved c = c.in_ok-push.ensures.items ∙ ap₂ (λ xs x. xs ++ x ∷ []) c.loop-v.invariant c.value.ensures ∙ sym (table_more c.loop-v.v _)
 
 pub returns : goal.returns
-returns c = grind (arith, common_steps)
+returns c =
+    let end : c.loop-v.v ≡ c.args.n = omega (arith, c.loop-v-test.false, c.loop-v.auto.v-end) in
+    c.loop-v.invariant ∙ ap (λ n. table n (value c.args.dict.now)) end
 
 pub value-requires : goal.value-requires
 value-requires c = grind (arith, common_steps)

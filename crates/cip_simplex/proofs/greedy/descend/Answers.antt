@@ -1,3 +1,4 @@
+use Rattle.std.proofs.lemmas.Result.{IfOk-from_err}
 use Rattle.std.proofs.lemmas.Grind.{common_steps}
 use Rattle.std.proofs.Common.{IfSome, sym, subst, arith}
 use Rattle.cip_bland.specs.StateEnds.{IsEndAt}
@@ -60,3 +61,9 @@ begin_at-requires-clause-first c = grind (arith, common_steps)
 
 pub begin_at-requires-clause-empty : goal.begin_at-requires-clause-empty
 begin_at-requires-clause-empty c = grind (arith, common_steps)
+
+pub returns-in_err-last : goal.returns-in_err-last
+returns-in_err-last c = IfOk-from_err c.from_residual-in_err-last.result _ c.from_residual-in_err-last.ensures.0
+
+pub returns-in_err-end_answer-in-Some : goal.returns-in_err-end_answer-in-Some
+returns-in_err-end_answer-in-Some c = IfOk-from_err c.from_residual-in_err-end_answer-in-Some.result _ c.from_residual-in_err-end_answer-in-Some.ensures.0

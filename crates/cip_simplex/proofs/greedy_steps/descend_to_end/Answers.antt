@@ -1,3 +1,4 @@
+use Rattle.std.proofs.lemmas.Result.{IfOk-from_err}
 use Rattle.std.proofs.lemmas.Grind.{common_steps}
 use Rattle.std.proofs.Common.{arith}
 use Rattle.cip_bland.specs.Rule.{is_crossed}
@@ -43,3 +44,9 @@ returns-clause-state c = grind (arith, common_steps)
 
 pub returns-clause-end : goal.returns-clause-end
 returns-clause-end c = grind (arith, common_steps)
+
+pub returns-in_err-take_chosen-clause-end : goal.returns-in_err-take_chosen-clause-end
+returns-in_err-take_chosen-clause-end c = IfOk-from_err c.from_residual.result _ c.from_residual.ensures.0
+
+pub returns-in_err-take_chosen-clause-state : goal.returns-in_err-take_chosen-clause-state
+returns-in_err-take_chosen-clause-state c = IfOk-from_err c.from_residual.result _ c.from_residual.ensures.0

@@ -1,3 +1,4 @@
+use Rattle.std.proofs.lemmas.Result.{IfOk-from_err}
 use Rattle.std.proofs.lemmas.Grind.{common_steps}
 use Rattle.std.proofs.Common.{◌∙◌, arith}
 use Rattle.cip_simplex.specs.Advances.{ending_of}
@@ -36,3 +37,15 @@ returns-clause-variables c = grind (arith, common_steps)
 
 pub loop-made-init : goal.loop-made-init
 loop-made-init c = grind (arith, common_steps)
+
+pub returns-in_err-push-in-Made-clause-run : goal.returns-in_err-push-in-Made-clause-run
+returns-in_err-push-in-Made-clause-run c = IfOk-from_err c.from_residual-in_err-push-in-Made.result _ c.from_residual-in_err-push-in-Made.ensures.0
+
+pub returns-in_err-chosen-clause-run : goal.returns-in_err-chosen-clause-run
+returns-in_err-chosen-clause-run c = IfOk-from_err c.from_residual.result _ c.from_residual.ensures.0
+
+pub returns-in_err-push-in-Made-clause-variables : goal.returns-in_err-push-in-Made-clause-variables
+returns-in_err-push-in-Made-clause-variables c = IfOk-from_err c.from_residual-in_err-push-in-Made.result _ c.from_residual-in_err-push-in-Made.ensures.0
+
+pub returns-in_err-chosen-clause-variables : goal.returns-in_err-chosen-clause-variables
+returns-in_err-chosen-clause-variables c = IfOk-from_err c.from_residual.result _ c.from_residual.ensures.0

@@ -1,3 +1,4 @@
+use Rattle.std.proofs.lemmas.Result.{IfOk-from_err}
 use Rattle.std.proofs.lemmas.Grind.{common_steps}
 use Rattle.std.proofs.Common.{◌≡◌, refl, ap, ◌∙◌, arith}
 use Rattle.cip_simplex.specs.LpAnswers.{IsAnswer}
@@ -28,3 +29,6 @@ begin_at-requires-clause-first c = grind (arith, common_steps)
 
 pub begin_at-requires-clause-empty : goal.begin_at-requires-clause-empty
 begin_at-requires-clause-empty c = grind (arith, common_steps)
+
+pub returns-in_err-last : goal.returns-in_err-last
+returns-in_err-last c = IfOk-from_err c.from_residual-in_err-last.result _ c.from_residual-in_err-last.ensures.0

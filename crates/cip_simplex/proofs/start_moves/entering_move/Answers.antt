@@ -1,5 +1,5 @@
 use Rattle.std.proofs.lemmas.Grind.{common_steps}
-use Rattle.std.proofs.Common.{◌≡◌, true, false, Some, sym, ap, ap₂, ◌∙◌, rules, arith}
+use Rattle.std.proofs.Common.{◌≡◌, ◌&&◌, true, false, Some, sym, ap, ap₂, ◌∙◌, arith, not, is_some}
 use Rattle.std.specs.Option.{unwrap_or}
 use Rattle.cip_bland.specs.Dictionary.{size, is_basic}
 use Rattle.cip_bland.specs.Tables.{least}
@@ -22,42 +22,42 @@ loop-v-preserved c =
 
 pub returns-then-has_entry-clause-chosen : goal.returns-then-has_entry-clause-chosen
 returns-then-has_entry-clause-chosen c =
-    let here : may_leave c.args.start.now c.args.dict.now c.args.k c.loop-v.v ≡ true = grind (arith, common_steps) in
-    let least_is : Some c.loop-v.v ≡ least (size c.args.dict.now) (may_leave c.args.start.now c.args.dict.now c.args.k) = sym (least_at (size c.args.dict.now) c.loop-v.v (may_leave c.args.start.now c.args.dict.now c.args.k) (omega arith) c.loop-v.invariant here) in
+    let here : may_leave c.args.start.now c.args.dict.now c.args.k c.loop-v.v ≡ true = ap₂ (λ a b. a && b) (ap not (sym (ap is_some c.stand-in-loop-v.ensures) ∙ c.if-is_none-2.ensures)) (ap₂ (λ a b. a && b) (sym (c.if-is_some-2.ensures ∙ ap is_some c.stand-then-is_none-2.ensures)) (sym c.if-has_entry.ensures)) in
+    let least_is : Some c.loop-v.v ≡ least (size c.args.dict.now) (may_leave c.args.start.now c.args.dict.now c.args.k) = sym (least_at (size c.args.dict.now) c.loop-v.v (may_leave c.args.start.now c.args.dict.now c.args.k) (omega (arith, c.loop-v-test.true, c.len-v-end.ensures.variables)) c.loop-v.invariant here) in
     let to : c.stand_for-to.result ≡ leaving_stand c.args.start.now c.args.dict.now c.loop-v.v = c.stand_for-to.ensures ∙ ap₂ stand_for c.sides.ensures (c.unwrap_or.ensures ∙ ap (λ o. unwrap_or o Zero) c.stand-then-has_entry.ensures) in
     grind (arith, common_steps)
 
 pub returns-then-has_entry-clause-can : goal.returns-then-has_entry-clause-can
 returns-then-has_entry-clause-can c =
-    let here : may_leave c.args.start.now c.args.dict.now c.args.k c.loop-v.v ≡ true = grind (arith, common_steps) in
-    let least_is : Some c.loop-v.v ≡ least (size c.args.dict.now) (may_leave c.args.start.now c.args.dict.now c.args.k) = sym (least_at (size c.args.dict.now) c.loop-v.v (may_leave c.args.start.now c.args.dict.now c.args.k) (omega arith) c.loop-v.invariant here) in
+    let here : may_leave c.args.start.now c.args.dict.now c.args.k c.loop-v.v ≡ true = ap₂ (λ a b. a && b) (ap not (sym (ap is_some c.stand-in-loop-v.ensures) ∙ c.if-is_none-2.ensures)) (ap₂ (λ a b. a && b) (sym (c.if-is_some-2.ensures ∙ ap is_some c.stand-then-is_none-2.ensures)) (sym c.if-has_entry.ensures)) in
+    let least_is : Some c.loop-v.v ≡ least (size c.args.dict.now) (may_leave c.args.start.now c.args.dict.now c.args.k) = sym (least_at (size c.args.dict.now) c.loop-v.v (may_leave c.args.start.now c.args.dict.now c.args.k) (omega (arith, c.loop-v-test.true, c.len-v-end.ensures.variables)) c.loop-v.invariant here) in
     let to : c.stand_for-to.result ≡ leaving_stand c.args.start.now c.args.dict.now c.loop-v.v = c.stand_for-to.ensures ∙ ap₂ stand_for c.sides.ensures (c.unwrap_or.ensures ∙ ap (λ o. unwrap_or o Zero) c.stand-then-has_entry.ensures) in
-    let nonbasic : is_basic c.args.dict.now c.args.k ≡ false = search rules in
+    let nonbasic : is_basic c.args.dict.now c.args.k ≡ false = ap not (sym (ap is_some c.stand-else-is_some.ensures) ∙ c.if-is_none.ensures) in
     can_enter c.args.start.now c.args.dict.now c.args.k c.loop-v.v c.stand_for-to.result c.requires.entering nonbasic least_is to
 
 pub has_entry-requires-clause-on : goal.has_entry-requires-clause-on
-has_entry-requires-clause-on c = grind (arith, common_steps)
+has_entry-requires-clause-on c = c.requires.entering
 
 pub has_entry-requires-clause-within : goal.has_entry-requires-clause-within
-has_entry-requires-clause-within c = grind (arith, common_steps)
+has_entry-requires-clause-within c = omega (arith, c.loop-v-test.true, c.len-v-end.ensures.variables)
 
 pub sides-requires : goal.sides-requires
-sides-requires c = grind (arith, common_steps)
+sides-requires c = omega (arith, c.loop-v-test.true, c.len-v-end.ensures.variables)
 
 pub stand-requires-then-has_entry : goal.stand-requires-then-has_entry
-stand-requires-then-has_entry c = grind (arith, common_steps)
+stand-requires-then-has_entry c = omega (arith, c.loop-v-test.true, c.len-v-end.ensures.variables, c.requires.long)
 
 pub stand-requires-then-is_none-2 : goal.stand-requires-then-is_none-2
-stand-requires-then-is_none-2 c = grind (arith, common_steps)
+stand-requires-then-is_none-2 c = omega (arith, c.loop-v-test.true, c.len-v-end.ensures.variables, c.requires.long)
 
 pub stand-requires-in-loop-v : goal.stand-requires-in-loop-v
-stand-requires-in-loop-v c = grind (arith, common_steps)
+stand-requires-in-loop-v c = omega (arith, c.loop-v-test.true, c.len-v-end.ensures.variables)
 
 pub has_entry-requires-clause-basic : goal.has_entry-requires-clause-basic
-has_entry-requires-clause-basic c = grind (arith, common_steps)
+has_entry-requires-clause-basic c = ap not (sym (ap is_some c.stand-in-loop-v.ensures) ∙ c.if-is_none-2.ensures)
 
 pub stand-requires-else-is_some : goal.stand-requires-else-is_some
-stand-requires-else-is_some c = grind (arith, common_steps)
+stand-requires-else-is_some c = c.requires.entering
 
 pub overflow_cast-v : goal.overflow_cast-v
 overflow_cast-v c = grind (arith, common_steps)

@@ -1,3 +1,4 @@
+use Rattle.std.proofs.lemmas.Result.{IfOk-from_err}
 use Rattle.std.proofs.lemmas.Grind.{common_steps}
 use Rattle.std.proofs.Common.{◌≡◌, cond, None, Some, sym, ap, ◌∙◌, subst, arith}
 use Rattle.cip_bland.specs.Dictionary.{size}
@@ -52,7 +53,18 @@ pub returns-clause-variables : goal.returns-clause-variables
 returns-clause-variables c = c.loop-v.invariant.variables
 
 pub loop-v-preserved-in_default : goal.loop-v-preserved-in_default
-loop-v-preserved-in_default c = grind (arith, common_steps)
+loop-v-preserved-in_default c =
+    let chosen : c.if-flips.chosen ≡ (cond c.args.flips (flipping_move c.args.start.now) (entering_move c.args.start.now)) c.loop-v.dict c.loop-v.v =
+    elim c.if-flips.branch [
+      | then-flips w ↦ rw w.if-flips.true (w.chosen-is ∙ w.flipping_move-chosen.ensures.chosen)
+      | else-flips w ↦ rw w.if-flips.false (w.chosen-is ∙ w.entering_move-chosen.ensures.chosen)
+    ] in
+    let b : Begun = record { moves = c.args.moves.now.items; last = c.args.dict.now; wide = None } in
+    let before : Begun = record { moves = c.loop-v.moves.items; last = c.loop-v.dict; wide = None } in
+    record {
+      variables = c.loop-v.invariant.variables;
+      made = begun_next (cond c.args.flips (flipping_move c.args.start.now) (entering_move c.args.start.now)) b c.loop-v.v c.loop-v.moves.items c.loop-v.dict c.if-flips.chosen before c.loop-v.invariant.made chosen (ap (begun_by before) c.in_default.is);
+    }
 
 pub returns-then-not-branch-clause-variables : goal.returns-then-not-branch-clause-variables
 returns-then-not-branch-clause-variables c = grind (arith, common_steps)
@@ -80,3 +92,9 @@ overflow_cast-v c = grind (arith, common_steps)
 
 pub loop-v-init : goal.loop-v-init
 loop-v-init c = grind (arith, common_steps)
+
+pub returns-in_err-make-clause-variables : goal.returns-in_err-make-clause-variables
+returns-in_err-make-clause-variables c = IfOk-from_err c.from_residual.result _ c.from_residual.ensures.0
+
+pub returns-in_err-make-clause-made : goal.returns-in_err-make-clause-made
+returns-in_err-make-clause-made c = IfOk-from_err c.from_residual.result _ c.from_residual.ensures.0

@@ -1,4 +1,7 @@
-use Rattle.std.proofs.Common.{◌∙◌, sym, ap, arith}
+use Rattle.cip_dict.specs.MoveFaults.{IsMoveFault}
+use Rattle.cip_dict.specs.Written.{IsPlanned}
+use Rattle.cip_bland.specs.Dictionary.{Dictionary}
+use Rattle.std.proofs.Common.{◌∙◌, sym, ap, arith, ◌≡◌, None, ap₂, subst}
 use Rattle.cip_bland.specs.Exchange.{CanExchange, exchanged}
 use Rattle.cip_bland.specs.Operations.{first_overflow}
 use Rattle.cip_bland.specs.MoveOperations.{exchange_operations}
@@ -10,14 +13,16 @@ pub invariant_of-self : goal.invariant_of-self
 invariant_of-self c =
     let can : CanExchange (state c.self.inside.sides.items c.self.inside.standing.items c.self.inside.lists) c.args.i c.args.j c.args.stand = rw c.self.view_is c.requires in
     let room : HasRoom c.self.inside.standing.items c.plan.new.room = rw c.as_slice-standing.ensures.value at c.plan.ensures.long in
-    let written = rw (c.as_slice-sides.ensures.value, c.as_slice-standing.ensures.value) at c.in-Ok.ensures.written in
+    let same : state c.as_slice-sides.result.now c.as_slice-standing.result.now c.self.inside.lists ≡ state c.self.inside.sides.items c.self.inside.standing.items c.self.inside.lists = ap₂ (λ s t. state s t c.self.inside.lists) c.as_slice-sides.ensures.value c.as_slice-standing.ensures.value in
+    let written = subst (λ (d : Dictionary). (first_overflow (exchange_operations d c.args.i c.args.j c.args.stand) ≡ None) × IsPlanned d c.args.i c.args.j c.args.stand c.plan.new.room c.in-Ok.cost) same c.in-Ok.ensures.written in
     (taken_over c.self.inside.sides.items c.self.inside.standing.items c.self.inside.lists c.self.inside.room c.plan.new.room c.args.i c.args.j c.args.stand c.in-Ok.cost c.take_over.new.standing.items c.take_over.new.lists c.take_over.new.room c.self.invariant room can written.1 c.take_over.ensures).1
 
 pub returns-in-Ok : goal.returns-in-Ok
 returns-in-Ok c =
     let can : CanExchange (state c.self.inside.sides.items c.self.inside.standing.items c.self.inside.lists) c.args.i c.args.j c.args.stand = rw c.self.view_is c.requires in
     let room : HasRoom c.self.inside.standing.items c.plan.new.room = rw c.as_slice-standing.ensures.value at c.plan.ensures.long in
-    let written = rw (c.as_slice-sides.ensures.value, c.as_slice-standing.ensures.value) at c.in-Ok.ensures.written in
+    let same : state c.as_slice-sides.result.now c.as_slice-standing.result.now c.self.inside.lists ≡ state c.self.inside.sides.items c.self.inside.standing.items c.self.inside.lists = ap₂ (λ s t. state s t c.self.inside.lists) c.as_slice-sides.ensures.value c.as_slice-standing.ensures.value in
+    let written = subst (λ (d : Dictionary). (first_overflow (exchange_operations d c.args.i c.args.j c.args.stand) ≡ None) × IsPlanned d c.args.i c.args.j c.args.stand c.plan.new.room c.in-Ok.cost) same c.in-Ok.ensures.written in
     let after = (taken_over c.self.inside.sides.items c.self.inside.standing.items c.self.inside.lists c.self.inside.room c.plan.new.room c.args.i c.args.j c.args.stand c.in-Ok.cost c.take_over.new.standing.items c.take_over.new.lists c.take_over.new.room c.self.invariant room can written.1 c.take_over.ensures).0 in (
       ap (λ d. first_overflow (exchange_operations d c.args.i c.args.j c.args.stand)) (sym c.self.view_is) ∙ written.0,
       after ∙ ap (λ d. exchanged d c.args.i c.args.j c.args.stand) c.self.view_is,
@@ -69,7 +74,8 @@ take_over-requires-clause-room_long c = rw c.as_slice-standing.ensures.value at 
 
 pub take_over-requires-clause-marked : goal.take_over-requires-clause-marked
 take_over-requires-clause-marked c =
-    let written = rw (c.as_slice-sides.ensures.value, c.as_slice-standing.ensures.value) at c.in-Ok.ensures.written in
+    let same : state c.as_slice-sides.result.now c.as_slice-standing.result.now c.self.inside.lists ≡ state c.self.inside.sides.items c.self.inside.standing.items c.self.inside.lists = ap₂ (λ s t. state s t c.self.inside.lists) c.as_slice-sides.ensures.value c.as_slice-standing.ensures.value in
+    let written = subst (λ (d : Dictionary). (first_overflow (exchange_operations d c.args.i c.args.j c.args.stand) ≡ None) × IsPlanned d c.args.i c.args.j c.args.stand c.plan.new.room c.in-Ok.cost) same c.in-Ok.ensures.written in
     written.1.changed
 
 pub invariant_of-self-in-Err : goal.invariant_of-self-in-Err
@@ -83,5 +89,5 @@ invariant_of-self-in-Err c = record {
 
 pub returns-in-Err : goal.returns-in-Err
 returns-in-Err c =
-    let written = rw (c.as_slice-sides.ensures.value, c.as_slice-standing.ensures.value) at c.in-Err.ensures.written in
-    (rw (← c.self.view_is) written, c.self.view_is)
+    let same : state c.as_slice-sides.result.now c.as_slice-standing.result.now c.self.inside.lists ≡ state c.self.inside.sides.items c.self.inside.standing.items c.self.inside.lists = ap₂ (λ s t. state s t c.self.inside.lists) c.as_slice-sides.ensures.value c.as_slice-standing.ensures.value in
+    (subst (λ (d : Dictionary). IsMoveFault (exchange_operations d c.args.i c.args.j c.args.stand) c.in-Err.fault) (same ∙ c.self.view_is) c.in-Err.ensures.written, c.self.view_is)

@@ -1,3 +1,5 @@
+use Rattle.cip_dict.proofs.FormPuts.{rest_form}
+use Rattle.std.proofs.lemmas.Result.{IfOk-from_err}
 use Rattle.std.proofs.lemmas.Grind.{common_steps}
 use Rattle.std.proofs.Common.{◌≡◌, ◌∙◌, ap, length, arith, set, false, refl}
 use Rattle.cip_dict.specs.WholeLines.{over, kept_in}
@@ -6,7 +8,7 @@ use Rattle.cip_dict.proofs.FormParts.{whole_kept, whole_view, parted_kept, parte
 use Rattle.cip_dict.proofs.forms.Form.set_parted.Goals as goal
 
 pub invariant_of-self : goal.invariant_of-self
-invariant_of-self c = grind (arith, common_steps)
+invariant_of-self c = rest_form _ c.self.inside.is_whole _ _ c.self.inside.entries.items _ c.if-self.true c.self.invariant
 
 pub put_entry-requires : goal.put_entry-requires
 put_entry-requires c =
@@ -48,7 +50,10 @@ returns c =
     ∙ ap (λ xs. set xs c.args.k c.args.entry) (parted_view c.self.inside.len c.self.inside.is_whole c.self.inside.below c.self.inside.wholes.items c.self.inside.entries.items c.args.self.now c.self.invariant c.self.view_is c.if-self.false)))
 
 pub invariant_of-self-in_err-put_entry : goal.invariant_of-self-in_err-put_entry
-invariant_of-self-in_err-put_entry c = grind (arith, common_steps)
+invariant_of-self-in_err-put_entry c = rest_form _ c.self.inside.is_whole _ _ c.self.inside.entries.items _ c.if-self.true c.self.invariant
 
 pub spell_wholes-requires : goal.spell_wholes-requires
 spell_wholes-requires c = grind (arith, common_steps)
+
+pub returns-in_err-put_entry : goal.returns-in_err-put_entry
+returns-in_err-put_entry c = IfOk-from_err c.from_residual-in_err-put_entry.result _ c.from_residual-in_err-put_entry.ensures.0

@@ -2,7 +2,7 @@ use Rattle.std.proofs.lemmas.Grind.{common_steps}
 use Rattle.std.proofs.Common.{ℕ, List, Option, Vec, Global, sym, ap, arith}
 use Rattle.std.specs.Prelude.{option_map}
 use Rattle.cip_lp.specs.LpDrafts.{facts_in}
-use Rattle.cip_lp.proofs.KeptLaws.{row_ended}
+use Rattle.cip_lp.proofs.KeptLaws.{row_ended, row_left}
 use Rattle.cip_lp.proofs.draft.LpDraft.end_row.Goals as goal
 
 abbrev items_of : Option (Vec ℕ Global) → Option (List ℕ)
@@ -31,3 +31,6 @@ take_row-requires c = grind (arith, common_steps)
 
 pub returns-in_default-take_row : goal.returns-in_default-take_row
 returns-in_default-take_row c = grind (arith, common_steps)
+
+pub invariant_of-self-in_default-take_row : goal.invariant_of-self-in_default-take_row
+invariant_of-self-in_default-take_row c = row_left (facts_in c.self.inside) (option_map (λ name. name.items) c.take.new.self) c.take_row.new.self (ap (option_map (λ name. name.items)) c.take.ensures.after) c.in_default-take_row.ensures.left c.self.invariant

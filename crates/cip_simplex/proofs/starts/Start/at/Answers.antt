@@ -1,5 +1,7 @@
+use Rattle.cip_bland.specs.Dictionary.{size, stand}
+use Rattle.cip_bland.specs.Tables.{table}
 use Rattle.std.proofs.lemmas.Grind.{common_steps}
-use Rattle.std.proofs.Common.{◌∙◌, ◌++◌, ◌∷◌, [], sym, ap₂, arith}
+use Rattle.std.proofs.Common.{◌∙◌, ◌++◌, ◌∷◌, [], sym, ap₂, arith, ◌≡◌, ap}
 use Rattle.cip_dict.proofs.Grown.{table_none, table_more}
 use Rattle.cip_simplex.proofs.starts.Start.at.Goals as goal
 
@@ -14,3 +16,8 @@ stand-requires c = grind (arith, common_steps)
 
 pub overflow_cast-v : goal.overflow_cast-v
 overflow_cast-v c = grind (arith, common_steps)
+
+pub returns : goal.returns
+returns c =
+    let end : c.loop-v.v ≡ size c.args.dict.now = omega (arith, c.loop-v-test.false, c.loop-v.auto.v-end, c.len-v-end.ensures.variables) in
+    c.loop-v.invariant ∙ ap (λ n. table n (stand c.args.dict.now)) end

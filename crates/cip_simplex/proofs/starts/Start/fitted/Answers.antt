@@ -1,3 +1,5 @@
+use Rattle.cip_bland.specs.Tables.{table}
+use Rattle.std.proofs.lemmas.Result.{IfOk-from_err}
 use Rattle.std.proofs.lemmas.Grind.{common_steps}
 use Rattle.std.proofs.Common.{◌≡◌, arith, length, ◌∙◌, ◌++◌, ◌∷◌, [], sym, ap, ap₂}
 use Rattle.cip_bland.proofs.Tables.{length-table}
@@ -24,7 +26,15 @@ returns-clause-long c =
     ap length c.loop-v.invariant ∙ length-table c.loop-v.v (wish c.args.self.now) ∙ e
 
 pub returns-clause-same : goal.returns-clause-same
-returns-clause-same c = grind (arith, common_steps)
+returns-clause-same c =
+    let end : c.loop-v.v ≡ c.args.n = omega (arith, c.loop-v-test.false, c.loop-v.auto.v-end) in
+    c.loop-v.invariant ∙ ap (λ n. table n (wish c.args.self.now)) end
 
 pub index-requires : goal.index-requires
 index-requires c = grind (arith, common_steps)
+
+pub returns-in_err-push-clause-long : goal.returns-in_err-push-clause-long
+returns-in_err-push-clause-long c = IfOk-from_err c.from_residual-in_err-push.result _ c.from_residual-in_err-push.ensures.0
+
+pub returns-in_err-push-clause-same : goal.returns-in_err-push-clause-same
+returns-in_err-push-clause-same c = IfOk-from_err c.from_residual-in_err-push.result _ c.from_residual-in_err-push.ensures.0

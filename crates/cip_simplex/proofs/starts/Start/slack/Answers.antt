@@ -1,3 +1,5 @@
+use Rattle.cip_simplex.proofs.FirstStands.{stand_within, stand_past}
+use Rattle.std.proofs.lemmas.Result.{IfOk-from_err}
 use Rattle.std.proofs.lemmas.Grind.{common_steps}
 use Rattle.std.proofs.Common.{◌≡◌, ◌++◌, ◌∷◌, [], length, ◌∙◌, sym, ap, ap₂, arith}
 use Rattle.cip_bland.specs.Tables.{table}
@@ -15,8 +17,8 @@ pub loop-v-preserved : goal.loop-v-preserved
 loop-v-preserved c =
     let here : c.if-v-sides.place ≡ stand_in c.sides-sides.result.now c.loop-v.v =
     elim c.if-v-sides.branch [
-      | then-v-sides w ↦ grind (arith, common_steps)
-      | else-v-sides w ↦ grind (arith, common_steps)
+      | then-v-sides w ↦ stand_within c.sides-sides.result.now c.loop-v.v w.index-sides-v.result w.stand_first.result c.if-v-sides.place w.if-v-sides.true w.index-sides-v.is w.stand_first.ensures w.place-is
+      | else-v-sides w ↦ stand_past c.sides-sides.result.now c.loop-v.v c.if-v-sides.place w.if-v-sides.false w.place-is
     ] in
     c.in_ok-push.ensures.items ∙ ap₂ (λ xs x. xs ++ x ∷ []) c.loop-v.invariant here ∙ sym (table_more c.loop-v.v _)
 
@@ -35,3 +37,9 @@ bounds-sides-v c = grind (arith, common_steps)
 
 pub offset_bounds-sides-v : goal.offset_bounds-sides-v
 offset_bounds-sides-v c = grind (arith, common_steps)
+
+pub returns-in_err-push-clause-long : goal.returns-in_err-push-clause-long
+returns-in_err-push-clause-long c = IfOk-from_err c.from_residual-in_err-push.result _ c.from_residual-in_err-push.ensures.0
+
+pub returns-in_err-push-clause-stands : goal.returns-in_err-push-clause-stands
+returns-in_err-push-clause-stands c = IfOk-from_err c.from_residual-in_err-push.result _ c.from_residual-in_err-push.ensures.0
