@@ -22,3 +22,6 @@ loop-init g c = grind (arith, common_steps)
 
 pub returns-clause-bytes : goal.returns-clause-bytes
 returns-clause-bytes g c = grind (arith, common_steps)
+
+pub returns-clause-within : goal.returns-clause-within
+returns-clause-within g c = grind (arith, common_steps)

@@ -16,3 +16,18 @@ returns-clause-len c = grind (arith, common_steps)
 
 pub returns-clause-count : goal.returns-clause-count
 returns-clause-count c = grind (arith, common_steps)
+
+pub overflow_add-used : goal.overflow_add-used
+overflow_add-used c = grind (arith, common_steps)
+
+pub slice_bounds-copy_from_slice-end : goal.slice_bounds-copy_from_slice-end
+slice_bounds-copy_from_slice-end c = grind (arith, common_steps)
+
+pub slice_bounds-copy_from_slice-count : goal.slice_bounds-copy_from_slice-count
+slice_bounds-copy_from_slice-count c = grind (arith, common_steps)
+
+pub slice_bounds-copy_from_slice-start : goal.slice_bounds-copy_from_slice-start
+slice_bounds-copy_from_slice-start c = grind (arith, common_steps)
+
+pub overflow_sub-bytes : goal.overflow_sub-bytes
+overflow_sub-bytes c = grind (arith, common_steps)

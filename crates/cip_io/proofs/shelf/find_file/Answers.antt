@@ -16,3 +16,9 @@ loop-i-preserved c = grind (arith, common_steps)
 
 pub returns : goal.returns
 returns c = grind (arith, common_steps)
+
+pub bounds-files-i : goal.bounds-files-i
+bounds-files-i c = grind (arith, common_steps)
+
+pub offset_bounds-files-i : goal.offset_bounds-files-i
+offset_bounds-files-i c = grind (arith, common_steps)

@@ -23,3 +23,15 @@ pub returns-else-chosen-files-clause-value : goal.returns-else-chosen-files-clau
 returns-else-chosen-files-clause-value c =
     let none = text_at-past c.args.files.now c.args.chosen c.if-chosen-files.false in
     grind (arith, common_steps, none)
+
+pub returns-then-chosen-files-clause-fits : goal.returns-then-chosen-files-clause-fits
+returns-then-chosen-files-clause-fits c = grind (arith, common_steps)
+
+pub bounds-files-chosen : goal.bounds-files-chosen
+bounds-files-chosen c = grind (arith, common_steps)
+
+pub returns-else-chosen-files-clause-fits : goal.returns-else-chosen-files-clause-fits
+returns-else-chosen-files-clause-fits c = grind (arith, common_steps)
+
+pub offset_bounds-files-chosen : goal.offset_bounds-files-chosen
+offset_bounds-files-chosen c = grind (arith, common_steps)

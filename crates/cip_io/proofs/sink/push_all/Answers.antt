@@ -27,3 +27,15 @@ returns-in_err-count-clause-faults g c = grind (arith, common_steps)
 
 pub push-requires : goal.push-requires
 push-requires g c = omega arith
+
+pub loop-done-init : goal.loop-done-init
+loop-done-init g c = grind (arith, common_steps)
+
+pub slice_bounds-push-count : goal.slice_bounds-push-count
+slice_bounds-push-count g c = grind (arith, common_steps)
+
+pub slice_bounds-push-start : goal.slice_bounds-push-start
+slice_bounds-push-start g c = grind (arith, common_steps)
+
+pub returns-clause-faults : goal.returns-clause-faults
+returns-clause-faults g c = grind (arith, common_steps)

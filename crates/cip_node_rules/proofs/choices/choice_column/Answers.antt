@@ -11,9 +11,6 @@ bounds-as_slice-column c = grind (arith, common_steps)
 pub returns-then-is_open : goal.returns-then-is_open
 returns-then-is_open c = grind (arith, common_steps)
 
-pub loop-column-preserved : goal.loop-column-preserved
-loop-column-preserved c = grind (arith, common_steps)
-
 pub offset_bounds-as_slice-column : goal.offset_bounds-as_slice-column
 offset_bounds-as_slice-column c = grind (arith, common_steps)
 

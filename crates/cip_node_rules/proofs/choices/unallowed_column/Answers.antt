@@ -8,9 +8,6 @@ returns c = grind (arith, common_steps)
 pub returns-then-not-allows : goal.returns-then-not-allows
 returns-then-not-allows c = grind (arith, common_steps)
 
-pub loop-column-preserved : goal.loop-column-preserved
-loop-column-preserved c = grind (arith, common_steps)
-
 pub bounds-point-column : goal.bounds-point-column
 bounds-point-column c = grind (arith, common_steps)
 

@@ -17,9 +17,6 @@ sides-requires c = grind (arith, common_steps)
 pub bounds-whole-at : goal.bounds-whole-at
 bounds-whole-at c = grind (arith, common_steps)
 
-pub returns : goal.returns
-returns c = grind (arith, common_steps)
-
 pub overflow_cast-at : goal.overflow_cast-at
 overflow_cast-at c = grind (arith, common_steps)
 

@@ -2,9 +2,6 @@ use Rattle.std.proofs.lemmas.Grind.{common_steps}
 use Rattle.std.proofs.Common.{arith}
 use Rattle.cip_node_rules.proofs.columns.is_whole_between.Goals as goal
 
-pub returns-in-Some-Some : goal.returns-in-Some-Some
-returns-in-Some-Some c = grind (arith, common_steps)
-
 pub returns-in_default : goal.returns-in_default
 returns-in_default c = grind (arith, common_steps)
 

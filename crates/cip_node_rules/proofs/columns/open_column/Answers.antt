@@ -11,9 +11,6 @@ sides-requires c = grind (arith, common_steps)
 pub bounds-whole-column : goal.bounds-whole-column
 bounds-whole-column c = grind (arith, common_steps)
 
-pub returns : goal.returns
-returns c = grind (arith, common_steps)
-
 pub overflow_cast-column : goal.overflow_cast-column
 overflow_cast-column c = grind (arith, common_steps)
 

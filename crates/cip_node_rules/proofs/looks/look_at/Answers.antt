@@ -20,9 +20,6 @@ open_column-requires-clause-long c = grind (arith, common_steps)
 pub open_column-requires-clause-columns : goal.open_column-requires-clause-columns
 open_column-requires-clause-columns c = grind (arith, common_steps)
 
-pub returns-then-is_some : goal.returns-then-is_some
-returns-then-is_some c = grind (arith, common_steps)
-
 pub lacking_column-requires-clause-long : goal.lacking_column-requires-clause-long
 lacking_column-requires-clause-long c = grind (arith, common_steps)
 

@@ -11,9 +11,6 @@ chosen_choice-requires-clause-values c = grind (arith, common_steps)
 pub returns-in-Some : goal.returns-in-Some
 returns-in-Some c = grind (arith, common_steps)
 
-pub returns-in_err-col : goal.returns-in_err-col
-returns-in_err-col c = grind (arith, common_steps)
-
 pub chosen_choice-requires-clause-columns : goal.chosen_choice-requires-clause-columns
 chosen_choice-requires-clause-columns c = grind (arith, common_steps)
 

@@ -23,15 +23,6 @@ offset_bounds-point-col c = grind (arith, common_steps)
 pub overflow_cast-col : goal.overflow_cast-col
 overflow_cast-col c = grind (arith, common_steps)
 
-pub returns-in-Some-fractional_column : goal.returns-in-Some-fractional_column
-returns-in-Some-fractional_column c = grind (arith, common_steps)
-
-pub middle-at-requires : goal.middle-at-requires
-middle-at-requires c = grind (arith, common_steps)
-
-pub returns : goal.returns
-returns c = grind (arith, common_steps)
-
 pub fractional_column-requires-clause-long : goal.fractional_column-requires-clause-long
 fractional_column-requires-clause-long c = grind (arith, common_steps)
 

@@ -4,3 +4,6 @@ use Rattle.cip_io.proofs.memory_store.MemoryStore.fail_at.Goals as goal
 
 pub returns-clause-ok : goal.returns-clause-ok
 returns-clause-ok c = grind (arith, common_steps)
+
+pub returns-clause-err : goal.returns-clause-err
+returns-clause-err c = grind (arith, common_steps)

@@ -25,3 +25,15 @@ returns-then-contains-clause-when c = grind (arith, common_steps)
 
 pub returns-then-contains-clause-err : goal.returns-then-contains-clause-err
 returns-then-contains-clause-err c = grind (arith, common_steps)
+
+pub returns-clause-err : goal.returns-clause-err
+returns-clause-err c = grind (arith, common_steps)
+
+pub returns-then-contains-clause-count : goal.returns-then-contains-clause-count
+returns-then-contains-clause-count c = grind (arith, common_steps)
+
+pub returns-then-contains-clause-comes : goal.returns-then-contains-clause-comes
+returns-then-contains-clause-comes c = grind (arith, common_steps)
+
+pub returns-then-contains-clause-ok : goal.returns-then-contains-clause-ok
+returns-then-contains-clause-ok c = grind (arith, common_steps)

@@ -25,3 +25,15 @@ returns-in-Ok-insert-clause-err c = grind (arith, common_steps)
 
 pub returns-in_default-from_str-clause-err : goal.returns-in_default-from_str-clause-err
 returns-in_default-from_str-clause-err c = grind (arith, common_steps)
+
+pub returns-in_default-clause-ok : goal.returns-in_default-clause-ok
+returns-in_default-clause-ok c = grind (arith, common_steps)
+
+pub returns-in_default-clause-err : goal.returns-in_default-clause-err
+returns-in_default-clause-err c = grind (arith, common_steps)
+
+pub same-self-in_default-from_str : goal.same-self-in_default-from_str
+same-self-in_default-from_str c = grind (arith, common_steps)
+
+pub same-self : goal.same-self
+same-self c = grind (arith, common_steps)

@@ -7,3 +7,9 @@ returns-then-not-choose-clause-state c = grind (arith, common_steps)
 
 pub returns-else-not-choose-clause-state : goal.returns-else-not-choose-clause-state
 returns-else-not-choose-clause-state c = grind (arith, common_steps)
+
+pub returns-then-not-choose-clause-sound : goal.returns-then-not-choose-clause-sound
+returns-then-not-choose-clause-sound c = grind (arith, common_steps)
+
+pub returns-else-not-choose-clause-sound : goal.returns-else-not-choose-clause-sound
+returns-else-not-choose-clause-sound c = grind (arith, common_steps)

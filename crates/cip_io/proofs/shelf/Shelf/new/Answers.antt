@@ -1,6 +1,6 @@
 use Rattle.std.proofs.lemmas.Grind.{common_steps}
 use Rattle.std.proofs.Common.{arith}
-use Rattle.cip_node_rules.proofs.splits.moved.Goals as goal
+use Rattle.cip_io.proofs.shelf.Shelf.new.Goals as goal
 
 pub returns : goal.returns
 returns c = grind (arith, common_steps)
