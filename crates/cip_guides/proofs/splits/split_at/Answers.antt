@@ -22,3 +22,6 @@ returns-then-not-whole-place c = grind (arith, common_steps)
 
 pub returns-then-place-whole : goal.returns-then-place-whole
 returns-then-place-whole c = grind (arith, common_steps)
+
+pub returns-else-is_above : goal.returns-else-is_above
+returns-else-is_above c = grind (arith, common_steps)

@@ -36,3 +36,9 @@ returns-clause-state c =
 
 pub loop-column-init : goal.loop-column-init
 loop-column-init c = grind (arith, common_steps)
+
+pub overflow_add-cost : goal.overflow_add-cost
+overflow_add-cost c = grind (arith, common_steps)
+
+pub overflow_cast-cost : goal.overflow_cast-cost
+overflow_cast-cost c = grind (arith, common_steps)

@@ -1,3 +1,4 @@
+use Rattle.std.proofs.lemmas.Grind.{common_steps}
 use Rattle.cip_io.specs.Store.{StoreTells}
 use Rattle.std.proofs.lemmas.Str.Pattern.{ends_text}
 use Rattle.std.proofs.Common.{◌≡◌, true, false, refl, sym, ap, inl, ◌∙◌, arith}
@@ -38,3 +39,6 @@ returns-else-ends_with-clause-holds g c = c.read_text-else-ends_with.ensures.hol
 
 pub returns-then-ends_with-clause-holds : goal.returns-then-ends_with-clause-holds
 returns-then-ends_with-clause-holds g c = c.read_text.ensures.holds
+
+pub ends_with-requires : goal.ends_with-requires
+ends_with-requires g c = grind (arith, common_steps)

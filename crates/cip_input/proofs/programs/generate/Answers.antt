@@ -46,3 +46,6 @@ returns c =
 
 pub returns-in_default : goal.returns-in_default
 returns-in_default c = grind (arith, common_steps)
+
+pub drawn_rows-requires : goal.drawn_rows-requires
+drawn_rows-requires c = grind (arith, common_steps)

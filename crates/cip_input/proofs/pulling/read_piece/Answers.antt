@@ -38,3 +38,48 @@ returns-in_err-count-clause-within g c = grind (arith, common_steps)
 
 pub pull-requires : goal.pull-requires
 pull-requires g c = grind (arith, common_steps)
+
+pub slice_bounds-feed-end-2 : goal.slice_bounds-feed-end-2
+slice_bounds-feed-end-2 g c = grind (arith, common_steps)
+
+pub returns-clause-size : goal.returns-clause-size
+returns-clause-size g c = grind (arith, common_steps)
+
+pub returns-in-Err-Faulty-clause-size : goal.returns-in-Err-Faulty-clause-size
+returns-in-Err-Faulty-clause-size g c = grind (arith, common_steps)
+
+pub returns-in-Ok-clause-size : goal.returns-in-Ok-clause-size
+returns-in-Ok-clause-size g c = grind (arith, common_steps)
+
+pub returns-clause-holds : goal.returns-clause-holds
+returns-clause-holds g c = grind (arith, common_steps)
+
+pub returns-in-Err-Faulty-clause-holds : goal.returns-in-Err-Faulty-clause-holds
+returns-in-Err-Faulty-clause-holds g c = grind (arith, common_steps)
+
+pub returns-in-Err-Faulty-clause-within : goal.returns-in-Err-Faulty-clause-within
+returns-in-Err-Faulty-clause-within g c = grind (arith, common_steps)
+
+pub returns-in-Ok-clause-holds : goal.returns-in-Ok-clause-holds
+returns-in-Ok-clause-holds g c = grind (arith, common_steps)
+
+pub returns-clause-cause : goal.returns-clause-cause
+returns-clause-cause g c = grind (arith, common_steps)
+
+pub returns-in-Err-Faulty-clause-cause : goal.returns-in-Err-Faulty-clause-cause
+returns-in-Err-Faulty-clause-cause g c = grind (arith, common_steps)
+
+pub returns-in-Ok-clause-within : goal.returns-in-Ok-clause-within
+returns-in-Ok-clause-within g c = grind (arith, common_steps)
+
+pub returns-in-Ok-clause-cause : goal.returns-in-Ok-clause-cause
+returns-in-Ok-clause-cause g c = grind (arith, common_steps)
+
+pub returns-clause-read : goal.returns-clause-read
+returns-clause-read g c = grind (arith, common_steps)
+
+pub slice_bounds-feed-end : goal.slice_bounds-feed-end
+slice_bounds-feed-end g c = grind (arith, common_steps)
+
+pub returns-clause-within : goal.returns-clause-within
+returns-clause-within g c = grind (arith, common_steps)

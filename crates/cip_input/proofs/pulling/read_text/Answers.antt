@@ -1,4 +1,5 @@
-use Rattle.std.proofs.Common.{inl, inr, refl}
+use Rattle.std.proofs.lemmas.Grind.{common_steps}
+use Rattle.std.proofs.Common.{inl, inr, refl, arith}
 use Rattle.cip_io.specs.Store.{StoreTells}
 use Rattle.cip_input.proofs.TextsTold.{all_read_as, pull_cause_as, spent_cause}
 use Rattle.cip_input.proofs.pulling.read_text.Goals as goal
@@ -46,3 +47,21 @@ returns-clause-read g c = λ subject fresh.
           (spent_cause _ (g.S.Store.tells c.choose.new.self) (g.S.Store.tells c.read_pieces.new.store) _ _
           (c.in-Err-finish.ensures.spent spent) c.from.ensures all.sound))
     ]
+
+pub returns-clause-holds : goal.returns-clause-holds
+returns-clause-holds g c = grind (arith, common_steps)
+
+pub returns-in-Ok-finish-clause-holds : goal.returns-in-Ok-finish-clause-holds
+returns-in-Ok-finish-clause-holds g c = grind (arith, common_steps)
+
+pub returns-in-Err-read_pieces-clause-holds : goal.returns-in-Err-read_pieces-clause-holds
+returns-in-Err-read_pieces-clause-holds g c = grind (arith, common_steps)
+
+pub returns-in-Err-clause-holds : goal.returns-in-Err-clause-holds
+returns-in-Err-clause-holds g c = grind (arith, common_steps)
+
+pub returns-in_default-clause-holds : goal.returns-in_default-clause-holds
+returns-in_default-clause-holds g c = grind (arith, common_steps)
+
+pub read_pieces-requires : goal.read_pieces-requires
+read_pieces-requires g c = grind (arith, common_steps)

@@ -1,4 +1,5 @@
-use Rattle.std.proofs.Common.{◌∙◌, ap, refl, true}
+use Rattle.std.proofs.lemmas.Grind.{common_steps}
+use Rattle.std.proofs.Common.{◌∙◌, ap, refl, true, arith}
 use Rattle.std.specs.Prelude.{IfOk}
 use Rattle.std.proofs.lemmas.Result.{IfOk-weaker}
 use Rattle.clap.specs.Words.{App, Shape, with_subcommand}
@@ -27,3 +28,48 @@ returns c =
     let solver = solve _ _ c.in-Ok-subcommand.ensures ∙ ap (λ (app : App). with_subcommand app solve_command.top) bare in
     let checker = check _ _ c.in-Ok-subcommand-2.ensures ∙ ap (λ (app : App). with_subcommand app check_command.top) solver in
     IfOk-weaker c.subcommand-3.result _ _ (λ command h. draw _ _ h ∙ ap (λ (app : App). with_subcommand app self_command.top) checker) c.subcommand-3.ensures
+
+pub returns-in_default-with_word-2 : goal.returns-in_default-with_word-2
+returns-in_default-with_word-2 c = grind (arith, common_steps)
+
+pub returns-in_default-with_word : goal.returns-in_default-with_word
+returns-in_default-with_word c = grind (arith, common_steps)
+
+pub returns-in_default : goal.returns-in_default
+returns-in_default c = grind (arith, common_steps)
+
+pub with_word-draw-requires-2 : goal.with_word-draw-requires-2
+with_word-draw-requires-2 c = grind (arith, common_steps)
+
+pub with_word-draw-requires : goal.with_word-draw-requires
+with_word-draw-requires c = grind (arith, common_steps)
+
+pub with_word-requires-3 : goal.with_word-requires-3
+with_word-requires-3 c = grind (arith, common_steps)
+
+pub with_word-requires-2 : goal.with_word-requires-2
+with_word-requires-2 c = grind (arith, common_steps)
+
+pub with_word-check-requires : goal.with_word-check-requires
+with_word-check-requires c = grind (arith, common_steps)
+
+pub with_word-requires : goal.with_word-requires
+with_word-requires c = grind (arith, common_steps)
+
+pub with_word-solve-requires-2 : goal.with_word-solve-requires-2
+with_word-solve-requires-2 c = grind (arith, common_steps)
+
+pub with_word-solve-requires-6 : goal.with_word-solve-requires-6
+with_word-solve-requires-6 c = grind (arith, common_steps)
+
+pub with_word-solve-requires : goal.with_word-solve-requires
+with_word-solve-requires c = grind (arith, common_steps)
+
+pub with_word-solve-requires-5 : goal.with_word-solve-requires-5
+with_word-solve-requires-5 c = grind (arith, common_steps)
+
+pub with_word-solve-requires-4 : goal.with_word-solve-requires-4
+with_word-solve-requires-4 c = grind (arith, common_steps)
+
+pub with_word-solve-requires-3 : goal.with_word-solve-requires-3
+with_word-solve-requires-3 c = grind (arith, common_steps)

@@ -29,3 +29,6 @@ returns-in-Err c =
 
 pub returns-in_default : goal.returns-in_default
 returns-in_default c = grind (arith, common_steps)
+
+pub as_bytes-requires-text-self : goal.as_bytes-requires-text-self
+as_bytes-requires-text-self c = grind (arith, common_steps)

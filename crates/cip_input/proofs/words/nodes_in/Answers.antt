@@ -1,4 +1,5 @@
-use Rattle.std.proofs.Common.{sym, ap, ◌∙◌}
+use Rattle.std.proofs.lemmas.Grind.{common_steps}
+use Rattle.std.proofs.Common.{sym, ap, ◌∙◌, arith}
 use Rattle.cip_input.specs.Jobs.{begins_above_zero}
 use Rattle.cip_input.proofs.Numbers.{some_nodes, no_nodes, not_above}
 use Rattle.cip_input.proofs.words.nodes_in.Goals as goal
@@ -15,3 +16,9 @@ returns-in-Ok c =
 
 pub returns-in_default-parse-3 : goal.returns-in_default-parse-3
 returns-in_default-parse-3 c = rw c.in-Some.is (sym (no_nodes c.in-Some.text.now (λ u. c.in_default-parse.ensures.value.0 (u.0, u.1))))
+
+pub as_bytes-requires-text-self : goal.as_bytes-requires-text-self
+as_bytes-requires-text-self c = grind (arith, common_steps)
+
+pub returns-in_default : goal.returns-in_default
+returns-in_default c = grind (arith, common_steps)

@@ -1,4 +1,5 @@
-use Rattle.std.proofs.Common.{sym, ap, ◌∙◌}
+use Rattle.std.proofs.lemmas.Grind.{common_steps}
+use Rattle.std.proofs.Common.{sym, ap, ◌∙◌, arith}
 use Rattle.cip_input.specs.Jobs.{begins_plainly}
 use Rattle.cip_input.proofs.Naturals.{some_number, no_number_said, not_plainly}
 use Rattle.cip_input.proofs.words.number_up_to.Goals as goal
@@ -15,3 +16,9 @@ returns-in-Ok c =
 
 pub returns-in_default-parse-2 : goal.returns-in_default-parse-2
 returns-in_default-parse-2 c = rw c.in-Some.is (sym (no_number_said c.args.most c.in-Some.text.now (λ u. c.in_default-parse.ensures.value.0 (u.0, u.1))))
+
+pub as_bytes-requires-text-self : goal.as_bytes-requires-text-self
+as_bytes-requires-text-self c = grind (arith, common_steps)
+
+pub returns-in_default : goal.returns-in_default
+returns-in_default c = grind (arith, common_steps)

@@ -10,3 +10,12 @@ returns-in-Some c = rw c.in-Some.is (map_from_collect _ c.collect.ensures.ran (Y
 
 pub returns-in-None : goal.returns-in-None
 returns-in-None c = grind (arith, common_steps)
+
+pub split-requires-text-self : goal.split-requires-text-self
+split-requires-text-self c = grind (arith, common_steps)
+
+pub collect-requires-clause-can : goal.collect-requires-clause-can
+collect-requires-clause-can c = grind (arith, common_steps)
+
+pub collect-requires-clause-finite : goal.collect-requires-clause-finite
+collect-requires-clause-finite c = grind (arith, common_steps)

@@ -14,3 +14,12 @@ index_mut-requires c = grind (arith, common_steps)
 
 pub returns-in-None : goal.returns-in-None
 returns-in-None c = grind (arith, common_steps)
+
+pub returns-in_default : goal.returns-in_default
+returns-in_default c = grind (arith, common_steps)
+
+pub returns-in_default-2 : goal.returns-in_default-2
+returns-in_default-2 c = grind (arith, common_steps)
+
+pub get-requires : goal.get-requires
+get-requires c = grind (arith, common_steps)

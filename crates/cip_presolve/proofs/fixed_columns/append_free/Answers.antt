@@ -16,3 +16,12 @@ bounds-terms-term-index c = grind (arith, common_steps)
 
 pub offset_bounds-terms-term-index : goal.offset_bounds-terms-term-index
 offset_bounds-terms-term-index c = grind (arith, common_steps)
+
+pub loop-term-preserved-then-is_some : goal.loop-term-preserved-then-is_some
+loop-term-preserved-then-is_some c = grind (arith, common_steps)
+
+pub returns-in-Err-NoMemory : goal.returns-in-Err-NoMemory
+returns-in-Err-NoMemory c = grind (arith, common_steps)
+
+pub returns-in-Err : goal.returns-in-Err
+returns-in-Err c = grind (arith, common_steps)

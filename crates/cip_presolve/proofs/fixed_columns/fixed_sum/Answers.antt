@@ -16,3 +16,9 @@ sides-requires c = grind (arith, common_steps)
 
 pub offset_bounds-terms-term-index : goal.offset_bounds-terms-term-index
 offset_bounds-terms-term-index c = grind (arith, common_steps)
+
+pub loop-term-preserved-in_default : goal.loop-term-preserved-in_default
+loop-term-preserved-in_default c = grind (arith, common_steps)
+
+pub returns-then-not-add_product : goal.returns-then-not-add_product
+returns-then-not-add_product c = grind (arith, common_steps)

@@ -24,3 +24,6 @@ append_free-requires c = grind (arith, common_steps)
 
 pub fixed_sum-requires : goal.fixed_sum-requires
 fixed_sum-requires c = grind (arith, common_steps)
+
+pub returns : goal.returns
+returns c = grind (arith, common_steps)

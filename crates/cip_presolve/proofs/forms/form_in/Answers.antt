@@ -1,3 +1,4 @@
+use Rattle.std.proofs.lemmas.Grind.{common_steps}
 use Rattle.std.proofs.Common.{◌≡◌, ◌∷◌, [], IfSome, sym, ap, ◌∙◌, subst, arith}
 use Rattle.cip_presolve.specs.Equalities.{equality_form}
 use Rattle.cip_problem.specs.Program.{Term}
@@ -48,3 +49,6 @@ form_of-requires-then-second-column c =
     let two : HasTwoTerms c.args.row.now c.first-item.result c.second-item.result c.in-Some.value =
     two_found_by c.args.row.now c.first-item.result c.second-item.result (record { low = c.low.result; high = c.high.result }) c.in-Some.value (sym c.only_value.ensures ∙ c.in-Some.is) c.low.ensures c.high.ensures terms c.terms.ensures.valid in
     λ e. two.second_nonzero (sym (ap (λ (t : Term). t.coefficient) c.second.view_is) ∙ e)
+
+pub returns-else-second-column : goal.returns-else-second-column
+returns-else-second-column c = grind (arith, common_steps)

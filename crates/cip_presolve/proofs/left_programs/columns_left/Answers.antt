@@ -53,3 +53,6 @@ pub names_left-requires-2 : goal.names_left-requires-2
 names_left-requires-2 c =
     ap (λ (ds : List Bool). length ds) (c.as_slice-3.ensures.value ∙ c.in-Ok-dropped_rows.ensures ∙ ap (λ (rs : List Row). dropped_rows c.args.gone.now rs) c.rows.ensures)
     ∙ length_map _ c.args.draft.now.rows ∙ c.requires.row_names ∙ sym (ap (λ (ns : List (List ℕ)). length ns) c.row_names.ensures.names)
+
+pub returns-in_default-names_left-2 : goal.returns-in_default-names_left-2
+returns-in_default-names_left-2 c = grind (arith, common_steps)

@@ -4,3 +4,12 @@ use Rattle.cip_presolve.proofs.left_rows.says_nothing.Goals as goal
 
 pub returns-in_default : goal.returns-in_default
 returns-in_default c = grind (arith, common_steps)
+
+pub returns-in_default-2 : goal.returns-in_default-2
+returns-in_default-2 c = grind (arith, common_steps)
+
+pub returns-in-empty-None-None : goal.returns-in-empty-None-None
+returns-in-empty-None-None c = grind (arith, common_steps)
+
+pub returns-in_default-3 : goal.returns-in_default-3
+returns-in_default-3 c = grind (arith, common_steps)

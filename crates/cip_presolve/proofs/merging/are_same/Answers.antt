@@ -19,3 +19,9 @@ offset_bounds-ones-at c = grind (arith, common_steps)
 
 pub loop-at-init : goal.loop-at-init
 loop-at-init c = grind (arith, common_steps)
+
+pub loop-at-preserved : goal.loop-at-preserved
+loop-at-preserved c = grind (arith, common_steps)
+
+pub returns-in-loop-at : goal.returns-in-loop-at
+returns-in-loop-at c = grind (arith, common_steps)

@@ -10,3 +10,9 @@ returns-then-is_zero c = grind (arith, common_steps)
 
 pub returns-in-Err : goal.returns-in-Err
 returns-in-Err c = grind (arith, common_steps)
+
+pub returns-in-Ok : goal.returns-in-Ok
+returns-in-Ok c = grind (arith, common_steps)
+
+pub returns-in_default-target_at : goal.returns-in_default-target_at
+returns-in_default-target_at c = grind (arith, common_steps)

@@ -20,3 +20,15 @@ returns c =
     (λ r. ap (λ (s : Sides). least_value c.is_whole.result s.low) (sym sides) ∙ sym (c.last_value.ensures.fallen r) ∙ c.in-Some.is)
     (λ r. ap (λ (s : Sides). greatest_value c.is_whole.result s.high) (sym sides) ∙ sym (c.last_value.ensures.risen r) ∙ c.in-Some.is)
     (λ w. true≢false (sym (c.is_negative.ensures.1 (subst (λ q. q <ℚ zeroℚ) (sym (c.turned.ensures ∙ ap (turned c.args.rising) c.cost.ensures)) w)) ∙ c.if-is_negative.false))
+
+pub sides-sides-requires : goal.sides-sides-requires
+sides-sides-requires c = grind (arith, common_steps)
+
+pub get-requires : goal.get-requires
+get-requires c = grind (arith, common_steps)
+
+pub returns-then-is_fixed : goal.returns-then-is_fixed
+returns-then-is_fixed c = grind (arith, common_steps)
+
+pub returns-in_default-last_value : goal.returns-in_default-last_value
+returns-in_default-last_value c = grind (arith, common_steps)

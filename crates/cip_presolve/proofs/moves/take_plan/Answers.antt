@@ -7,3 +7,6 @@ loop-column-init c = grind (arith, common_steps)
 
 pub overflow_cast-column-end : goal.overflow_cast-column-end
 overflow_cast-column-end c = grind (arith, common_steps)
+
+pub set_sides-requires-clause-inside : goal.set_sides-requires-clause-inside
+set_sides-requires-clause-inside c = grind (arith, common_steps)

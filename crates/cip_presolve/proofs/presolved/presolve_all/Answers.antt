@@ -1,4 +1,5 @@
-use Rattle.std.proofs.Common.{◌≤◌, ◌∙◌, length, sym, ap, subst}
+use Rattle.std.proofs.lemmas.Grind.{common_steps}
+use Rattle.std.proofs.Common.{◌≤◌, ◌∙◌, length, sym, ap, subst, arith}
 use Rattle.std.proofs.lemmas.Result.{IfOk-weaker}
 use Rattle.cip_problem.specs.Limits.{most_rows}
 use Rattle.cip_problem.specs.Program.{Program}
@@ -23,3 +24,6 @@ returns c =
 
 pub ended-requires-clause-end : goal.ended-requires-clause-end
 ended-requires-clause-end c = c.in-Ok-told.ensures.end
+
+pub new-requires-2 : goal.new-requires-2
+new-requires-2 c = grind (arith, common_steps)

@@ -1,4 +1,5 @@
-use Rattle.std.proofs.Common.{◌≡◌, List, refl, ap, ◌∙◌, subst}
+use Rattle.std.proofs.lemmas.Grind.{common_steps}
+use Rattle.std.proofs.Common.{◌≡◌, List, refl, ap, ◌∙◌, subst, arith}
 use Rattle.cip_rational.specs.Rational.{◌*ℚ◌}
 use Rattle.cip_problem.specs.Program.{Term, Row}
 use Rattle.cip_presolve.specs.Forms.{Form}
@@ -20,3 +21,15 @@ returns-then-whole c =
     (ap (λ (r : Row). r.low) c.empty-new.ensures ∙ c.in-Some.ensures ∙ ap (λ o. side_less o c.in-Ok.shift) c.low.ensures)
     (ap (λ (r : Row). r.high) c.empty-new.ensures ∙ c.in-Some-less.ensures ∙ ap (λ o. side_less o c.in-Ok.shift) c.high.ensures)
     (subst (λ (ts : List Term). HasAll c.empty-new.result own other ts c.put_both.new.new) c.terms-2.ensures.terms all)
+
+pub returns : goal.returns
+returns c = grind (arith, common_steps)
+
+pub returns-in_default-mul : goal.returns-in_default-mul
+returns-in_default-mul c = grind (arith, common_steps)
+
+pub returns-in_default : goal.returns-in_default
+returns-in_default c = grind (arith, common_steps)
+
+pub returns-then-is_zero : goal.returns-then-is_zero
+returns-then-is_zero c = grind (arith, common_steps)

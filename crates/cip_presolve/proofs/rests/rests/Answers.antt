@@ -40,3 +40,9 @@ extent-requires c =
 pub returns-in-Some : goal.returns-in-Some
 returns-in-Some c =
     rests_by c.args.bounds.now c.args.row.now.terms c.in-Some.rest.terms c.args.at c.extent.result c.requires.inside (rw c.in-Some.is at c.in_ok-rest.ensures) c.extent.ensures
+
+pub returns-in-None : goal.returns-in-None
+returns-in-None c = grind (arith, common_steps)
+
+pub without-requires : goal.without-requires
+without-requires c = grind (arith, common_steps)

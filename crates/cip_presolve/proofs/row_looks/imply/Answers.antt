@@ -52,3 +52,6 @@ returns-in-Err-clause-end c = grind (arith, common_steps)
 
 pub returns-clause-end : goal.returns-clause-end
 returns-clause-end c = grind (arith, common_steps)
+
+pub extent-extent-requires : goal.extent-extent-requires
+extent-extent-requires c = grind (arith, common_steps)

@@ -46,3 +46,18 @@ overflow_cast-stays c = grind (arith, common_steps)
 
 pub overflow_cast-gone : goal.overflow_cast-gone
 overflow_cast-gone c = grind (arith, common_steps)
+
+pub overflow_cast-stays-else-gone-count : goal.overflow_cast-stays-else-gone-count
+overflow_cast-stays-else-gone-count c = grind (arith, common_steps)
+
+pub returns-in-Ok-clause-end : goal.returns-in-Ok-clause-end
+returns-in-Ok-clause-end c = grind (arith, common_steps)
+
+pub returns-in-Err-clause-end : goal.returns-in-Err-clause-end
+returns-in-Err-clause-end c = grind (arith, common_steps)
+
+pub returns-then-not-alike-clause-end : goal.returns-then-not-alike-clause-end
+returns-then-not-alike-clause-end c = grind (arith, common_steps)
+
+pub returns-then-not-alike-clause-rows : goal.returns-then-not-alike-clause-rows
+returns-then-not-alike-clause-rows c = grind (arith, common_steps)

@@ -23,3 +23,6 @@ returns-clause-fewer c = grind (arith, common_steps)
 
 pub loop-term-init : goal.loop-term-init
 loop-term-init c = grind (arith, common_steps)
+
+pub loop-term-preserved-then-eq : goal.loop-term-preserved-then-eq
+loop-term-preserved-then-eq c = grind (arith, common_steps)

@@ -1,4 +1,5 @@
-use Rattle.std.proofs.Common.{◌≡◌, Bool, List, Option, ap, ◌∙◌, subst, length, sym}
+use Rattle.std.proofs.lemmas.Grind.{common_steps}
+use Rattle.std.proofs.Common.{◌≡◌, Bool, List, Option, ap, ◌∙◌, subst, length, sym, arith}
 use Rattle.std.specs.Prelude.{map, is_none}
 use Rattle.cip_rational.specs.Rational.{ℚ}
 use Rattle.cip_presolve.specs.Forms.{Form}
@@ -47,3 +48,12 @@ returns-clause-fault c =
     let slice : c.as_slice-2.result.now ≡ c.in-Ok-placed.at.items = c.as_slice-2.ensures.value in
     wide_back c.args.steps.now c.in-Ok.left.items c.args.point.now c.in-Ok-placed.at.items left at
     (subst (λ (fs : List (Option Form)). HasOverflow fs c.in-Ok-placed.at.items) forms (subst (λ (vs : List ℚ). HasOverflow c.as_slice-forms.result.now vs) slice (rw c.in-None.is at c.in-Ok-filled.ensures)))
+
+pub returns-clause-point : goal.returns-clause-point
+returns-clause-point c = grind (arith, common_steps)
+
+pub returns-clause-fits : goal.returns-clause-fits
+returns-clause-fits c = grind (arith, common_steps)
+
+pub returns-in-Some-clause-fault : goal.returns-in-Some-clause-fault
+returns-in-Some-clause-fault c = grind (arith, common_steps)

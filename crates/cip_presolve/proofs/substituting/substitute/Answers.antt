@@ -66,3 +66,27 @@ loop-at-preserved c = record {
   found = grind (arith, common_steps, found_still);
   rows = c.try_replace.ensures.rows ∙ c.loop-at.invariant.rows;
 }
+
+pub try_replace-requires-clause-gives : goal.try_replace-requires-clause-gives
+try_replace-requires-clause-gives c = grind (arith, common_steps)
+
+pub move_cost-requires-clause-gives : goal.move_cost-requires-clause-gives
+move_cost-requires-clause-gives c = grind (arith, common_steps)
+
+pub try_replace-requires-clause-there : goal.try_replace-requires-clause-there
+try_replace-requires-clause-there c = grind (arith, common_steps)
+
+pub returns-in_err-try_replace-clause-rows : goal.returns-in_err-try_replace-clause-rows
+returns-in_err-try_replace-clause-rows c = grind (arith, common_steps)
+
+pub try_replace-requires-clause-inside : goal.try_replace-requires-clause-inside
+try_replace-requires-clause-inside c = grind (arith, common_steps)
+
+pub try_replace-requires-clause-substitute : goal.try_replace-requires-clause-substitute
+try_replace-requires-clause-substitute c = grind (arith, common_steps)
+
+pub overflow_cast-row : goal.overflow_cast-row
+overflow_cast-row c = grind (arith, common_steps)
+
+pub loop-at-preserved-in_default : goal.loop-at-preserved-in_default
+loop-at-preserved-in_default c = grind (arith, common_steps)

@@ -26,3 +26,21 @@ returns-in_default-substitute-clause-step c = exact_after _ _ _ c.loop-row.invar
 
 pub returns-in_default-substitute-2-clause-step : goal.returns-in_default-substitute-2-clause-step
 returns-in_default-substitute-2-clause-step c = exact_after _ _ _ c.loop-row.invariant.step c.substitute.ensures.step
+
+pub returns-in_default-substitute-clause-rows : goal.returns-in_default-substitute-clause-rows
+returns-in_default-substitute-clause-rows c = grind (arith, common_steps)
+
+pub returns-in_default-substitute-2-clause-rows : goal.returns-in_default-substitute-2-clause-rows
+returns-in_default-substitute-2-clause-rows c = grind (arith, common_steps)
+
+pub returns-in_default-substitute-clause-end : goal.returns-in_default-substitute-clause-end
+returns-in_default-substitute-clause-end c = grind (arith, common_steps)
+
+pub returns-in_default-substitute-2-clause-end : goal.returns-in_default-substitute-2-clause-end
+returns-in_default-substitute-2-clause-end c = grind (arith, common_steps)
+
+pub found_by-requires : goal.found_by-requires
+found_by-requires c = grind (arith, common_steps)
+
+pub loop-row-preserved-then-is_used : goal.loop-row-preserved-then-is_used
+loop-row-preserved-then-is_used c = grind (arith, common_steps)

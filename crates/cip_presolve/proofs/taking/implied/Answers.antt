@@ -63,3 +63,9 @@ term_at-term-requires c = grind (arith, common_steps)
 
 pub row-row-requires : goal.row-row-requires
 row-row-requires c = grind (arith, common_steps)
+
+pub single_sides-requires : goal.single_sides-requires
+single_sides-requires c = grind (arith, common_steps)
+
+pub same-term : goal.same-term
+same-term c = grind (arith, common_steps)

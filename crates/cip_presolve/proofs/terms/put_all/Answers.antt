@@ -29,3 +29,6 @@ offset_bounds-terms-term-index c = grind (arith, common_steps)
 
 pub returns-then-not-branch : goal.returns-then-not-branch
 returns-then-not-branch c = grind (arith, common_steps)
+
+pub returns-then-not-branch-2 : goal.returns-then-not-branch-2
+returns-then-not-branch-2 c = grind (arith, common_steps)

@@ -10,3 +10,9 @@ bounds-point-column c = grind (arith, common_steps)
 
 pub offset_bounds-point-column : goal.offset_bounds-point-column
 offset_bounds-point-column c = grind (arith, common_steps)
+
+pub returns-after-get : goal.returns-after-get
+returns-after-get c = grind (arith, common_steps)
+
+pub get-requires : goal.get-requires
+get-requires c = grind (arith, common_steps)

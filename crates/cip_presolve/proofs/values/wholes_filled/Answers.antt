@@ -41,3 +41,6 @@ unreachable-requires c =
     let both = below_both _ _ _ _ c.min-column-end.ensures c.loop-column-test.true in
     true≢false (sym (subst IsOk (sym c.value_outcome.ensures ∙ c.in-Err.is)
     (fits_at c.args.forms.now c.args.whole.now c.args.point.now c.loop-column.column c.index-forms-column.result c.index-forms-column.result c.requires.fit both.0 both.1 c.if-not-whole-column.false (sym c.index-forms-column.is))))
+
+pub unreachable-unreachable : goal.unreachable-unreachable
+unreachable-unreachable c = grind (arith, common_steps)

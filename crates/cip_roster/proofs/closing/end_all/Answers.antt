@@ -83,3 +83,6 @@ returns-clause-seats g c = grind (arith, common_steps)
 
 pub overflow_cast-place : goal.overflow_cast-place
 overflow_cast-place g c = grind (arith, common_steps)
+
+pub overflow_cast-place-in-Ok : goal.overflow_cast-place-in-Ok
+overflow_cast-place-in-Ok g c = grind (arith, common_steps)

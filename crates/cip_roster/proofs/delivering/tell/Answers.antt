@@ -1,4 +1,5 @@
-use Rattle.std.proofs.Common.{◌∙◌, List, subst, sym}
+use Rattle.std.proofs.lemmas.Grind.{common_steps}
+use Rattle.std.proofs.Common.{◌∙◌, List, subst, sym, arith}
 use Rattle.std.specs.Prelude.{OnErr, OnOk}
 use Rattle.cip_plugin.specs.declared.kinds.Kind.TheVariants as kinds
 use Rattle.cip_plugin.specs.declared.keys.Key.{Key}
@@ -53,3 +54,12 @@ returns-clause-err g c =
 
 pub returns-clause-sound : goal.returns-clause-sound
 returns-clause-sound g c = c.tell_each.ensures.sound
+
+pub returns-in_default-from_slice-clause-told : goal.returns-in_default-from_slice-clause-told
+returns-in_default-from_slice-clause-told g c = grind (arith, common_steps)
+
+pub ranked-requires : goal.ranked-requires
+ranked-requires g c = grind (arith, common_steps)
+
+pub returns-in_default-clause-told : goal.returns-in_default-clause-told
+returns-in_default-clause-told g c = grind (arith, common_steps)

@@ -89,3 +89,15 @@ returns-in_default-reserve_turns-clause-sound g c =
     sound_more (g.R.Seated.state c.keep_ranking.new.self) (g.R.Seated.state c.reserve_turns.new.self)
     (g.R.Seated.room c.keep_ranking.new.self) (g.R.Seated.room c.reserve_turns.new.self) c.reserve_turns.ensures.state
     c.reserve_turns.ensures.grows c.reserve_turns.ensures.rankings sound
+
+pub returns-in_default-reserve_turns-clause-called : goal.returns-in_default-reserve_turns-clause-called
+returns-in_default-reserve_turns-clause-called g c = grind (arith, common_steps)
+
+pub ranked-requires : goal.ranked-requires
+ranked-requires g c = grind (arith, common_steps)
+
+pub returns-in_default-found-clause-err : goal.returns-in_default-found-clause-err
+returns-in_default-found-clause-err g c = grind (arith, common_steps)
+
+pub returns-in_default-clause-called : goal.returns-in_default-clause-called
+returns-in_default-clause-called g c = grind (arith, common_steps)

@@ -91,3 +91,6 @@ returns-in_default-push-clause-queue g c = grind (arith, common_steps)
 
 pub returns-in_err-holds-clause-queue : goal.returns-in_err-holds-clause-queue
 returns-in_err-holds-clause-queue g c = grind (arith, common_steps)
+
+pub overflow_cast-id : goal.overflow_cast-id
+overflow_cast-id g c = grind (arith, common_steps)

@@ -7,3 +7,9 @@ loop-rank-init c = grind (arith, common_steps)
 
 pub loop-rank-preserved : goal.loop-rank-preserved
 loop-rank-preserved c = grind (arith, common_steps)
+
+pub get_mut-requires : goal.get_mut-requires
+get_mut-requires c = grind (arith, common_steps)
+
+pub offset_bounds-ranks-rank-index : goal.offset_bounds-ranks-rank-index
+offset_bounds-ranks-rank-index c = grind (arith, common_steps)

@@ -10,3 +10,6 @@ offset_bounds-number-items-number-index c = grind (arith, common_steps)
 
 pub get-requires : goal.get-requires
 get-requires c = grind (arith, common_steps)
+
+pub get-requires-in-loop-number-2 : goal.get-requires-in-loop-number-2
+get-requires-in-loop-number-2 c = grind (arith, common_steps)

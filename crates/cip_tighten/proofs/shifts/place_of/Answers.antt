@@ -7,3 +7,6 @@ get-requires-2 c = grind (arith, common_steps)
 
 pub get-requires : goal.get-requires
 get-requires c = grind (arith, common_steps)
+
+pub get-sides-requires : goal.get-sides-requires
+get-sides-requires c = grind (arith, common_steps)

@@ -4,3 +4,6 @@ use Rattle.cip_tighten.proofs.split_cuts.write_cut.Goals as goal
 
 pub offset_bounds-used-items-used-index : goal.offset_bounds-used-items-used-index
 offset_bounds-used-items-used-index c = grind (arith, common_steps)
+
+pub loop-used-preserved : goal.loop-used-preserved
+loop-used-preserved c = grind (arith, common_steps)

@@ -4,3 +4,6 @@ use Rattle.cip_tighten.proofs.tight.tight_at.Goals as goal
 
 pub get-requires : goal.get-requires
 get-requires c = grind (arith, common_steps)
+
+pub get-requires-2 : goal.get-requires-2
+get-requires-2 c = grind (arith, common_steps)

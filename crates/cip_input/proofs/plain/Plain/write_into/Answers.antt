@@ -46,3 +46,12 @@ put-requires-in-ReadFault c = grind (arith, common_steps)
 
 pub put-requires : goal.put-requires
 put-requires c = grind (arith, common_steps)
+
+pub put-end-requires-in-Refused-2 : goal.put-end-requires-in-Refused-2
+put-end-requires-in-Refused-2 c = grind (arith, common_steps)
+
+pub put-end-requires-in-Refused : goal.put-end-requires-in-Refused
+put-end-requires-in-Refused c = grind (arith, common_steps)
+
+pub put-end-requires : goal.put-end-requires
+put-end-requires c = grind (arith, common_steps)

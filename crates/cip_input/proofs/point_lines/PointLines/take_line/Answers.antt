@@ -51,3 +51,6 @@ returns-in-None-clause-kinds c = grind (arith, common_steps)
 
 pub returns-in-None-clause-same : goal.returns-in-None-clause-same
 returns-in-None-clause-same c = grind (arith, common_steps)
+
+pub returns-in-None-clause-read : goal.returns-in-None-clause-read
+returns-in-None-clause-read c = grind (arith, common_steps)

@@ -24,3 +24,6 @@ row_says-requires c = grind (arith, common_steps)
 
 pub returns-in-HoldsAlways-clause-end : goal.returns-in-HoldsAlways-clause-end
 returns-in-HoldsAlways-clause-end c = grind (arith, common_steps)
+
+pub set_row-requires-clause-stands : goal.set_row-requires-clause-stands
+set_row-requires-clause-stands c = grind (arith, common_steps)

@@ -52,3 +52,6 @@ is_whole-requires c = grind (arith, common_steps)
 
 pub returns-clause-end : goal.returns-clause-end
 returns-clause-end c = grind (arith, common_steps)
+
+pub set_row-requires-clause-stands : goal.set_row-requires-clause-stands
+set_row-requires-clause-stands c = grind (arith, common_steps)

@@ -21,3 +21,9 @@ get-requires g c = grind (arith, common_steps)
 
 pub key-requires : goal.key-requires
 key-requires g c = grind (arith, common_steps)
+
+pub overflow_cast-id : goal.overflow_cast-id
+overflow_cast-id g c = grind (arith, common_steps)
+
+pub returns-in-None : goal.returns-in-None
+returns-in-None g c = grind (arith, common_steps)

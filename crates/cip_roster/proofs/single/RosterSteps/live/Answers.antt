@@ -25,3 +25,6 @@ returns-else-is_live g c =
 
 pub get-requires : goal.get-requires
 get-requires g c = grind (arith, common_steps)
+
+pub is_live-requires : goal.is_live-requires
+is_live-requires g c = grind (arith, common_steps)

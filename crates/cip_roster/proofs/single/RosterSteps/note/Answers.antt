@@ -1,3 +1,4 @@
+use Rattle.std.proofs.lemmas.Grind.{common_steps}
 use Rattle.std.proofs.Common.{refl, arith}
 use Rattle.cip_roster.proofs.single.RosterSteps.note.Goals as goal
 
@@ -39,3 +40,9 @@ returns-else-self-clause-room g c = omega arith
 
 pub push_reserved-requires : goal.push_reserved-requires
 push_reserved-requires g c = omega arith
+
+pub returns-then-self-clause-lines : goal.returns-then-self-clause-lines
+returns-then-self-clause-lines g c = grind (arith, common_steps)
+
+pub returns-else-self-clause-lines : goal.returns-else-self-clause-lines
+returns-else-self-clause-lines g c = grind (arith, common_steps)

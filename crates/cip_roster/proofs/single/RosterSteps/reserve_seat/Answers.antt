@@ -34,3 +34,18 @@ returns-in_default-clause-seat c = grind (arith, common_steps)
 
 pub reserve_turns-requires : goal.reserve_turns-requires
 reserve_turns-requires c = grind (arith, common_steps)
+
+pub returns-in_default-reserve-clause-state : goal.returns-in_default-reserve-clause-state
+returns-in_default-reserve-clause-state c = grind (arith, common_steps)
+
+pub returns-in_default-reserve-clause-grows : goal.returns-in_default-reserve-clause-grows
+returns-in_default-reserve-clause-grows c = grind (arith, common_steps)
+
+pub returns-in_default-reserve-clause-rankings : goal.returns-in_default-reserve-clause-rankings
+returns-in_default-reserve-clause-rankings c = grind (arith, common_steps)
+
+pub returns-in_default-reserve-clause-room : goal.returns-in_default-reserve-clause-room
+returns-in_default-reserve-clause-room c = grind (arith, common_steps)
+
+pub returns-in_default-reserve-clause-seat : goal.returns-in_default-reserve-clause-seat
+returns-in_default-reserve-clause-seat c = grind (arith, common_steps)

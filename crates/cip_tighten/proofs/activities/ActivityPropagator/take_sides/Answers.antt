@@ -7,3 +7,9 @@ offset_bounds-item-items-item-index c = grind (arith, common_steps)
 
 pub loop-item-preserved : goal.loop-item-preserved
 loop-item-preserved c = grind (arith, common_steps)
+
+pub part_some-self : goal.part_some-self
+part_some-self c = grind (arith, common_steps)
+
+pub part_none-self : goal.part_none-self
+part_none-self c = grind (arith, common_steps)

@@ -7,3 +7,9 @@ way_back_following-self-2 c = grind (arith, common_steps)
 
 pub way_back_beside_following-self : goal.way_back_beside_following-self
 way_back_beside_following-self c = grind (arith, common_steps)
+
+pub overflow_cast-sum : goal.overflow_cast-sum
+overflow_cast-sum c = grind (arith, common_steps)
+
+pub offset_bounds-end-items-end-index : goal.offset_bounds-end-items-end-index
+offset_bounds-end-items-end-index c = grind (arith, common_steps)

@@ -1,0 +1,9 @@
+use Rattle.std.proofs.lemmas.Grind.{common_steps}
+use Rattle.std.proofs.Common.{arith}
+use Rattle.cip_tighten.proofs.sums.Sum.add.Goals as goal
+
+pub offset_bounds-used-items-used-index : goal.offset_bounds-used-items-used-index
+offset_bounds-used-items-used-index c = grind (arith, common_steps)
+
+pub loop-used-preserved : goal.loop-used-preserved
+loop-used-preserved c = grind (arith, common_steps)
