@@ -1,5 +1,5 @@
 -- A node goes on after a proposal was judged, or goes back where memory was refused.
-use Rattle.std.proofs.Common.{◌≡◌, ◌≢◌, List, Option, None, Some, Result, Ok, Err, IfOk, refl, sym, ap, ◌∙◌, subst}
+use Rattle.std.proofs.Common.{◌≡◌, ◌≢◌, List, Option, None, Some, Result, Ok, Err, IfOk, refl, sym, ap, ◌∙◌, subst, ℕ, Bool, false}
 use Rattle.std.specs.Prelude.{MatchResult, OnErr}
 use Rattle.std.proofs.lemmas.Option.{same_Some}
 use Rattle.cip_rational.specs.Rational.{ℚ}
@@ -22,6 +22,7 @@ use Rattle.cip_calls.specs.ProposalsJudged.{IsCutBy, IsJudgedCut, IsJudgedSide, 
 use Rattle.cip_calls.specs.declared.judged.Judged.{Judged}
 use Rattle.cip_calls.specs.declared.judged.Judged.TheVariants as judged
 use Rattle.cip_calls.specs.declared.judged.JudgeFault.{JudgeFault}
+use Rattle.cip_core.specs.Steps.{IsBack}
 
 -- ---- cuts and points never show that a node is empty
 
@@ -155,3 +156,23 @@ whole_judged core new node has (by.Enforcement words) split fault e h = whole_sa
 whole_judged core new node has (by.Cut cut) split fault e h = cc
 whole_judged core new node has (by.Reduction told) split fault e h = cc
 whole_judged core new node has (by.Guess guess) split fault e h = cc
+
+-- a node is open again as it would be had nothing been touched
+pub back_touched : (core new : CoreState) (touched : Bool) (number : ℕ) (bound : Option ℚ) → (touched ≡ false → core.touched ≡ false) → IsBack (record core { touched = touched }) new number bound → IsBack core new number bound
+back_touched core new touched number bound u b = record {
+  kept = b.kept;
+  log = b.log;
+  parked = b.parked;
+  ids = b.ids;
+  later = record {
+    program = b.later.program;
+    reduced = b.later.reduced;
+    steps = b.later.steps;
+    root = b.later.root;
+    integral = b.later.integral;
+    ids = b.later.ids;
+    no_dearer = b.later.no_dearer;
+    untouched = λ e. u (b.later.untouched e);
+  };
+  open_ = b.open_;
+}

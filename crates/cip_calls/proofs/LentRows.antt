@@ -1,5 +1,5 @@
 -- The rows that are lent to checks hold at improving points, and so does a side that a check accepts.
-use Rattle.std.proofs.Common.{◌≡◌, ℕ, zero, suc, Bool, true, false, List, [], ◌∷◌, Some, Result, Ok, Err, sym, ap, true≢false}
+use Rattle.std.proofs.Common.{◌≡◌, ℕ, zero, suc, Bool, true, false, List, [], ◌∷◌, Some, Result, Ok, Err, sym, ap, true≢false, refl, subst}
 use Rattle.std.specs.Prelude.{slice_get, slice_index_or, IsOk, OnOk}
 use Rattle.cip_rational.specs.Rational.{ℚ, IsWhole}
 use Rattle.cip_problem.specs.Activity.{value_at}
@@ -17,6 +17,12 @@ use Rattle.cip_domain.specs.Narrowing.{Meets}
 use Rattle.cip_core.specs.OpenColumns.{is_whole_at}
 use Rattle.cip_core.specs.CoreStates.{CoreState, reduced_of, held_of, all_lent, IsSound}
 use Rattle.cip_core.proofs.RowsAdded.{lent_there}
+use Rattle.cip_problem.specs.Program.{Sides}
+use Rattle.cip_problem.specs.WellFormed.{columns}
+use Rattle.cip_cert.specs.Checks.{emptied}
+use Rattle.cip_cert.specs.Lent.{Lent, Multiples}
+use Rattle.cip_calls.specs.declared.judged.Judged.TheVariants as judged
+use Rattle.cip_calls.specs.CutoffsJudged.{by_emptied, cutoff_answer}
 
 -- ---- sides
 
@@ -45,3 +51,14 @@ side_holds core column side value (Err fault) s f o point i w = absurd (let g : 
 pub none_there : (core : CoreState) → IsSound core → EmptinessFollows (all_lent core) core.tree.work.box → HasNoImproving (reduced_of core) (held_of core) core.tree.work.box
 none_there core s f point i w =
     f point (lent_holds (reduced_of core) (held_of core) core.tree.work.box (all_lent core) point (lent_there core core.tree.work.box s) i w) w
+
+-- what the check says of a combination that shows it
+emptied_says : (r : Result ℚ CutFault) → IsOk r → judged.Emptied ≡ by_emptied r
+emptied_says (Ok bound) o = refl
+emptied_says (Err fault) o = absurd (true≢false (sym o))
+
+pub emptied_there : (core : CoreState) (lent : Lent) (box : List Sides) (n : ℕ) (combo : Multiples) → lent ≡ all_lent core → box ≡ core.tree.work.box → n ≡ columns (reduced_of core) → IsOk (emptied lent box n combo) → judged.Emptied ≡ cutoff_answer core combo
+emptied_there core lent box n combo l b c o =
+    emptied_says (emptied (all_lent core) core.tree.work.box (columns (reduced_of core)) combo)
+    (subst (λ k. IsOk (emptied (all_lent core) core.tree.work.box k combo)) c
+    (subst (λ s. IsOk (emptied (all_lent core) s n combo)) b (subst (λ (t : Lent). IsOk (emptied t box n combo)) l o)))

@@ -1,5 +1,5 @@
 -- Notes and judged proposals, one after the other.
-use Rattle.std.proofs.Common.{◌≡◌, ℕ, ◌+◌, ◌<◌, List, [], ◌∷◌, ◌++◌, length, take, get_or, replicate, set, IsSome, sym, ◌∙◌, ap, subst, refl, append_assoc, append-nil}
+use Rattle.std.proofs.Common.{◌≡◌, ℕ, ◌+◌, ◌<◌, List, [], ◌∷◌, ◌++◌, length, take, get_or, replicate, set, IsSome, sym, ◌∙◌, ap, subst, refl, append_assoc, append-nil, ◌≤◌, arith}
 use Rattle.std.specs.Prelude.{slice_get, Result, Ok, Err, OnOk, OnErr}
 use Rattle.std.proofs.lemmas.List.{replicate_more, map-append, take_more}
 use Rattle.cip_events.specs.declared.words.Word.{Word}
@@ -159,3 +159,7 @@ come_gone old new had has a b c room scratches run gone = record {
   rows = gone.rows;
   run = run_further a b c run (noted_run b c gone.noted);
 }
+
+-- all of a list was judged
+pub judged_all : (id count all : ℕ) (had has : List (ℕ × Judged)) → all ≤ count → count ≤ all → HasJudged id count had has → HasJudged id all had has
+judged_all id count all had has l m j = subst (λ n. HasJudged id n had has) (omega (arith, l, m)) j

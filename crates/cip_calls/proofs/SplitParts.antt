@@ -6,12 +6,18 @@ use Rattle.std.proofs.lemmas.Option.{slice_get-get_or}
 use Rattle.cip_problem.specs.Program.{Choice, Plain, Open, Off, On, Sides, Program}
 use Rattle.cip_problem.specs.WellFormed.{columns, IsWellFormed}
 use Rattle.cip_problem.specs.Choices.{is_open}
-use Rattle.cip_problem.specs.Log.{CanSplitAt}
+use Rattle.cip_problem.specs.Log.{CanSplitAt, Split}
 use Rattle.cip_lin.specs.ChoiceParts.{is_plain}
 use Rattle.cip_domain.specs.Halves.{CanHalve}
 use Rattle.cip_core.specs.SplitRules.{LeavesBoth}
 use Rattle.cip_core.specs.KeptNodes.{farthest}
 use Rattle.cip_node_rules.proofs.BothSides.{near_next}
+use Rattle.cip_domain.specs.Changes.{Region}
+use Rattle.cip_tree.specs.Nodes.{TakenNode, region_of}
+use Rattle.cip_core.specs.CoreStates.{CoreState, reduced_of, IsAtWork}
+use Rattle.cip_core.specs.SplitPlaces.{IsSplitPlace}
+use Rattle.cip_core.specs.Steps.{HasLeft}
+use Rattle.cip_calls.specs.SplitsJudged.{IsPlace}
 
 -- the kind of a column that is there
 pub kind_at : (kinds : List Bool) (column : ℕ) (kind : Bool) → column < length kinds → get_or kinds column false ≡ kind → slice_get kinds column ≡ Some kind
@@ -51,3 +57,18 @@ both_left sides ids at near halves = record {
   low = halves.low;
   high = halves.high;
 }
+
+-- ---- what a core is asked to split, and what comes of it
+
+module _ (core : CoreState) (node : TakenNode) (column : ℕ) (at : ℤ) where
+  pub split_there : IsWellFormed (reduced_of core) → IsAtWork core node × (core.tree.ids < 2 ^ 63) → IsPlace core column at
+      → (core.tree.ids < 2 ^ 63) × (column < length (reduced_of core).integral) × IsSplitPlace (reduced_of core).integral (region_of core.tree node) (farthest core.tree.ids + 1) column (to_z w128 (of_z w128 at))
+  split_there formed w place = (
+    w.1,
+    subst (λ n. column < n) (sym formed.integral) place.named.inside,
+    subst (λ (r : Region). IsSplitPlace (reduced_of core).integral r (farthest core.tree.ids + 1) column (to_z w128 (of_z w128 at))) w.0.region
+        (subst (IsSplitPlace (reduced_of core).integral core.tree.work (farthest core.tree.ids + 1) column) (sym (near_itself at place.named.near)) place.place),
+  )
+
+pub left_there : (old new : CoreState) (node : TakenNode) (column : ℕ) (at : ℤ) (low high : ℕ) → unsigned_abs at ≤ 2 ^ 100 → HasLeft old new node (Split column (to_z w128 (of_z w128 at)) low high) → HasLeft old new node (Split column at low high)
+left_there old new node column at low high near left = subst (λ z. HasLeft old new node (Split column z low high)) (near_itself at near) left

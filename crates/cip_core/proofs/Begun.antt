@@ -30,6 +30,7 @@ use Rattle.cip_core.specs.Entering.{own_region}
 use Rattle.cip_core.specs.KeptNodes.{farthest, state_of, IsNearBox, IsKept}
 use Rattle.cip_core.proofs.KeptSteps.{no_farther}
 use Rattle.cip_core.proofs.Rounded.{rounded_holds}
+use Rattle.cip_domain.specs.Changes.{Region}
 
 -- ---- sides that are near
 
@@ -109,3 +110,15 @@ module _ (program reduced : Program) (steps : StepsTaken) (tree : Nodes) (start 
   pub begun_boxes : HasGivenBoxes reduced tree.root.bound (state_of tree None [])
   unfolding made
   begun_boxes = subst (λ (t : Nodes). HasGivenBoxes reduced t.root.bound (state_of t None [])) (sym is_tree) (boxing.begun reduced start None)
+
+-- the bound of a new tree's root is the one given
+bound_there : (tree : Nodes) (region : Region) (integral : List Bool) (start : Option ℚ) → IsNew tree region integral start → start ≡ tree.root.bound
+bound_there tree region integral start n = sym (ap (λ (r : Node). r.bound) n.root)
+
+pub new_there : (tree : Nodes) (root region : Region) (whole integral : List Bool) (start : Option ℚ) → root ≡ region → whole ≡ integral → IsNew tree root whole start → IsNew tree region integral tree.root.bound
+new_there tree root region whole integral start r w n =
+    subst (IsNew tree region integral) (bound_there tree root whole start n)
+    (subst (λ b. IsNew tree b integral start) r (subst (λ i. IsNew tree root i start) w n))
+
+pub root_there : (program : Program) (tree : Nodes) (root : Region) (whole : List Bool) (start : Option ℚ) → IsRootBound program start → IsNew tree root whole start → IsRootBound program tree.root.bound
+root_there program tree root whole start b n = subst (IsRootBound program) (bound_there tree root whole start n) b

@@ -424,3 +424,7 @@ fitted_offered program held now cutoff whole_costs room f = record {
   whole = f.whole;
   wide = f.wide;
 }
+
+-- the nodes may be others
+pub sound_tree : (core : CoreState) (tree : Nodes) → IsSound core → IsSound (with_tree core tree)
+sound_tree core tree s = record { is_held = s.is_held; valid = s.valid; same = s.same; bare = s.bare; back = s.back }

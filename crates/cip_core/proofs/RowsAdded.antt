@@ -1,5 +1,5 @@
 -- A row that a check accepts is valid in the box in work, and the pool may have it.
-use Rattle.std.proofs.Common.{◌≡◌, Bool, true, false, cond, List, length, All, Option, None, Some, arith, refl, sym, subst, true≢false}
+use Rattle.std.proofs.Common.{◌≡◌, Bool, true, false, cond, List, length, All, Option, None, Some, arith, refl, sym, subst, true≢false, ◌∙◌, if◌then◌else◌}
 use Rattle.std.specs.Prelude.{Result, Ok, Err, MatchResult}
 use Rattle.cip_rational.specs.Rational.{ℚ, zeroℚ, ◌-ℚ◌}
 use Rattle.cip_rational.specs.Range.{difference_overflows}
@@ -55,6 +55,10 @@ lent_fits core s kept formed = record {
 }
 
 -- the box in which a row is derived has the program's columns
+pub scope_is : (core : CoreState) (local : Bool) (work root scope : List Sides) → scope ≡ (if local then work else root) → work ≡ core.tree.work.box → root ≡ (reduced_of core).bounds → scope ≡ scope_of core local
+scope_is core true work root scope e w r = e ∙ w
+scope_is core false work root scope e w r = e ∙ r
+
 pub scope_long : (core : CoreState) (node : TakenNode) (local : Bool) → IsWellFormed (reduced_of core) → IsAtWork core node → length (scope_of core local) ≡ columns (reduced_of core)
 scope_long core node true formed w = work_long core node formed w
 scope_long core node false formed w = formed.bounds
@@ -101,3 +105,5 @@ later_pooled core pool node w = record {
   ids = refl;
   same = λ u. refl;
 }
+
+

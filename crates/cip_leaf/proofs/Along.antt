@@ -1,15 +1,18 @@
 -- The rows whose sums along a ray overflow.
 use borrow.Author.Count.{below_more}
-use Rattle.std.proofs.Common.{◌≡◌, ℕ, zero, suc, ◌+◌, ◌<◌, ◌≤◌, false, List, [], ◌∷◌, length, Some, Result, Ok, Err, sym, ◌∙◌, subst, arith}
+use Rattle.std.proofs.Common.{◌≡◌, ℕ, zero, suc, ◌+◌, ◌<◌, ◌≤◌, false, List, [], ◌∷◌, length, Some, Result, Ok, Err, sym, ◌∙◌, subst, arith, true, refl}
 use Rattle.std.specs.Prelude.{IsErr, slice_get}
 use Rattle.std.specs.Result.{is_err}
 use Rattle.std.proofs.Math.ListN.{get_or}
-use Rattle.std.proofs.lemmas.Option.{none-some, same_Some}
+use Rattle.std.proofs.lemmas.Option.{none-some, same_Some, slice_get_read}
 use Rattle.cip_rational.specs.Rational.{ℚ, zeroℚ}
 use Rattle.cip_frac.specs.declared.operations.Wide.{Wide as Overflow}
 use Rattle.cip_lin.specs.RowSums.{activity_from}
 use Rattle.cip_problem.specs.Program.{Row}
 use Rattle.cip_model.specs.Meaning.{RowOverflows}
+use Rattle.cip_leaf.specs.declared.rows.RowFault.{RowFault}
+use Rattle.cip_leaf.specs.declared.rows.RowFault.TheVariants as row_fault
+use Rattle.cip_leaf.specs.Building.{IsRowFault, IsTooWideAt}
 
 there : (rows : List Row) (k : ℕ) (row d : Row) → slice_get rows k ≡ Some row → (k < length rows) × (get_or rows k d ≡ row)
 there [] k row d e = absurd (none-some row e)
@@ -30,3 +33,11 @@ fits_more rows ray k row sum h e s t = below_more (λ i. ¬ RowOverflows rows ra
 
 pub all_fit : (rows : List Row) (ray : List ℚ) (k : ℕ) → length rows ≤ k → ((i : ℕ) → i < k → ¬ RowOverflows rows ray i) → (i : ℕ) → ¬ RowOverflows rows ray i
 all_fit rows ray k l h i o = let w = (there rows i o.row o.row o.is_row).0 in h i (omega (arith, l, w)) o
+
+-- ---- one row
+
+pub row_overflows : (rows : List Row) (ray : List ℚ) (k : ℕ) (row : Row) (sum : Result ℚ Overflow) → k < length rows → row ≡ get_or rows k row → sum ≡ activity_from zeroℚ row.terms ray → is_err sum ≡ true → RowOverflows rows ray k
+row_overflows rows ray k row sum l e s t = record { row = row; is_row = slice_get_read rows (length rows) k row refl l e; overflows = subst IsErr s t }
+
+pub too_wide_at : (rows : List Row) (point : List ℚ) (k : ℕ) (row : Row) (fault : RowFault) → k < length rows → row ≡ get_or rows k row → fault ≡ row_fault.Wide → IsRowFault row (activity_from zeroℚ row.terms point) fault → IsTooWideAt rows point k
+too_wide_at rows point k row fault l e f w = record { row = row; is_row = slice_get_read rows (length rows) k row refl l e; wide = subst (IsRowFault row (activity_from zeroℚ row.terms point)) f w }

@@ -1,11 +1,18 @@
 -- One more entry of lists that are made entry by entry.
-use Rattle.std.proofs.Common.{◌≡◌, ℕ, zero, suc, ◌+◌, ◌<◌, ◌≤◌, Bool, true, false, List, [], ◌∷◌, ◌++◌, length, drop, refl, sym, ap, ◌∙◌, arith, true≢false, add-one, append-nil, append_assoc, subst}
+use Rattle.std.proofs.Common.{◌≡◌, ℕ, zero, suc, ◌+◌, ◌<◌, ◌≤◌, Bool, true, false, List, [], ◌∷◌, ◌++◌, length, drop, refl, sym, ap, ◌∙◌, arith, true≢false, add-one, append-nil, append_assoc, subst, map}
 use Rattle.std.proofs.lemmas.List.{length-append}
 use Rattle.std.proofs.Math.ListN.{get_or}
 use Rattle.cip_rational.specs.Rational.{ℚ}
 use Rattle.cip_problem.specs.Activity.{value_at}
 use Rattle.cip_search.specs.LeafProgram.{at_continuous, merged}
 use Rattle.cip_leaf.specs.Building.{numbers_from}
+use borrow.Author.Count.{below_more}
+use Rattle.std.proofs.lemmas.Option.{slice_get_read, get_or_from_slice_get}
+use Rattle.cip_problem.specs.Program.{Row, Term, no_row}
+use Rattle.cip_problem.specs.RowTerms.{AreTerms}
+use Rattle.cip_bland.specs.Tables.{each}
+use Rattle.cip_bland.specs.ProgramState.{terms_at}
+use Rattle.cip_simplex.specs.LpEntries.{row_entries, entry_of}
 
 -- an entry goes over from what is left to what is made
 moved_over : {X : Type 0} (made more rest behind all : List X) (x : X) → more ≡ made ++ x ∷ [] → rest ≡ x ∷ behind → made ++ rest ≡ all → more ++ behind ≡ all
@@ -113,3 +120,15 @@ merged_end k ws leaf others made all l f = rw (merged_none k ws leaf others l, a
 
 pub one_longer : {X : Type 0} (made more : List X) (x : X) (k : ℕ) → more ≡ made ++ x ∷ [] → length made ≡ k → length more ≡ k + 1
 one_longer made more x k p e = omega (arith, ap length p, length-append made (x ∷ []), e)
+
+-- ---- the entries of one more row
+
+row_terms : (rows : List Row) (r : ℕ) (row : Row) (terms : List Term) → r < length rows → row ≡ get_or rows r row → terms ≡ row.terms → terms ≡ terms_at rows r
+row_terms rows r row terms l e t = t ∙ ap (λ (x : Row). x.terms) (sym (get_or_from_slice_get rows r row no_row (slice_get_read rows (length rows) r row refl l e)))
+
+pub entries_more : (rows : List Row) (r : ℕ) (row : Row) (terms : List Term) (old new : List (ℕ × ℕ × ℚ)) → r < length rows → row ≡ get_or rows r row → terms ≡ row.terms → old ≡ each r (row_entries rows) → new ≡ old ++ map (entry_of r) terms → new ≡ each (r + 1) (row_entries rows)
+entries_more rows r row terms old new l e t o n =
+    rw add-one (n ∙ ap (λ es. es ++ map (entry_of r) terms) o ∙ ap (λ ts. each r (row_entries rows) ++ map (entry_of r) ts) (row_terms rows r row terms l e t))
+
+pub terms_more : (rows : List Row) (r : ℕ) (row : Row) → r < length rows → row ≡ get_or rows r row → ((k : ℕ) → k < r → AreTerms (terms_at rows k)) → AreTerms row.terms → (k : ℕ) → k < r + 1 → AreTerms (terms_at rows k)
+terms_more rows r row l e v here = below_more (λ k. AreTerms (terms_at rows k)) r v (subst AreTerms (row_terms rows r row row.terms l e refl) here)

@@ -16,7 +16,7 @@ use Rattle.cip_problem.specs.Log.{Node}
 use Rattle.cip_problem.proofs.Log.Entering.{contains_here}
 use Rattle.cip_tree.specs.Nodes.{TakenNode, region_in, region_of, node_changes, shown}
 use Rattle.cip_tree.proofs.Halving.{plain_stays}
-use Rattle.cip_node_rules.specs.OpenChoices.{IsSettledBox}
+use Rattle.cip_node_rules.specs.OpenChoices.{IsSettledBox, IsOpenBox}
 use Rattle.cip_node_rules.specs.OpenColumns.{is_whole_at, is_open_at, is_fractional}
 use Rattle.cip_node_rules.specs.SplitRules.{IsSplitRule, IsChoiceRule, IsNodeRule}
 use Rattle.cip_node_rules.proofs.BothSides.{leave_both}
@@ -112,3 +112,11 @@ module _ {R : Type 0} (col : R → ℕ) (at : R → ℤ) (result : Option R) (in
 pub placed_past : {R : Type 0} (col : R → ℕ) (at : R → ℤ) (result : Option R) (integral : List Bool) (work : Region) (last : Option (List ℚ)) → MatchOption result (IsSettledBox integral work.box work.choices) (λ place. IsNodeRule integral work.box work.choices last (col place) (at place)) → MatchOption result (IsSettledBox integral work.box work.choices) (λ place. IsSplitBy integral work None (col place) (at place))
 placed_past col at None integral work last h = h
 placed_past col at (Some place) integral work last h = (last, h)
+
+-- a region isn't both settled and open
+not_both : (integral : List Bool) (box : List Sides) (choices : List Choice) → IsOpenBox integral box choices → ¬ IsSettledBox integral box choices
+not_both integral box choices (inl (column, first)) s = absurd (true≢false (sym first.passes ∙ s.no_two column first.within))
+not_both integral box choices (inr (column, first)) s = absurd (true≢false (sym first.passes ∙ s.made column first.within))
+
+pub not_settled : (integral : List Bool) (work region : Region) → work ≡ region → IsOpenBox integral region.box region.choices → ¬ IsSettledBox integral work.box work.choices
+not_settled integral work region e o s = not_both integral region.box region.choices o (subst (λ (r : Region). IsSettledBox integral r.box r.choices) e s)

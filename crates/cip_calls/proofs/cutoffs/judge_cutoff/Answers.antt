@@ -2,12 +2,12 @@ use Rattle.std.proofs.lemmas.Grind.{common_steps}
 use Rattle.std.proofs.Common.{length, sym, ap, ◌∙◌, subst, arith}
 use Rattle.cip_problem.specs.Improving.{HasNoImproving}
 use Rattle.cip_cert.specs.Follows.{EmptinessFollows}
-use Rattle.cip_cert.specs.Lent.{Fits}
+use Rattle.cip_cert.specs.Lent.{Fits, multiples_of}
 use Rattle.cip_domain.specs.Changes.{Region}
 use Rattle.cip_core.specs.CoreStates.{reduced_of, held_of, all_lent}
 use Rattle.cip_core.proofs.CoreSteps.{work_long}
 use Rattle.cip_core.proofs.RowsAdded.{lent_fits}
-use Rattle.cip_calls.proofs.LentRows.{none_there}
+use Rattle.cip_calls.proofs.LentRows.{none_there, emptied_there}
 use Rattle.cip_calls.proofs.cutoffs.judge_cutoff.Goals as goal
 
 pub empties-requires-clause-fits : goal.empties-requires-clause-fits
@@ -39,3 +39,8 @@ returns-in-Err-clause-answer c = grind (arith, common_steps)
 
 pub returns-in-Err-clause-emptied : goal.returns-in-Err-clause-emptied
 returns-in-Err-clause-emptied c = grind (arith, common_steps)
+
+pub returns-in-Ok-clause-answer : goal.returns-in-Ok-clause-answer
+returns-in-Ok-clause-answer c =
+    emptied_there c.args.core.now _ c.bounds.result.now _ (multiples_of c.args.combo.now) c.rows.ensures.lent c.bounds.ensures c.requires.room
+    c.in-Ok.ensures.steps

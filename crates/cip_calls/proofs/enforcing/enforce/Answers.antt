@@ -1,3 +1,4 @@
+use Rattle.std.proofs.lemmas.Result.{IfOk-from_err}
 use Rattle.cip_calls.specs.Asked.{IsSeatedNext}
 use Rattle.std.proofs.Common.{[], ◌∷◌, refl, subst}
 use Rattle.cip_plugin.specs.Calls.{Enforce}
@@ -79,3 +80,30 @@ returns-clause-verdict g c = c.loop-id.invariant.alone
 
 pub take_verdict-requires-clause-seat : goal.take_verdict-requires-clause-seat
 take_verdict-requires-clause-seat g c = subst (IsSeatedNext (g.R.Seated.state c.ask_next.new.self)) c.in-Some.is c.in_ok-id.ensures.seated
+
+pub take_verdict-requires-clause-ready : goal.take_verdict-requires-clause-ready
+take_verdict-requires-clause-ready g c = c.loop-id.invariant.come.ready
+
+pub take_verdict-requires-clause-sound : goal.take_verdict-requires-clause-sound
+take_verdict-requires-clause-sound g c = c.ask_next.ensures.sound
+
+pub returns-in_err-id-clause-all : goal.returns-in_err-id-clause-all
+returns-in_err-id-clause-all g c = IfOk-from_err c.from_residual.result _ c.from_residual.ensures.0
+
+pub returns-in_err-verdict-clause-all : goal.returns-in_err-verdict-clause-all
+returns-in_err-verdict-clause-all g c = IfOk-from_err c.from_residual-in_err-verdict.result _ c.from_residual-in_err-verdict.ensures.0
+
+pub returns-in_err-id-clause-used : goal.returns-in_err-id-clause-used
+returns-in_err-id-clause-used g c = IfOk-from_err c.from_residual.result _ c.from_residual.ensures.0
+
+pub returns-in_err-verdict-clause-used : goal.returns-in_err-verdict-clause-used
+returns-in_err-verdict-clause-used g c = IfOk-from_err c.from_residual-in_err-verdict.result _ c.from_residual-in_err-verdict.ensures.0
+
+pub returns-in_err-verdict-clause-verdict : goal.returns-in_err-verdict-clause-verdict
+returns-in_err-verdict-clause-verdict g c = IfOk-from_err c.from_residual-in_err-verdict.result _ c.from_residual-in_err-verdict.ensures.0
+
+pub returns-in_err-id-clause-verdict : goal.returns-in_err-id-clause-verdict
+returns-in_err-id-clause-verdict g c = IfOk-from_err c.from_residual.result _ c.from_residual.ensures.0
+
+pub ask_next-requires : goal.ask_next-requires
+ask_next-requires g c = record { sound = c.loop-id.invariant.come.sound }

@@ -1,5 +1,9 @@
+use Rattle.cip_calls.proofs.ComingBack.{taken_by}
+use Rattle.cip_core.specs.Steps.{IsOffered}
+use Rattle.cip_core.specs.HeldPoint.{offered}
+use Rattle.cip_calls.specs.GuessesJudged.{costs_less, judged_as}
 use Rattle.std.proofs.lemmas.Grind.{common_steps}
-use Rattle.std.proofs.Common.{◌≡◌, sym, ap, ◌∙◌, arith}
+use Rattle.std.proofs.Common.{◌≡◌, sym, ap, ◌∙◌, arith, true, false, subst}
 use Rattle.cip_tree.specs.Nodes.{Nodes}
 use Rattle.cip_core.specs.CoreStates.{held_of}
 use Rattle.cip_core.proofs.CoreSteps.{trimmed_is}
@@ -26,10 +30,14 @@ pub offer_at-taken-requires-clause-found : goal.offer_at-taken-requires-clause-f
 offer_at-taken-requires-clause-found c = c.requires.found
 
 pub returns-then-not-is_cheaper-clause-answer : goal.returns-then-not-is_cheaper-clause-answer
-returns-then-not-is_cheaper-clause-answer c = grind (arith, common_steps)
+returns-then-not-is_cheaper-clause-answer c =
+    sym (ap judged_as (taken_by c.args.core.now.incumbent.best c.args.cost false
+    (sym c.if-not-is_cheaper.true ∙ c.is_cheaper.ensures ∙ ap (costs_less c.args.cost) c.held_cost.ensures)))
 
 pub returns-clause-answer : goal.returns-clause-answer
-returns-clause-answer c = grind (arith, common_steps)
+returns-clause-answer c =
+    sym (ap judged_as (taken_by c.args.core.now.incumbent.best c.args.cost true
+    (sym c.if-not-is_cheaper.false ∙ c.is_cheaper.ensures ∙ ap (costs_less c.args.cost) c.held_cost.ensures)))
 
 pub returns-clause-frame : goal.returns-clause-frame
 returns-clause-frame c = grind (arith, common_steps)
@@ -45,3 +53,12 @@ returns-then-not-is_cheaper-clause-after c = grind (arith, common_steps)
 
 pub returns-then-not-is_cheaper-clause-region : goal.returns-then-not-is_cheaper-clause-region
 returns-then-not-is_cheaper-clause-region c = grind (arith, common_steps)
+
+pub returns-clause-after : goal.returns-clause-after
+returns-clause-after c =
+    let core = c.args.core.now in
+    let answer =
+        c.offer_at-taken.ensures.offered.is_answer ∙ ap (offered core.incumbent.best) c.requires.found
+        ∙ taken_by core.incumbent.best c.args.cost true
+            (sym c.if-not-is_cheaper.false ∙ c.is_cheaper.ensures ∙ ap (costs_less c.args.cost) c.held_cost.ensures) in
+    subst (IsOffered core c.offer_at-taken.new.self c.args.values.now) answer c.offer_at-taken.ensures.offered

@@ -1,5 +1,5 @@
 use Rattle.std.proofs.lemmas.Grind.{common_steps}
-use Rattle.std.proofs.Common.{◌≡◌, ◌∙◌, List, length, refl, ap, subst, arith}
+use Rattle.std.proofs.Common.{◌≡◌, ◌∙◌, List, length, refl, sym, ap, subst, arith}
 use Rattle.cip_rational.specs.Rational.{ℚ}
 use Rattle.cip_problem.specs.WellFormed.{columns}
 use Rattle.cip_core.specs.StepsBack.{StepsTaken, point_back, FitsBack}
@@ -23,7 +23,8 @@ returns-in-Ok-clause-judged c =
     let core = c.args.core.now in
     let values = c.args.guess.now.values.items in
     let read = c.as_slice-values.result.now in
-    let long : length values ≡ columns (reduced_of core) = cc in
+    let long : length values ≡ columns (reduced_of core) =
+        sym (ap length c.as_slice-values.ensures.value) ∙ c.if-values-columns.false ∙ c.columns.ensures.count ∙ ap columns c.reduced.ensures in
     let fits = subst (λ (x : List ℚ). FitsBack core.steps x) c.as_slice-values.ensures.value
     (subst (λ (t : StepsTaken). FitsBack t read) c.steps.ensures c.in-Ok.ensures.fits) in
     let point : c.as_slice.result.now ≡ point_back core.steps values =
@@ -63,7 +64,8 @@ judge_point-requires-clause-values c =
     let core = c.args.core.now in
     let values = c.args.guess.now.values.items in
     let read = c.as_slice-values.result.now in
-    let long : length values ≡ columns (reduced_of core) = cc in
+    let long : length values ≡ columns (reduced_of core) =
+        sym (ap length c.as_slice-values.ensures.value) ∙ c.if-values-columns.false ∙ c.columns.ensures.count ∙ ap columns c.reduced.ensures in
     let point : c.as_slice.result.now ≡ point_back core.steps values =
     c.as_slice.ensures.value ∙ c.in-Ok.ensures.point ∙ ap (λ (t : StepsTaken). point_back t read) c.steps.ensures
     ∙ ap (point_back core.steps) c.as_slice-values.ensures.value in

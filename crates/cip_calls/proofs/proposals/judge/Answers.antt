@@ -1,9 +1,11 @@
+use Rattle.cip_core.specs.Steps.{IsBack}
+use Rattle.std.proofs.lemmas.Result.{MatchResult-from_err}
 use Rattle.std.proofs.lemmas.Grind.{common_steps}
 use Rattle.cip_tree.specs.Nodes.{TakenNode}
 use Rattle.cip_core.specs.CoreStates.{CoreState, IsGivenBound}
 use Rattle.std.proofs.Common.{◌∙◌, sym, subst, arith}
 use Rattle.cip_calls.specs.SplitsJudged.{IsSplitJudged}
-use Rattle.cip_calls.proofs.Going.{whole_goes_on, whole_judged}
+use Rattle.cip_calls.proofs.Going.{whole_goes_on, whole_judged, back_touched}
 use Rattle.cip_calls.proofs.proposals.judge.Goals as goal
 
 pub returns-in-Whole-clause-ruled : goal.returns-in-Whole-clause-ruled
@@ -44,7 +46,12 @@ pub returns-in-Ok-clause-scratches : goal.returns-in-Ok-clause-scratches
 returns-in-Ok-clause-scratches c = omega arith
 
 pub returns-in-Err-clause-ruled : goal.returns-in-Err-clause-ruled
-returns-in-Err-clause-ruled c = grind (arith, common_steps)
+returns-in-Err-clause-ruled c =
+    let core = c.args.core.now in
+    let node = c.args.node in
+    back_touched core c.go_back.new.self c.judge_in_work.new.core.touched node.number c.args.given c.judge_in_work.ensures.later.later.untouched
+    (subst (λ (k : CoreState). IsBack k c.go_back.new.self node.number c.args.given) c.in-Err.ensures.err.0
+    (subst (λ (n : TakenNode). IsBack c.judge_in_work.new.core c.go_back.new.self n.number c.args.given) c.in-Err.ensures.err.1 c.go_back.ensures.back))
 
 pub returns-in-Halves-clause-ruled : goal.returns-in-Halves-clause-ruled
 returns-in-Halves-clause-ruled c = grind (arith, common_steps)
@@ -56,7 +63,17 @@ pub go_back-requires-clause-up : goal.go_back-requires-clause-up
 go_back-requires-clause-up c = grind (arith, common_steps)
 
 pub returns-in_err-low-clause-scratches : goal.returns-in_err-low-clause-scratches
-returns-in_err-low-clause-scratches c = grind (arith, common_steps)
+returns-in_err-low-clause-scratches c = c.requires.room
 
 pub judge_split-requires-clause-wholes : goal.judge_split-requires-clause-wholes
 judge_split-requires-clause-wholes c = grind (arith, common_steps)
+
+pub returns-in_err-low-clause-ruled : goal.returns-in_err-low-clause-ruled
+returns-in_err-low-clause-ruled c =
+    MatchResult-from_err c.from_residual.result _ _ c.from_residual.ensures.0 (λ _. c.in_err-low.ensures.judged)
+
+pub returns-in-Whole-clause-scratches : goal.returns-in-Whole-clause-scratches
+returns-in-Whole-clause-scratches c = c.requires.room
+
+pub returns-in-Halves-clause-scratches : goal.returns-in-Halves-clause-scratches
+returns-in-Halves-clause-scratches c = c.requires.room

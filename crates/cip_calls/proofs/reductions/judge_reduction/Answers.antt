@@ -1,3 +1,4 @@
+use Rattle.std.proofs.lemmas.Result.{IfOk-from_err}
 use Rattle.std.proofs.lemmas.Grind.{common_steps}
 use Rattle.std.proofs.Common.{◌≡◌, ◌∙◌, None, refl, sym, ap, subst, arith}
 use Rattle.cip_problem.specs.Box.{sides_at}
@@ -105,3 +106,9 @@ refusal-requires-clause-room c = c.requires.room
 
 pub returns-in-Some-clause-emptied : goal.returns-in-Some-clause-emptied
 returns-in-Some-clause-emptied c = grind (arith, common_steps)
+
+pub returns-in_err-outcome-clause-answer : goal.returns-in_err-outcome-clause-answer
+returns-in_err-outcome-clause-answer c = IfOk-from_err c.from_residual.result _ c.from_residual.ensures.0
+
+pub returns-in_err-outcome-clause-emptied : goal.returns-in_err-outcome-clause-emptied
+returns-in_err-outcome-clause-emptied c = IfOk-from_err c.from_residual.result _ c.from_residual.ensures.0

@@ -1,3 +1,4 @@
+use Rattle.std.proofs.lemmas.Result.{IfOk-from_err}
 use Rattle.std.proofs.lemmas.Grind.{common_steps}
 use Rattle.cip_calls.specs.Asked.{IsSeatedNext}
 use Rattle.std.proofs.Common.{refl, ◌∙◌, subst, arith}
@@ -79,10 +80,37 @@ pub returns-in-Some-found-clause-place : goal.returns-in-Some-found-clause-place
 returns-in-Some-found-clause-place g c = grind (arith, common_steps)
 
 pub returns-in-Some-found-clause-sound : goal.returns-in-Some-found-clause-sound
-returns-in-Some-found-clause-sound g c = grind (arith, common_steps)
+returns-in-Some-found-clause-sound g c = c.take_rule.ensures.sound
 
 pub returns-clause-scratches : goal.returns-clause-scratches
-returns-clause-scratches g c = grind (arith, common_steps)
+returns-clause-scratches g c = c.loop-id.invariant.scratches
 
 pub returns-clause-sound : goal.returns-clause-sound
-returns-clause-sound g c = grind (arith, common_steps)
+returns-clause-sound g c = c.ask_next.ensures.sound
+
+pub take_rule-requires-clause-sound : goal.take_rule-requires-clause-sound
+take_rule-requires-clause-sound g c = c.ask_next.ensures.sound
+
+pub returns-in_err-id-clause-used : goal.returns-in_err-id-clause-used
+returns-in_err-id-clause-used g c = IfOk-from_err c.from_residual.result _ c.from_residual.ensures.0
+
+pub returns-in_err-found-clause-used : goal.returns-in_err-found-clause-used
+returns-in_err-found-clause-used g c = IfOk-from_err c.from_residual-in_err-found.result _ c.from_residual-in_err-found.ensures.0
+
+pub returns-in_err-found-clause-place : goal.returns-in_err-found-clause-place
+returns-in_err-found-clause-place g c = IfOk-from_err c.from_residual-in_err-found.result _ c.from_residual-in_err-found.ensures.0
+
+pub returns-in_err-id-clause-place : goal.returns-in_err-id-clause-place
+returns-in_err-id-clause-place g c = IfOk-from_err c.from_residual.result _ c.from_residual.ensures.0
+
+pub returns-in_err-id-clause-scratches : goal.returns-in_err-id-clause-scratches
+returns-in_err-id-clause-scratches g c = c.loop-id.invariant.scratches
+
+pub returns-in_err-found-clause-sound : goal.returns-in_err-found-clause-sound
+returns-in_err-found-clause-sound g c = c.take_rule.ensures.sound
+
+pub returns-in_err-id-clause-sound : goal.returns-in_err-id-clause-sound
+returns-in_err-id-clause-sound g c = c.ask_next.ensures.sound
+
+pub ask_next-requires : goal.ask_next-requires
+ask_next-requires g c = record { sound = c.loop-id.invariant.sound }

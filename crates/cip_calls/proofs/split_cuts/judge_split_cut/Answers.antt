@@ -1,3 +1,4 @@
+use Rattle.std.proofs.lemmas.Result.{MatchResult-from_err}
 use Rattle.cip_cert.specs.Pool.{AreRising}
 use Rattle.std.proofs.Common.{◌≡◌, ◌∙◌, if◌then◌else◌, length, refl, sym, ap, subst, arith}
 use Rattle.cip_problem.specs.Program.{Program}
@@ -120,3 +121,7 @@ returns-in_ok-added-in-Ok-clause-judged c =
 
 pub split_rests_on_cutoff-rests-requires : goal.split_rests_on_cutoff-rests-requires
 split_rests_on_cutoff-rests-requires c = subst (λ (l : Lent). AreRising l.pool) (sym c.rows.ensures.lent) c.is_sound.ensures.pool.rising
+
+pub returns-in_err-added-in-Ok-clause-judged : goal.returns-in_err-added-in-Ok-clause-judged
+returns-in_err-added-in-Ok-clause-judged c =
+    MatchResult-from_err c.from_residual.result _ _ c.from_residual.ensures.0 (λ _. c.in_err-added-in-Ok.ensures.added)

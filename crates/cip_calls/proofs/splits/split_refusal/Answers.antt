@@ -1,3 +1,4 @@
+use Rattle.std.proofs.lemmas.Int.{ints}
 use Rattle.std.proofs.lemmas.Grind.{common_steps}
 use Rattle.std.proofs.Common.{◌≡◌, inl, inr, true, false, Some, sym, ap, ◌∙◌, subst, to_z, of_z, ◌<◌, length, arith}
 use Rattle.std.specs.Int.{w128}
@@ -16,7 +17,7 @@ use Rattle.cip_tree.proofs.Halving.{plain_of}
 
 pub returns-then-not-is_plain : goal.returns-then-not-is_plain
 returns-then-not-is_plain c =
-    let named : IsNamed c.args.core.now c.args.split.col c.args.split.at = record { inside = grind (arith, common_steps); near = grind (arith, common_steps) } in
+    let named : IsNamed c.args.core.now c.args.split.col c.args.split.at = record { inside = subst (λ n. c.args.split.col < n) (c.columns.ensures.count ∙ ap columns c.reduced.ensures) c.if-split-columns.false; near = omega (arith, ints) } in
     let core = c.args.core.now in
     let col = c.args.split.col in
     let choice : c.at-choice.result ≡ choice_at core.tree.work.choices col = c.at-choice.ensures ∙ ap (λ cs. choice_at cs col) c.choices.ensures in
@@ -29,7 +30,7 @@ returns-then-not-is_plain c =
 
 pub returns-then-can_halve : goal.returns-then-can_halve
 returns-then-can_halve c =
-    let named : IsNamed c.args.core.now c.args.split.col c.args.split.at = record { inside = grind (arith, common_steps); near = grind (arith, common_steps) } in
+    let named : IsNamed c.args.core.now c.args.split.col c.args.split.at = record { inside = subst (λ n. c.args.split.col < n) (c.columns.ensures.count ∙ ap columns c.reduced.ensures) c.if-split-columns.false; near = omega (arith, ints) } in
     let core = c.args.core.now in
     let col = c.args.split.col in
     let choice : c.at-choice.result ≡ choice_at core.tree.work.choices col = c.at-choice.ensures ∙ ap (λ cs. choice_at cs col) c.choices.ensures in
@@ -48,7 +49,7 @@ returns-then-can_halve c =
 
 pub returns-then-whole : goal.returns-then-whole
 returns-then-whole c =
-    let named : IsNamed c.args.core.now c.args.split.col c.args.split.at = record { inside = grind (arith, common_steps); near = grind (arith, common_steps) } in
+    let named : IsNamed c.args.core.now c.args.split.col c.args.split.at = record { inside = subst (λ n. c.args.split.col < n) (c.columns.ensures.count ∙ ap columns c.reduced.ensures) c.if-split-columns.false; near = omega (arith, ints) } in
     let core = c.args.core.now in
     let col = c.args.split.col in
     let choice : c.at-choice.result ≡ choice_at core.tree.work.choices col = c.at-choice.ensures ∙ ap (λ cs. choice_at cs col) c.choices.ensures in
@@ -65,7 +66,7 @@ returns-then-whole c =
 
 pub returns-then-is_open : goal.returns-then-is_open
 returns-then-is_open c =
-    let named : IsNamed c.args.core.now c.args.split.col c.args.split.at = record { inside = grind (arith, common_steps); near = grind (arith, common_steps) } in
+    let named : IsNamed c.args.core.now c.args.split.col c.args.split.at = record { inside = subst (λ n. c.args.split.col < n) (c.columns.ensures.count ∙ ap columns c.reduced.ensures) c.if-split-columns.false; near = omega (arith, ints) } in
     let core = c.args.core.now in
     let col = c.args.split.col in
     let choice : c.at-choice.result ≡ choice_at core.tree.work.choices col = c.at-choice.ensures ∙ ap (λ cs. choice_at cs col) c.choices.ensures in
@@ -80,7 +81,7 @@ returns-then-is_open c =
 
 pub returns-else-is_open : goal.returns-else-is_open
 returns-else-is_open c =
-    let named : IsNamed c.args.core.now c.args.split.col c.args.split.at = record { inside = grind (arith, common_steps); near = grind (arith, common_steps) } in
+    let named : IsNamed c.args.core.now c.args.split.col c.args.split.at = record { inside = subst (λ n. c.args.split.col < n) (c.columns.ensures.count ∙ ap columns c.reduced.ensures) c.if-split-columns.false; near = omega (arith, ints) } in
     let core = c.args.core.now in
     let col = c.args.split.col in
     let choice : c.at-choice.result ≡ choice_at core.tree.work.choices col = c.at-choice.ensures ∙ ap (λ cs. choice_at cs col) c.choices.ensures in
@@ -93,13 +94,15 @@ returns-else-is_open c =
 
 pub sides-requires : goal.sides-requires
 sides-requires c =
-    let named : IsNamed c.args.core.now c.args.split.col c.args.split.at = record { inside = grind (arith, common_steps); near = grind (arith, common_steps) } in
-    subst (λ n. c.args.split.col < n) (sym (ap length c.bounds.ensures ∙ work_long c.args.core.now c.args.node.now c.is_sound.ensures.reduced c.requires.at_work)) named.inside
+    subst (λ n. c.args.split.col < n)
+    (sym (ap length c.bounds.ensures ∙ work_long c.args.core.now c.args.node.now c.is_sound.ensures.reduced c.requires.at_work))
+    (subst (λ n. c.args.split.col < n) (c.columns.ensures.count ∙ ap columns c.reduced.ensures) c.if-split-columns.false)
 
 pub bounds-whole-split : goal.bounds-whole-split
 bounds-whole-split c =
-    let named : IsNamed c.args.core.now c.args.split.col c.args.split.at = record { inside = grind (arith, common_steps); near = grind (arith, common_steps) } in
-    subst (λ n. c.args.split.col < n) (sym (ap length c.whole.ensures.whole ∙ c.whole.ensures.formed.integral ∙ ap columns c.reduced-2.ensures)) named.inside
+    subst (λ n. c.args.split.col < n)
+    (sym (ap length c.whole.ensures.whole ∙ c.whole.ensures.formed.integral ∙ ap columns c.reduced-2.ensures))
+    (subst (λ n. c.args.split.col < n) (c.columns.ensures.count ∙ ap columns c.reduced.ensures) c.if-split-columns.false)
 
 pub returns-then-split-columns : goal.returns-then-split-columns
 returns-then-split-columns c = grind (arith, common_steps)

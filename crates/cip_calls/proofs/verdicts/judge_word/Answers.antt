@@ -1,5 +1,5 @@
 use Rattle.std.proofs.lemmas.Grind.{common_steps}
-use Rattle.std.proofs.Common.{arith}
+use Rattle.std.proofs.Common.{arith, refl}
 use Rattle.cip_calls.proofs.verdicts.judge_word.Goals as goal
 
 pub returns-in-Emptied-clause-scratch : goal.returns-in-Emptied-clause-scratch
@@ -28,3 +28,9 @@ returns-in-None-clause-scratch c = grind (arith, common_steps)
 
 pub judge_cutoff-requires-clause-at_work : goal.judge_cutoff-requires-clause-at_work
 judge_cutoff-requires-clause-at_work c = grind (arith, common_steps)
+
+pub returns-in-Emptied-clause-verdict : goal.returns-in-Emptied-clause-verdict
+returns-in-Emptied-clause-verdict c = c.in-Emptied.ensures.emptied refl
+
+pub split_refusal-requires : goal.split_refusal-requires
+split_refusal-requires c = record { at_work = c.requires.at_work }

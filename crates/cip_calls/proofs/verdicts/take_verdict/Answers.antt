@@ -1,5 +1,4 @@
-use Rattle.std.proofs.lemmas.Grind.{common_steps}
-use Rattle.std.proofs.Common.{refl, arith}
+use Rattle.std.proofs.Common.{refl}
 use Rattle.cip_calls.proofs.Noting.{gone_none}
 use Rattle.cip_calls.proofs.Said.{alone_none, none_judged, one_judged_on}
 use Rattle.cip_calls.proofs.verdicts.take_verdict.Goals as goal
@@ -19,13 +18,16 @@ returns-in-Some-clause-judged g c =
     one_judged_on c.take_said-verdict.result _ c.args.id c.args.given c.in-Some.said _ _ refl c.in-Some.is c.take_said-verdict.ensures.judged
 
 pub returns-in-Some-clause-verdict : goal.returns-in-Some-clause-verdict
-returns-in-Some-clause-verdict g c = grind (arith, common_steps)
+returns-in-Some-clause-verdict g c = c.take_said-verdict.ensures.verdict
 
 pub returns-in-Some-clause-gone : goal.returns-in-Some-clause-gone
-returns-in-Some-clause-gone g c = grind (arith, common_steps)
+returns-in-Some-clause-gone g c = c.take_said-verdict.ensures.gone
 
 pub take_said-verdict-requires-clause-ready : goal.take_said-verdict-requires-clause-ready
-take_said-verdict-requires-clause-ready g c = grind (arith, common_steps)
+take_said-verdict-requires-clause-ready g c = c.requires.ready
 
 pub take_said-verdict-requires-clause-seat : goal.take_said-verdict-requires-clause-seat
-take_said-verdict-requires-clause-seat g c = grind (arith, common_steps)
+take_said-verdict-requires-clause-seat g c = c.requires.seat
+
+pub take_said-verdict-requires-clause-sound : goal.take_said-verdict-requires-clause-sound
+take_said-verdict-requires-clause-sound g c = c.requires.sound

@@ -1,10 +1,12 @@
+use Rattle.cip_core.specs.Beginning.{IsRootBound}
+use Rattle.cip_core.specs.Entering.{own_region}
 use Rattle.std.proofs.lemmas.Grind.{common_steps}
 use Rattle.std.proofs.Common.{[], None, sym, subst, arith}
 use Rattle.cip_search.specs.SearchState.{HasGivenBoxes}
 use Rattle.cip_presolve.specs.StepsBack.{way_back}
 use Rattle.cip_tree.specs.Moves.{IsNew}
 use Rattle.cip_core.specs.KeptNodes.{state_of, IsKept}
-use Rattle.cip_core.proofs.Begun.{begun, begun_boxes, if_ok}
+use Rattle.cip_core.proofs.Begun.{begun, begun_boxes, if_ok, new_there, root_there}
 use Rattle.cip_core.proofs.LedBack.{presolved_way}
 use Rattle.cip_domain.specs.Narrowing.{ArePlainPast}
 use Rattle.cip_core.proofs.OwnChoices.{own_past}
@@ -38,3 +40,15 @@ returns-clause-boxes c =
 
 pub new-requires-clause-columns : goal.new-requires-clause-columns
 new-requires-clause-columns c = grind (arith, common_steps)
+
+pub returns-clause-new : goal.returns-clause-new
+returns-clause-new c =
+    let reduced = c.args.presolved.now.reduced in
+    if_ok (λ tree. IsNew tree c.in_ok-root.root c.whole.result.now c.root_bound-bound.result) (λ tree. IsNew tree (own_region reduced) reduced.integral tree.root.bound) c.new.result
+    (λ tree n. new_there tree c.in_ok-root.root (own_region reduced) c.whole.result.now reduced.integral c.root_bound-bound.result c.in_ok-root.ensures c.whole.ensures.whole n) c.new.ensures
+
+pub returns-clause-root : goal.returns-clause-root
+returns-clause-root c =
+    let program = c.args.program.now in
+    if_ok (λ tree. IsNew tree c.in_ok-root.root c.whole.result.now c.root_bound-bound.result) (λ tree. IsRootBound program tree.root.bound) c.new.result
+    (λ tree n. root_there program tree c.in_ok-root.root c.whole.result.now c.root_bound-bound.result c.root_bound-bound.ensures.root n) c.new.ensures

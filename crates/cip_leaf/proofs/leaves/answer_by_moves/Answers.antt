@@ -24,7 +24,7 @@ answer_at-requires-clause-end c =
     subst (λ (p : LinearProgram). IsAnswer (whole_answer p) c.in-Ok.end) linear c.in-Ok.ensures.answer
 
 pub answer_at-requires-clause-formed : goal.answer_at-requires-clause-formed
-answer_at-requires-clause-formed c = grind (arith, common_steps)
+answer_at-requires-clause-formed c = c.requires.formed
 
 pub returns-in-Ok : goal.returns-in-Ok
 returns-in-Ok c = grind (arith, common_steps)
@@ -40,3 +40,9 @@ shown_by_few-requires-clause-formed c = grind (arith, common_steps)
 
 pub returns-in-Err : goal.returns-in-Err
 returns-in-Err c = grind (arith, common_steps)
+
+pub answer_at-requires-clause-leaf : goal.answer_at-requires-clause-leaf
+answer_at-requires-clause-leaf c = c.requires.leaf
+
+pub answer_at-requires-clause-parts : goal.answer_at-requires-clause-parts
+answer_at-requires-clause-parts c = c.requires.parts

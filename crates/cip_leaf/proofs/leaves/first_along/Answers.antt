@@ -1,6 +1,6 @@
 use Rattle.std.proofs.lemmas.Grind.{common_steps}
 use Rattle.std.proofs.Common.{◌∙◌, ◌≤◌, sym, length, arith}
-use Rattle.cip_leaf.proofs.Along.{fits_more, all_fit}
+use Rattle.cip_leaf.proofs.Along.{fits_more, all_fit, row_overflows}
 use Rattle.cip_leaf.proofs.leaves.first_along.Goals as goal
 
 pub loop-at-preserved : goal.loop-at-preserved
@@ -23,3 +23,8 @@ bounds-rows-at c = grind (arith, common_steps)
 
 pub offset_bounds-rows-at : goal.offset_bounds-rows-at
 offset_bounds-rows-at c = grind (arith, common_steps)
+
+pub returns-then-is_err : goal.returns-then-is_err
+returns-then-is_err c =
+    row_overflows c.args.rows.now c.args.ray.now c.loop-at.at c.index-rows-at.result c.activity.result c.loop-at-test.true
+    c.index-rows-at.is c.activity.ensures.steps (sym c.is_err.ensures.value ∙ c.if-is_err.true)

@@ -1,5 +1,5 @@
 use Rattle.std.proofs.lemmas.Grind.{common_steps}
-use Rattle.std.proofs.Common.{◌≡◌, ◌+◌, ◌<◌, ◌≤◌, [], ◌∷◌, ◌++◌, length, slice_get, ap, ◌∙◌, arith, rules}
+use Rattle.std.proofs.Common.{subst, ◌≡◌, ◌+◌, ◌<◌, ◌≤◌, [], ◌∷◌, ◌++◌, length, slice_get, ap, ◌∙◌, arith, rules}
 use Rattle.cip_lin.specs.ChoiceParts.{own_if_open}
 use Rattle.cip_problem.specs.Box.{sides_at}
 use Rattle.cip_problem.specs.Choices.{choice_at, decided_box}
@@ -15,11 +15,11 @@ loop-column-preserved c =
     let column = c.loop-column.column in
     let own = own_if_open (choice_at choices column) in
     let found = c.entry_at-is_on.result in
-    let l : column < length box = search rules in
-    let e : found ≡ slice_get on c.loop-column.taken = search rules in
+    let l : column < length box = subst (λ n. column < n) c.len-column-end.ensures c.loop-column-test.true in
+    let e : found ≡ slice_get on c.loop-column.taken = c.entry_at-is_on.ensures in
     let o : c.own-own.result ≡ own = c.own-own.ensures ∙ ap own_if_open c.at.ensures in
     let m : c.made_sides.result ≡ sides_made own found (sides_at box column) = c.made_sides.ensures ∙ (ap (λ t. sides_made t found c.sides.result) o ∙ ap (sides_made own found) c.sides.ensures) in
-    let p : c.push.new.self ≡ c.loop-column.decided ++ c.made_sides.result ∷ [] = search rules in
+    let p : c.push.new.self ≡ c.loop-column.decided ++ c.made_sides.result ∷ [] = c.in_ok-push.ensures.ok in
     let f : c.taken_behind-taken.result ≡ c.loop-column.taken + made_more own found = c.taken_behind-taken.ensures ∙ ap (λ t. c.loop-column.taken + made_more t found) o in
     let few = made_few own found in
     record {

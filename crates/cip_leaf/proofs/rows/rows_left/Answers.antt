@@ -1,3 +1,4 @@
+use Rattle.cip_leaf.proofs.Along.{too_wide_at}
 use Rattle.std.proofs.lemmas.Grind.{common_steps}
 use Rattle.std.proofs.Common.{arith}
 use Rattle.cip_leaf.proofs.rows.rows_left.Goals as goal
@@ -34,3 +35,8 @@ loop-at-init c = grind (arith, common_steps)
 
 pub returns-in-Err-NoMemory : goal.returns-in-Err-NoMemory
 returns-in-Err-NoMemory c = grind (arith, common_steps)
+
+pub returns-in-Err-Wide : goal.returns-in-Err-Wide
+returns-in-Err-Wide c =
+    too_wide_at c.args.rows.now c.args.point.now c.loop-at.at c.index-rows-at.result c.in-Err-Wide.field-0 c.loop-at-test.true
+    c.index-rows-at.is c.in-Err-Wide.field-0-is c.in-Err-Wide.ensures

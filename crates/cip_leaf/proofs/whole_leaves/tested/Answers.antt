@@ -1,7 +1,4 @@
-use Rattle.std.proofs.Common.{◌≡◌, rules}
-use Rattle.cip_model.specs.declared.verdicts.Verdict.TheVariants.{Feasible}
-use Rattle.cip_model.specs.Meaning.{VerdictHolds, Overflows}
-use Rattle.cip_model.specs.Verdicts.{verdict_of}
+use Rattle.std.proofs.Common.{◌≡◌, sym}
 use Rattle.cip_leaf.proofs.WholeLeaves.{long, best, wide, no_point}
 use Rattle.cip_leaf.proofs.whole_leaves.tested.Goals as goal
 
@@ -11,14 +8,14 @@ check_whole-requires-clause-long c = long c.args.program.now c.args.leaf.now c.w
 pub returns-in_ok-to_vec-in-Feasible : goal.returns-in_ok-to_vec-in-Feasible
 returns-in_ok-to_vec-in-Feasible c =
     let program = c.args.program.now in
-    let p : c.in_ok-to_vec-in-Feasible.field-0.items ≡ c.args.leaf.now = search rules in
-    let v : verdict_of program c.args.leaf.now ≡ Feasible c.in-Feasible.cost = search rules in
-    let m : VerdictHolds program c.args.leaf.now (Feasible c.in-Feasible.cost) = search rules in
+    let p : c.in_ok-to_vec-in-Feasible.field-0.items ≡ c.args.leaf.now = c.in_ok-to_vec-in-Feasible.ensures.items_if_clones_equal (λ x y e. e) in
+    let v = sym c.in-Feasible.ensures.verdict in
+    let m = c.in-Feasible.ensures.meaning in
     best program c.args.leaf.now c.whole-whole.ensures.formed c.whole-whole.ensures.none c.requires.whole c.requires.leaf _ _ p m.0 v m.1
 
 pub returns-in-Wide : goal.returns-in-Wide
 returns-in-Wide c =
-    let m : Overflows c.args.program.now c.args.leaf.now c.in-Wide.place = search rules in
+    let m = c.in-Wide.ensures.meaning in
     wide c.args.program.now c.args.leaf.now c.whole-whole.ensures.formed c.whole-whole.ensures.none c.requires.whole c.requires.leaf c.in-Wide.place m
 
 pub returns-in_default : goal.returns-in_default

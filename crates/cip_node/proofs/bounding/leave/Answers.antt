@@ -59,22 +59,22 @@ returns-in-Ok-clause-bounded c =
     subst (λ (k : CoreState). IsFound k (box_of k.tree last) last.bound found) (sym c.offer_if.ensures.frame) (told c.raise_if.ensures.raised tried)
 
 pub returns-in-Err-clause-region : goal.returns-in-Err-clause-region
-returns-in-Err-clause-region c = grind (arith, common_steps)
+returns-in-Err-clause-region c = c.offer_if.ensures.region ∙ ap (region_of c.args.core.now.tree) c.raise_if.ensures.node
 
 pub returns-in-Ok-clause-region : goal.returns-in-Ok-clause-region
-returns-in-Ok-clause-region c = grind (arith, common_steps)
+returns-in-Ok-clause-region c = c.offer_if.ensures.region ∙ ap (region_of c.args.core.now.tree) c.raise_if.ensures.node
 
 pub returns-in-Ok-clause-frame : goal.returns-in-Ok-clause-frame
-returns-in-Ok-clause-frame c = grind (arith, common_steps)
+returns-in-Ok-clause-frame c = c.offer_if.ensures.frame
 
 pub returns-in-Err-clause-frame : goal.returns-in-Err-clause-frame
-returns-in-Err-clause-frame c = grind (arith, common_steps)
+returns-in-Err-clause-frame c = c.offer_if.ensures.frame
 
 pub offer_if-requires-clause-at_work : goal.offer_if-requires-clause-at_work
-offer_if-requires-clause-at_work c = grind (arith, common_steps)
+offer_if-requires-clause-at_work c = c.raise_if.ensures.later.at_work
 
 pub raise_if-requires-clause-at_work : goal.raise_if-requires-clause-at_work
-raise_if-requires-clause-at_work c = grind (arith, common_steps)
+raise_if-requires-clause-at_work c = c.requires.at_work
 
 pub returns-in-None-clause-region : goal.returns-in-None-clause-region
 returns-in-None-clause-region c = grind (arith, common_steps)

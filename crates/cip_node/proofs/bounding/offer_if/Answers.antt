@@ -1,5 +1,7 @@
+use Rattle.cip_core.specs.Steps.{IsTriedBack}
+use Rattle.cip_rational.specs.Rational.{ℚ}
 use Rattle.std.proofs.lemmas.Grind.{common_steps}
-use Rattle.std.proofs.Common.{arith}
+use Rattle.std.proofs.Common.{arith, List, Option, IfSome, IfOk, Vec, Global, sym, subst}
 use Rattle.cip_core.proofs.Relations.{later_at_itself}
 use Rattle.cip_node.proofs.bounding.offer_if.Goals as goal
 
@@ -29,3 +31,9 @@ returns-in-None-clause-frame c = grind (arith, common_steps)
 
 pub returns-in-None-clause-region : goal.returns-in-None-clause-region
 returns-in-None-clause-region c = grind (arith, common_steps)
+
+pub returns-in-Some-clause-tried : goal.returns-in-Some-clause-tried
+returns-in-Some-clause-tried c =
+    let new = c.offer_whole.new.core in
+    subst (λ (o : Option (Vec ℚ Global)). IfOk c.offer_whole.result (λ _. IfSome o (λ values. IsTriedBack new values.items))) (sym c.in-Some.is)
+    (subst (λ (v : List ℚ). IfOk c.offer_whole.result (λ _. IsTriedBack new v)) c.as_slice.ensures.value c.offer_whole.ensures.tried)

@@ -1,5 +1,6 @@
+use Rattle.cip_problem.specs.WellFormed.{columns}
 use Rattle.std.proofs.lemmas.Grind.{common_steps}
-use Rattle.std.proofs.Common.{◌≡◌, ◌∙◌, ℕ, ℤ, Option, None, Some, Vec, Global, length, sym, ap, subst, arith}
+use Rattle.std.proofs.Common.{◌≡◌, ◌∙◌, ℕ, ℤ, Option, None, Some, Vec, Global, length, sym, ap, subst, arith, IfSome}
 use Rattle.std.specs.Prelude.{MatchOption, option_map}
 use Rattle.cip_rational.specs.Rational.{ℚ}
 use Rattle.cip_problem.specs.Program.{Program}
@@ -52,3 +53,8 @@ chosen_place-requires-clause-values c = grind (arith, common_steps)
 
 pub chosen_place-requires-in-None-clause-columns : goal.chosen_place-requires-in-None-clause-columns
 chosen_place-requires-in-None-clause-columns c = grind (arith, common_steps)
+
+pub chosen_place-requires-in-None-clause-values : goal.chosen_place-requires-in-None-clause-values
+chosen_place-requires-in-None-clause-values c =
+    let long = c.columns-columns.ensures.count ∙ ap columns c.reduced-reduced.ensures ∙ sym c.requires.columns ∙ sym (ap length c.bounds-bounds.ensures) in
+    subst (λ n. IfSome c.last_values.result (λ values. length values.now ≡ n)) long c.last_values.ensures

@@ -51,22 +51,25 @@ settle-requires-clause-solved c =
     }
 
 pub go_back-requires-clause-given : goal.go_back-requires-clause-given
-go_back-requires-clause-given c = grind (arith, common_steps)
+go_back-requires-clause-given c = c.requires.given
 
 pub go_back-requires-clause-up : goal.go_back-requires-clause-up
-go_back-requires-clause-up c = grind (arith, common_steps)
+go_back-requires-clause-up c = c.requires.up
 
 pub returns-in-Err-clause-rows : goal.returns-in-Err-clause-rows
 returns-in-Err-clause-rows c = grind (arith, common_steps)
 
 pub returns-in-Err-clause-ended : goal.returns-in-Err-clause-ended
-returns-in-Err-clause-ended c = grind (arith, common_steps)
+returns-in-Err-clause-ended c = c.go_back.ensures.back
 
 pub returns-in-Ok-clause-kind : goal.returns-in-Ok-clause-kind
-returns-in-Ok-clause-kind c = grind (arith, common_steps)
+returns-in-Ok-clause-kind c = c.settle.ensures.kind
 
 pub returns-in-Ok-clause-ended : goal.returns-in-Ok-clause-ended
-returns-in-Ok-clause-ended c = grind (arith, common_steps)
+returns-in-Ok-clause-ended c = c.settle.ensures.ended
 
 pub returns-in-Ok-clause-rows : goal.returns-in-Ok-clause-rows
-returns-in-Ok-clause-rows c = grind (arith, common_steps)
+returns-in-Ok-clause-rows c = c.settle.ensures.rows
+
+pub settle-requires-clause-at_work : goal.settle-requires-clause-at_work
+settle-requires-clause-at_work c = record { up = c.requires.up; region = c.requires.leaf.full.region }

@@ -104,16 +104,16 @@ returns-in-Unbounded-clause-ended c =
     })
 
 pub close_empty-requires-in-NoPoint-clause-up : goal.close_empty-requires-in-NoPoint-clause-up
-close_empty-requires-in-NoPoint-clause-up c = grind (arith, common_steps)
+close_empty-requires-in-NoPoint-clause-up c = c.requires.at_work.up
 
 pub offer-answer-requires-clause-at_work : goal.offer-answer-requires-clause-at_work
-offer-answer-requires-clause-at_work c = grind (arith, common_steps)
+offer-answer-requires-clause-at_work c = c.requires.at_work
 
 pub offer_at-answer-requires-clause-at_work : goal.offer_at-answer-requires-clause-at_work
-offer_at-answer-requires-clause-at_work c = grind (arith, common_steps)
+offer_at-answer-requires-clause-at_work c = c.requires.at_work
 
 pub park-requires-clause-up : goal.park-requires-clause-up
-park-requires-clause-up c = grind (arith, common_steps)
+park-requires-clause-up c = c.requires.at_work.up
 
 pub returns-in-Best-clause-rows : goal.returns-in-Best-clause-rows
 returns-in-Best-clause-rows c = grind (arith, common_steps)
@@ -128,10 +128,10 @@ pub returns-in-NoPoint-clause-rows : goal.returns-in-NoPoint-clause-rows
 returns-in-NoPoint-clause-rows c = grind (arith, common_steps)
 
 pub close_empty-requires-clause-up : goal.close_empty-requires-clause-up
-close_empty-requires-clause-up c = grind (arith, common_steps)
+close_empty-requires-clause-up c = c.offer_at-answer.ensures.later.at_work.up
 
 pub park_endless-requires : goal.park_endless-requires
-park_endless-requires c = grind (arith, common_steps)
+park_endless-requires c = c.offer-answer.ensures.later.at_work.up
 
 pub returns-in-Best-clause-kind : goal.returns-in-Best-clause-kind
 returns-in-Best-clause-kind c = grind (arith, common_steps)

@@ -1,6 +1,6 @@
 use Rattle.std.proofs.lemmas.Grind.{common_steps}
 use Rattle.std.proofs.Common.{◌≡◌, ◌≢◌, ◌∷◌, [], ◌++◌, ℕ, List, refl, sym, ap, ◌∙◌, subst, arith}
-use Rattle.std.proofs.lemmas.Result.{IfOk-weaker}
+use Rattle.std.proofs.lemmas.Result.{IfOk-weaker, IfOk-from_err}
 use Rattle.cip_plugin.specs.declared.asking.Given.{Given}
 use Rattle.cip_calls.specs.Asked.{ask_in, told, proposers, AreSeated}
 use Rattle.cip_calls.specs.Noted.{makers}
@@ -87,3 +87,15 @@ returns-then-has_none-clause-sides g c = grind (arith, common_steps)
 
 pub returns-then-has_none-clause-rows : goal.returns-then-has_none-clause-rows
 returns-then-has_none-clause-rows g c = grind (arith, common_steps)
+
+pub returns-in_err-gave-clause-used : goal.returns-in_err-gave-clause-used
+returns-in_err-gave-clause-used g c = IfOk-from_err c.from_residual.result _ c.from_residual.ensures.0
+
+pub returns-in_err-gave-clause-emptied : goal.returns-in_err-gave-clause-emptied
+returns-in_err-gave-clause-emptied g c = IfOk-from_err c.from_residual.result _ c.from_residual.ensures.0
+
+pub returns-in_err-gave-clause-rows : goal.returns-in_err-gave-clause-rows
+returns-in_err-gave-clause-rows g c = IfOk-from_err c.from_residual.result _ c.from_residual.ensures.0
+
+pub returns-in_err-gave-clause-sides : goal.returns-in_err-gave-clause-sides
+returns-in_err-gave-clause-sides g c = IfOk-from_err c.from_residual.result _ c.from_residual.ensures.0

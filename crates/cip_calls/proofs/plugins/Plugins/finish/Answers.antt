@@ -46,3 +46,6 @@ returns-in_err-put_if-clause-scratches g c = refl
 
 pub push_reserved-requires : goal.push_reserved-requires
 push_reserved-requires g c = grind (arith, common_steps)
+
+pub note_refused-requires-clause-seat : goal.note_refused-requires-clause-seat
+note_refused-requires-clause-seat g c = c.requires.seat

@@ -1,3 +1,4 @@
+use Rattle.std.proofs.lemmas.Result.{IfOk-from_err}
 use Rattle.std.proofs.lemmas.Grind.{common_steps}
 use Rattle.std.proofs.Common.{◌≡◌, ◌∷◌, [], ◌++◌, ap, ◌∙◌, arith}
 use Rattle.cip_events.specs.Events.{event_at}
@@ -30,3 +31,9 @@ returns-in_err-put-clause-run g c = grind (arith, common_steps)
 
 pub returns-in_err-put-clause-frame : goal.returns-in_err-put-clause-frame
 returns-in_err-put-clause-frame g c = grind (arith, common_steps)
+
+pub returns-in_err-put-clause-used : goal.returns-in_err-put-clause-used
+returns-in_err-put-clause-used g c = IfOk-from_err c.from_residual.result _ c.from_residual.ensures.0
+
+pub returns-in_err-put-clause-sound : goal.returns-in_err-put-clause-sound
+returns-in_err-put-clause-sound g c = c.requires.sound

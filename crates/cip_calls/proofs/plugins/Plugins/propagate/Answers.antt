@@ -1,3 +1,4 @@
+use Rattle.std.proofs.lemmas.Result.{IfOk-from_err}
 use Rattle.std.proofs.lemmas.Grind.{common_steps}
 use Rattle.std.proofs.Common.{◌∷◌, [], sym, ◌∙◌, arith}
 use Rattle.cip_plugin.specs.Calls.{Propagate}
@@ -51,10 +52,22 @@ pub returns-clause-pool : goal.returns-clause-pool
 returns-clause-pool g c = grind (arith, common_steps)
 
 pub ask_round-requires-in-loop-clause-ready : goal.ask_round-requires-in-loop-clause-ready
-ask_round-requires-in-loop-clause-ready g c = grind (arith, common_steps)
+ask_round-requires-in-loop-clause-ready g c = c.loop.invariant.come.ready
 
 pub ask_round-requires-in-loop-clause-sound : goal.ask_round-requires-in-loop-clause-sound
-ask_round-requires-in-loop-clause-sound g c = grind (arith, common_steps)
+ask_round-requires-in-loop-clause-sound g c = c.loop.invariant.come.sound
 
 pub returns-in_err-first-clause-come : goal.returns-in_err-first-clause-come
 returns-in_err-first-clause-come g c = grind (arith, common_steps)
+
+pub returns-in_err-newest-clause-used : goal.returns-in_err-newest-clause-used
+returns-in_err-newest-clause-used g c = IfOk-from_err c.from_residual-in_err-newest.result _ c.from_residual-in_err-newest.ensures.0
+
+pub returns-in_err-newest-clause-emptied : goal.returns-in_err-newest-clause-emptied
+returns-in_err-newest-clause-emptied g c = IfOk-from_err c.from_residual-in_err-newest.result _ c.from_residual-in_err-newest.ensures.0
+
+pub returns-in_err-first-clause-used : goal.returns-in_err-first-clause-used
+returns-in_err-first-clause-used g c = IfOk-from_err c.from_residual.result _ c.from_residual.ensures.0
+
+pub returns-in_err-first-clause-emptied : goal.returns-in_err-first-clause-emptied
+returns-in_err-first-clause-emptied g c = IfOk-from_err c.from_residual.result _ c.from_residual.ensures.0

@@ -1,3 +1,4 @@
+use Rattle.std.proofs.lemmas.Result.{IfOk-from_err}
 use Rattle.std.proofs.lemmas.Grind.{common_steps}
 use Rattle.cip_plugin.specs.declared.asking.Given.{Given}
 use Rattle.std.specs.Prelude.{IsSome, slice_get}
@@ -78,10 +79,31 @@ pub returns-clause-sides : goal.returns-clause-sides
 returns-clause-sides g c = grind (arith, common_steps)
 
 pub take_given-requires-clause-ready : goal.take_given-requires-clause-ready
-take_given-requires-clause-ready g c = grind (arith, common_steps)
+take_given-requires-clause-ready g c = c.loop-id.invariant.gone.ready
 
 pub returns-clause-gone : goal.returns-clause-gone
 returns-clause-gone g c = grind (arith, common_steps)
 
 pub offset_bounds-gave-id-index : goal.offset_bounds-gave-id-index
 offset_bounds-gave-id-index g c = grind (arith, common_steps)
+
+pub returns-in_err-came-clause-judged : goal.returns-in_err-came-clause-judged
+returns-in_err-came-clause-judged g c = IfOk-from_err c.from_residual.result _ c.from_residual.ensures.0
+
+pub returns-in_err-came-clause-emptied : goal.returns-in_err-came-clause-emptied
+returns-in_err-came-clause-emptied g c = IfOk-from_err c.from_residual.result _ c.from_residual.ensures.0
+
+pub returns-in_err-came-clause-rows : goal.returns-in_err-came-clause-rows
+returns-in_err-came-clause-rows g c = IfOk-from_err c.from_residual.result _ c.from_residual.ensures.0
+
+pub returns-in_err-came-clause-sides : goal.returns-in_err-came-clause-sides
+returns-in_err-came-clause-sides g c = IfOk-from_err c.from_residual.result _ c.from_residual.ensures.0
+
+pub returns-clause-pool : goal.returns-clause-pool
+returns-clause-pool g c = c.loop-id.invariant.pool
+
+pub returns-clause-node : goal.returns-clause-node
+returns-clause-node g c = c.loop-id.invariant.node
+
+pub take_given-requires-clause-sound : goal.take_given-requires-clause-sound
+take_given-requires-clause-sound g c = c.loop-id.invariant.gone.sound

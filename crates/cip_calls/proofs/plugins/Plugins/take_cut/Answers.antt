@@ -1,5 +1,7 @@
-use Rattle.std.proofs.lemmas.Grind.{common_steps}
-use Rattle.std.proofs.Common.{refl, sym, ap, subst, arith}
+use Rattle.cip_calls.specs.declared.judged.Judged.{Judged}
+use Rattle.cip_calls.specs.Noted.{HasJudged}
+use Rattle.std.proofs.lemmas.Result.{IfOk-from_err}
+use Rattle.std.proofs.Common.{refl, sym, ap, subst, arith, ℕ, List}
 use Rattle.cip_problem.specs.WellFormed.{columns}
 use Rattle.cip_tree.specs.Nodes.{region_of}
 use Rattle.cip_calls.specs.CoreStates.{CoreState, reduced_of}
@@ -55,4 +57,28 @@ pub judge_cut-requires-clause-room : goal.judge_cut-requires-clause-room
 judge_cut-requires-clause-room g c = c.requires.ready.room
 
 pub returns-clause-judged : goal.returns-clause-judged
-returns-clause-judged g c = grind (arith, common_steps)
+returns-clause-judged g c = subst (λ (items : List (ℕ × Judged)). HasJudged c.args.id 1 items c.finish.new.self.judged.items) c.reserve.ensures.items c.finish.ensures.judged
+
+pub finish-requires-clause-sound : goal.finish-requires-clause-sound
+finish-requires-clause-sound g c = c.requires.sound
+
+pub returns-in_err-finish-clause-judged : goal.returns-in_err-finish-clause-judged
+returns-in_err-finish-clause-judged g c = IfOk-from_err c.from_residual-in_err-finish.result _ c.from_residual-in_err-finish.ensures.0
+
+pub returns-in_err-came-clause-judged : goal.returns-in_err-came-clause-judged
+returns-in_err-came-clause-judged g c = IfOk-from_err c.from_residual-in_err-came.result _ c.from_residual-in_err-came.ensures.0
+
+pub returns-in_err-finish-clause-rows : goal.returns-in_err-finish-clause-rows
+returns-in_err-finish-clause-rows g c = IfOk-from_err c.from_residual-in_err-finish.result _ c.from_residual-in_err-finish.ensures.0
+
+pub returns-in_err-reserve-clause-judged : goal.returns-in_err-reserve-clause-judged
+returns-in_err-reserve-clause-judged g c = IfOk-from_err c.from_residual.result _ c.from_residual.ensures.0
+
+pub returns-in_err-came-clause-rows : goal.returns-in_err-came-clause-rows
+returns-in_err-came-clause-rows g c = IfOk-from_err c.from_residual-in_err-came.result _ c.from_residual-in_err-came.ensures.0
+
+pub returns-in_err-reserve-clause-rows : goal.returns-in_err-reserve-clause-rows
+returns-in_err-reserve-clause-rows g c = IfOk-from_err c.from_residual.result _ c.from_residual.ensures.0
+
+pub finish-requires-clause-seat : goal.finish-requires-clause-seat
+finish-requires-clause-seat g c = c.requires.seat

@@ -1,6 +1,7 @@
+use Rattle.std.proofs.lemmas.Result.{IfOk-from_err}
 use Rattle.std.proofs.lemmas.Grind.{common_steps}
-use Rattle.std.proofs.Common.{refl, ◌∙◌, arith}
-use Rattle.cip_calls.proofs.Noting.{gone_none, gone_further, judged_none, judged_more, seat_noted}
+use Rattle.std.proofs.Common.{refl, ◌∙◌, arith, length}
+use Rattle.cip_calls.proofs.Noting.{gone_none, gone_further, judged_none, judged_more, seat_noted, judged_all}
 use Rattle.cip_calls.proofs.plugins.Plugins.take_cuts.Goals as goal
 
 pub loop-cut-init : goal.loop-cut-init
@@ -41,13 +42,27 @@ pub returns-clause-gone : goal.returns-clause-gone
 returns-clause-gone g c = grind (arith, common_steps)
 
 pub take_cut-requires-clause-ready : goal.take_cut-requires-clause-ready
-take_cut-requires-clause-ready g c = grind (arith, common_steps)
+take_cut-requires-clause-ready g c = c.loop-cut.invariant.gone.ready
 
 pub take_cut-requires-clause-sound : goal.take_cut-requires-clause-sound
-take_cut-requires-clause-sound g c = grind (arith, common_steps)
+take_cut-requires-clause-sound g c = c.loop-cut.invariant.gone.sound
 
 pub take_cut-requires-clause-seat : goal.take_cut-requires-clause-seat
-take_cut-requires-clause-seat g c = grind (arith, common_steps)
+take_cut-requires-clause-seat g c = c.loop-cut.invariant.seat
 
 pub offset_bounds-cuts-cut-index : goal.offset_bounds-cuts-cut-index
 offset_bounds-cuts-cut-index g c = grind (arith, common_steps)
+
+pub returns-in_err-came-clause-judged : goal.returns-in_err-came-clause-judged
+returns-in_err-came-clause-judged g c = IfOk-from_err c.from_residual.result _ c.from_residual.ensures.0
+
+pub returns-in_err-came-clause-rows : goal.returns-in_err-came-clause-rows
+returns-in_err-came-clause-rows g c = IfOk-from_err c.from_residual.result _ c.from_residual.ensures.0
+
+pub returns-in_err-came-clause-open_ : goal.returns-in_err-came-clause-open_
+returns-in_err-came-clause-open_ g c = IfOk-from_err c.from_residual.result _ c.from_residual.ensures.0
+
+pub returns-clause-judged : goal.returns-clause-judged
+returns-clause-judged g c =
+    judged_all c.args.id c.loop-cut.cut-index (length c.args.cuts.now) c.args.self.now.judged.items c.loop-cut.self.judged.items
+    c.loop-cut-test.false c.loop-cut.auto.cut-index-end c.loop-cut.invariant.judged

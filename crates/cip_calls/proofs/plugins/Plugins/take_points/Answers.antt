@@ -1,6 +1,7 @@
+use Rattle.std.proofs.lemmas.Result.{IfOk-from_err}
 use Rattle.std.proofs.lemmas.Grind.{common_steps}
-use Rattle.std.proofs.Common.{refl, ◌∙◌, arith}
-use Rattle.cip_calls.proofs.Noting.{gone_none, gone_further, judged_none, judged_more, seat_noted}
+use Rattle.std.proofs.Common.{refl, ◌∙◌, arith, length}
+use Rattle.cip_calls.proofs.Noting.{gone_none, gone_further, judged_none, judged_more, seat_noted, judged_all}
 use Rattle.cip_calls.proofs.plugins.Plugins.take_points.Goals as goal
 
 pub loop-guess-init : goal.loop-guess-init
@@ -44,13 +45,24 @@ pub returns-clause-gone : goal.returns-clause-gone
 returns-clause-gone g c = grind (arith, common_steps)
 
 pub take_point-requires-clause-ready : goal.take_point-requires-clause-ready
-take_point-requires-clause-ready g c = grind (arith, common_steps)
+take_point-requires-clause-ready g c = c.loop-guess.invariant.gone.ready
 
 pub take_point-requires-clause-sound : goal.take_point-requires-clause-sound
-take_point-requires-clause-sound g c = grind (arith, common_steps)
+take_point-requires-clause-sound g c = c.loop-guess.invariant.gone.sound
 
 pub take_point-requires-clause-seat : goal.take_point-requires-clause-seat
-take_point-requires-clause-seat g c = grind (arith, common_steps)
+take_point-requires-clause-seat g c = c.loop-guess.invariant.seat
 
 pub offset_bounds-points-guess-index : goal.offset_bounds-points-guess-index
 offset_bounds-points-guess-index g c = grind (arith, common_steps)
+
+pub returns-in_err-came-clause-judged : goal.returns-in_err-came-clause-judged
+returns-in_err-came-clause-judged g c = IfOk-from_err c.from_residual.result _ c.from_residual.ensures.0
+
+pub returns-in_err-came-clause-open_ : goal.returns-in_err-came-clause-open_
+returns-in_err-came-clause-open_ g c = IfOk-from_err c.from_residual.result _ c.from_residual.ensures.0
+
+pub returns-clause-judged : goal.returns-clause-judged
+returns-clause-judged g c =
+    judged_all c.args.id c.loop-guess.guess-index (length c.args.points.now) c.args.self.now.judged.items c.loop-guess.self.judged.items
+    c.loop-guess-test.false c.loop-guess.auto.guess-index-end c.loop-guess.invariant.judged

@@ -1,5 +1,8 @@
+use Rattle.cip_calls.specs.declared.judged.Judged.{Judged}
+use Rattle.cip_calls.specs.Noted.{HasJudged}
+use Rattle.std.proofs.lemmas.Result.{IfOk-from_err}
 use Rattle.std.proofs.lemmas.Grind.{common_steps}
-use Rattle.std.proofs.Common.{◌∙◌, sym, subst, arith}
+use Rattle.std.proofs.Common.{◌∙◌, sym, subst, arith, ℕ, List}
 use Rattle.cip_problem.specs.WellFormed.{columns}
 use Rattle.cip_calls.specs.CoreStates.{reduced_of}
 use Rattle.cip_calls.specs.ProposalsJudged.{HaveRoom}
@@ -70,7 +73,40 @@ pub judge_reduction-requires-clause-at_work : goal.judge_reduction-requires-clau
 judge_reduction-requires-clause-at_work g c = c.requires.ready.at_work
 
 pub returns-clause-judged : goal.returns-clause-judged
-returns-clause-judged g c = grind (arith, common_steps)
+returns-clause-judged g c = subst (λ (items : List (ℕ × Judged)). HasJudged c.args.id 1 items c.finish.new.self.judged.items) c.reserve.ensures.items c.finish.ensures.judged
 
 pub returns-in_err-reserve-clause-pool : goal.returns-in_err-reserve-clause-pool
 returns-in_err-reserve-clause-pool g c = grind (arith, common_steps)
+
+pub finish-requires-clause-sound : goal.finish-requires-clause-sound
+finish-requires-clause-sound g c = c.requires.sound
+
+pub finish-requires-clause-seat : goal.finish-requires-clause-seat
+finish-requires-clause-seat g c = c.requires.seat
+
+pub returns-in_err-finish-clause-node : goal.returns-in_err-finish-clause-node
+returns-in_err-finish-clause-node g c = IfOk-from_err c.from_residual-in_err-finish.result _ c.from_residual-in_err-finish.ensures.0
+
+pub returns-in_err-finish-clause-emptied : goal.returns-in_err-finish-clause-emptied
+returns-in_err-finish-clause-emptied g c = IfOk-from_err c.from_residual-in_err-finish.result _ c.from_residual-in_err-finish.ensures.0
+
+pub returns-in_err-finish-clause-judged : goal.returns-in_err-finish-clause-judged
+returns-in_err-finish-clause-judged g c = IfOk-from_err c.from_residual-in_err-finish.result _ c.from_residual-in_err-finish.ensures.0
+
+pub returns-in_err-came-clause-judged : goal.returns-in_err-came-clause-judged
+returns-in_err-came-clause-judged g c = IfOk-from_err c.from_residual-in_err-came.result _ c.from_residual-in_err-came.ensures.0
+
+pub returns-in_err-came-clause-node : goal.returns-in_err-came-clause-node
+returns-in_err-came-clause-node g c = IfOk-from_err c.from_residual-in_err-came.result _ c.from_residual-in_err-came.ensures.0
+
+pub returns-in_err-came-clause-emptied : goal.returns-in_err-came-clause-emptied
+returns-in_err-came-clause-emptied g c = IfOk-from_err c.from_residual-in_err-came.result _ c.from_residual-in_err-came.ensures.0
+
+pub returns-in_err-reserve-clause-judged : goal.returns-in_err-reserve-clause-judged
+returns-in_err-reserve-clause-judged g c = IfOk-from_err c.from_residual.result _ c.from_residual.ensures.0
+
+pub returns-in_err-reserve-clause-node : goal.returns-in_err-reserve-clause-node
+returns-in_err-reserve-clause-node g c = IfOk-from_err c.from_residual.result _ c.from_residual.ensures.0
+
+pub returns-in_err-reserve-clause-emptied : goal.returns-in_err-reserve-clause-emptied
+returns-in_err-reserve-clause-emptied g c = IfOk-from_err c.from_residual.result _ c.from_residual.ensures.0

@@ -1,6 +1,7 @@
+use Rattle.std.proofs.lemmas.Result.{IfOk-from_err}
 use Rattle.std.proofs.lemmas.Grind.{common_steps}
-use Rattle.std.proofs.Common.{refl, ◌∙◌, arith}
-use Rattle.cip_calls.proofs.Noting.{gone_none, gone_further, judged_none, judged_more, seat_noted}
+use Rattle.std.proofs.Common.{refl, ◌∙◌, arith, length}
+use Rattle.cip_calls.proofs.Noting.{gone_none, gone_further, judged_none, judged_more, seat_noted, judged_all}
 use Rattle.cip_calls.proofs.plugins.Plugins.take_sides.Goals as goal
 
 pub loop-told-init : goal.loop-told-init
@@ -47,13 +48,24 @@ pub returns-clause-gone : goal.returns-clause-gone
 returns-clause-gone g c = grind (arith, common_steps)
 
 pub take_side-requires-clause-ready : goal.take_side-requires-clause-ready
-take_side-requires-clause-ready g c = grind (arith, common_steps)
+take_side-requires-clause-ready g c = c.loop-told.invariant.gone.ready
 
 pub take_side-requires-clause-sound : goal.take_side-requires-clause-sound
-take_side-requires-clause-sound g c = grind (arith, common_steps)
+take_side-requires-clause-sound g c = c.loop-told.invariant.gone.sound
 
 pub take_side-requires-clause-seat : goal.take_side-requires-clause-seat
-take_side-requires-clause-seat g c = grind (arith, common_steps)
+take_side-requires-clause-seat g c = c.loop-told.invariant.seat
 
 pub offset_bounds-sides-told-index : goal.offset_bounds-sides-told-index
 offset_bounds-sides-told-index g c = grind (arith, common_steps)
+
+pub returns-in_err-came-clause-judged : goal.returns-in_err-came-clause-judged
+returns-in_err-came-clause-judged g c = IfOk-from_err c.from_residual.result _ c.from_residual.ensures.0
+
+pub returns-in_err-came-clause-emptied : goal.returns-in_err-came-clause-emptied
+returns-in_err-came-clause-emptied g c = IfOk-from_err c.from_residual.result _ c.from_residual.ensures.0
+
+pub returns-clause-judged : goal.returns-clause-judged
+returns-clause-judged g c =
+    λ _. judged_all c.args.id c.loop-told.told-index (length c.args.sides.now) c.args.self.now.judged.items c.loop-told.self.judged.items
+    c.loop-told-test.false c.loop-told.auto.told-index-end c.loop-told.invariant.judged

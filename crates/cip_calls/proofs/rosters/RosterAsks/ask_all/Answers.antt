@@ -41,13 +41,13 @@ pub returns-in-Points-clause-run : goal.returns-in-Points-clause-run
 returns-in-Points-clause-run g c = either {A = Vec (ℕ × Given) Global} {E = AllocError} c.call_heuristics.result _ _ _ c.call_heuristics.ensures.called c.call_heuristics.ensures.err (λ (gave : Vec (ℕ × Given) Global) h. kind_run kinds.Heuristic Search _ _ [] gave.items h) (λ same. ran_same _ _ same)
 
 pub returns-in-Points-clause-sound : goal.returns-in-Points-clause-sound
-returns-in-Points-clause-sound g c = grind (arith, common_steps)
+returns-in-Points-clause-sound g c = c.call_heuristics.ensures.sound
 
 pub returns-in-Sides-clause-sound : goal.returns-in-Sides-clause-sound
-returns-in-Sides-clause-sound g c = grind (arith, common_steps)
+returns-in-Sides-clause-sound g c = c.call_propagators.ensures.sound
 
 pub returns-in-Cuts-clause-sound : goal.returns-in-Cuts-clause-sound
-returns-in-Cuts-clause-sound g c = grind (arith, common_steps)
+returns-in-Cuts-clause-sound g c = c.call_separators.ensures.sound
 
 pub call_heuristics-requires : goal.call_heuristics-requires
 call_heuristics-requires g c = grind (arith, common_steps)

@@ -22,10 +22,10 @@ pub returns-in-Verdict-clause-seated : goal.returns-in-Verdict-clause-seated
 returns-in-Verdict-clause-seated g c = IfOk-weaker _ _ _ (λ gave h. next_seated kinds.ConsHandler Enforce _ _ _ gave h) c.call_enforcers.ensures.called
 
 pub returns-in-Verdict-clause-sound : goal.returns-in-Verdict-clause-sound
-returns-in-Verdict-clause-sound g c = grind (arith, common_steps)
+returns-in-Verdict-clause-sound g c = c.call_enforcers.ensures.sound
 
 pub returns-in-Split-clause-sound : goal.returns-in-Split-clause-sound
-returns-in-Split-clause-sound g c = grind (arith, common_steps)
+returns-in-Split-clause-sound g c = c.call_rules.ensures.sound
 
 pub returns-in-Verdict-clause-err : goal.returns-in-Verdict-clause-err
 returns-in-Verdict-clause-err g c = grind (arith, common_steps)

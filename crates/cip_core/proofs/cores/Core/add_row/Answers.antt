@@ -1,5 +1,7 @@
+use Rattle.std.proofs.lemmas.Result.{MatchResult-from_err}
+use Rattle.cip_cert.specs.Pool.{AreRising}
 use Rattle.std.proofs.lemmas.Grind.{common_steps}
-use Rattle.std.proofs.Common.{◌≡◌, ◌∙◌, List, Option, Some, length, Ok, if◌then◌else◌, sym, ap, subst, arith}
+use Rattle.std.proofs.Common.{◌≡◌, ◌∙◌, List, Option, Some, length, Ok, sym, ap, subst, arith, true}
 use Rattle.cip_problem.specs.Program.{Row}
 use Rattle.cip_problem.specs.WellFormed.{columns}
 use Rattle.cip_problem.specs.Cuts.{row_of}
@@ -15,7 +17,7 @@ use Rattle.cip_core.specs.CutoffRow.{cutoff_of}
 use Rattle.cip_core.specs.Later.{IsLaterAt}
 use Rattle.cip_core.specs.RowsAsked.{scope_of, derived_in, rests_in, IsTold}
 use Rattle.cip_core.proofs.Relations.{later_at_itself}
-use Rattle.cip_core.proofs.RowsAdded.{scope_long, lent_there, lent_fits, with_pool, sound_added, sound_kept, later_pooled}
+use Rattle.cip_core.proofs.RowsAdded.{scope_is, scope_long, lent_there, lent_fits, with_pool, sound_added, sound_kept, later_pooled}
 use Rattle.cip_core.proofs.cores.Core.add_row.Goals as goal
 
 pub derive-requires-clause-fits : goal.derive-requires-clause-fits
@@ -27,7 +29,7 @@ derive-requires-clause-fits c =
     let w = subst (λ (o : CoreState). IsAtWork o node) (sym same) c.requires in
     let local = c.args.local in
     let long = scope_long core node local formed w in
-    let boxed_in : c.scope-bounds.result.now ≡ scope_of core local = c.scope-bounds.ensures ∙ ap (λ b. if local then b else c.bounds-2.result.now) c.bounds.ensures ∙ ap (λ b. if local then core.tree.work.box else b) c.bounds-2.ensures.bounds in
+    let boxed_in : c.scope-bounds.result.now ≡ scope_of core local = scope_is core local c.bounds.result.now c.bounds-2.result.now c.scope-bounds.result.now c.scope-bounds.ensures c.bounds.ensures c.bounds-2.ensures.bounds in
     let made : List Row → List PoolRow → Option Row → Lent = λ own pool cutoff. record { own = own; pool = pool; cutoff = cutoff } in
     let fits = lent_fits core c.self.invariant.0 c.rows-2.ensures.kept formed in
     let at = length c.scope-bounds.result.now in
@@ -45,7 +47,7 @@ derive-requires-clause-room c =
     let w = subst (λ (o : CoreState). IsAtWork o node) (sym same) c.requires in
     let local = c.args.local in
     let long = scope_long core node local formed w in
-    let boxed_in : c.scope-bounds.result.now ≡ scope_of core local = c.scope-bounds.ensures ∙ ap (λ b. if local then b else c.bounds-2.result.now) c.bounds.ensures ∙ ap (λ b. if local then core.tree.work.box else b) c.bounds-2.ensures.bounds in
+    let boxed_in : c.scope-bounds.result.now ≡ scope_of core local = scope_is core local c.bounds.result.now c.bounds-2.result.now c.scope-bounds.result.now c.scope-bounds.ensures c.bounds.ensures c.bounds-2.ensures.bounds in
     omega (arith, ap length boxed_in, long, c.self.invariant.1.wide)
 
 pub derive-requires-clause-flags : goal.derive-requires-clause-flags
@@ -57,7 +59,7 @@ derive-requires-clause-flags c =
     let w = subst (λ (o : CoreState). IsAtWork o node) (sym same) c.requires in
     let local = c.args.local in
     let long = scope_long core node local formed w in
-    let boxed_in : c.scope-bounds.result.now ≡ scope_of core local = c.scope-bounds.ensures ∙ ap (λ b. if local then b else c.bounds-2.result.now) c.bounds.ensures ∙ ap (λ b. if local then core.tree.work.box else b) c.bounds-2.ensures.bounds in
+    let boxed_in : c.scope-bounds.result.now ≡ scope_of core local = scope_is core local c.bounds.result.now c.bounds-2.result.now c.scope-bounds.result.now c.scope-bounds.ensures c.bounds.ensures c.bounds-2.ensures.bounds in
     ap length c.whole.ensures.whole ∙ formed.integral ∙ sym long ∙ sym (ap length boxed_in)
 
 pub add-requires-clause-columns : goal.add-requires-clause-columns
@@ -69,7 +71,7 @@ add-requires-clause-columns c =
     let w = subst (λ (o : CoreState). IsAtWork o node) (sym same) c.requires in
     let local = c.args.local in
     let long = scope_long core node local formed w in
-    let boxed_in : c.scope-bounds.result.now ≡ scope_of core local = c.scope-bounds.ensures ∙ ap (λ b. if local then b else c.bounds-2.result.now) c.bounds.ensures ∙ ap (λ b. if local then core.tree.work.box else b) c.bounds-2.ensures.bounds in
+    let boxed_in : c.scope-bounds.result.now ≡ scope_of core local = scope_is core local c.bounds.result.now c.bounds-2.result.now c.scope-bounds.result.now c.scope-bounds.ensures c.bounds.ensures c.bounds-2.ensures.bounds in
     ap length boxed_in ∙ long ∙ sym c.self.invariant.0.same
 
 pub returns-in_err-added-in-Ok-clause-later : goal.returns-in_err-added-in-Ok-clause-later
@@ -77,11 +79,7 @@ returns-in_err-added-in-Ok-clause-later c =
     let core : CoreState = record { program = c.self.inside.program.now; reduced = c.self.inside.reduced.now; steps = c.self.inside.steps.now; pool = c.self.inside.pool; tree = c.self.inside.tree; incumbent = c.self.inside.incumbent; touched = c.self.inside.touched } in
     let same : core ≡ c.args.self.now = c.self.view_is in
     let node = c.args.node.now in
-    let formed = c.columns-columns.ensures.formed in
     let w = subst (λ (o : CoreState). IsAtWork o node) (sym same) c.requires in
-    let local = c.args.local in
-    let long = scope_long core node local formed w in
-    let boxed_in : c.scope-bounds.result.now ≡ scope_of core local = c.scope-bounds.ensures ∙ ap (λ b. if local then b else c.bounds-2.result.now) c.bounds.ensures ∙ ap (λ b. if local then core.tree.work.box else b) c.bounds-2.ensures.bounds in
     subst (λ (o : CoreState). IsLaterAt o node (with_pool core c.add.new.self) node) same (later_pooled core c.add.new.self node w)
 
 pub returns-in-Err-clause-later : goal.returns-in-Err-clause-later
@@ -89,11 +87,7 @@ returns-in-Err-clause-later c =
     let core : CoreState = record { program = c.self.inside.program.now; reduced = c.self.inside.reduced.now; steps = c.self.inside.steps.now; pool = c.self.inside.pool; tree = c.self.inside.tree; incumbent = c.self.inside.incumbent; touched = c.self.inside.touched } in
     let same : core ≡ c.args.self.now = c.self.view_is in
     let node = c.args.node.now in
-    let formed = c.columns-columns.ensures.formed in
     let w = subst (λ (o : CoreState). IsAtWork o node) (sym same) c.requires in
-    let local = c.args.local in
-    let long = scope_long core node local formed w in
-    let boxed_in : c.scope-bounds.result.now ≡ scope_of core local = c.scope-bounds.ensures ∙ ap (λ b. if local then b else c.bounds-2.result.now) c.bounds.ensures ∙ ap (λ b. if local then core.tree.work.box else b) c.bounds-2.ensures.bounds in
     subst (λ (o : CoreState). IsLaterAt o node core node) same (later_at_itself core node w)
 
 pub returns-in_ok-added-in-Ok-clause-later : goal.returns-in_ok-added-in-Ok-clause-later
@@ -101,23 +95,15 @@ returns-in_ok-added-in-Ok-clause-later c =
     let core : CoreState = record { program = c.self.inside.program.now; reduced = c.self.inside.reduced.now; steps = c.self.inside.steps.now; pool = c.self.inside.pool; tree = c.self.inside.tree; incumbent = c.self.inside.incumbent; touched = c.self.inside.touched } in
     let same : core ≡ c.args.self.now = c.self.view_is in
     let node = c.args.node.now in
-    let formed = c.columns-columns.ensures.formed in
     let w = subst (λ (o : CoreState). IsAtWork o node) (sym same) c.requires in
-    let local = c.args.local in
-    let long = scope_long core node local formed w in
-    let boxed_in : c.scope-bounds.result.now ≡ scope_of core local = c.scope-bounds.ensures ∙ ap (λ b. if local then b else c.bounds-2.result.now) c.bounds.ensures ∙ ap (λ b. if local then core.tree.work.box else b) c.bounds-2.ensures.bounds in
     subst (λ (o : CoreState). IsLaterAt o node (with_pool core c.add.new.self) node) same (later_pooled core c.add.new.self node w)
 
 pub returns-in_ok-added-in-Ok-clause-asked : goal.returns-in_ok-added-in-Ok-clause-asked
 returns-in_ok-added-in-Ok-clause-asked c =
     let core : CoreState = record { program = c.self.inside.program.now; reduced = c.self.inside.reduced.now; steps = c.self.inside.steps.now; pool = c.self.inside.pool; tree = c.self.inside.tree; incumbent = c.self.inside.incumbent; touched = c.self.inside.touched } in
     let same : core ≡ c.args.self.now = c.self.view_is in
-    let node = c.args.node.now in
-    let formed = c.columns-columns.ensures.formed in
-    let w = subst (λ (o : CoreState). IsAtWork o node) (sym same) c.requires in
     let local = c.args.local in
-    let long = scope_long core node local formed w in
-    let boxed_in : c.scope-bounds.result.now ≡ scope_of core local = c.scope-bounds.ensures ∙ ap (λ b. if local then b else c.bounds-2.result.now) c.bounds.ensures ∙ ap (λ b. if local then core.tree.work.box else b) c.bounds-2.ensures.bounds in
+    let boxed_in : c.scope-bounds.result.now ≡ scope_of core local = scope_is core local c.bounds.result.now c.bounds-2.result.now c.scope-bounds.result.now c.scope-bounds.ensures c.bounds.ensures c.bounds-2.ensures.bounds in
     let made : List Row → List PoolRow → Option Row → Lent = λ own pool cutoff. record { own = own; pool = pool; cutoff = cutoff } in
     let combo = c.args.combo.now in
     let round = c.args.round in
@@ -146,7 +132,7 @@ invariant_of-self-in-Ok c =
     let w = subst (λ (o : CoreState). IsAtWork o node) (sym same) c.requires in
     let local = c.args.local in
     let long = scope_long core node local formed w in
-    let boxed_in : c.scope-bounds.result.now ≡ scope_of core local = c.scope-bounds.ensures ∙ ap (λ b. if local then b else c.bounds-2.result.now) c.bounds.ensures ∙ ap (λ b. if local then core.tree.work.box else b) c.bounds-2.ensures.bounds in
+    let boxed_in : c.scope-bounds.result.now ≡ scope_of core local = scope_is core local c.bounds.result.now c.bounds-2.result.now c.scope-bounds.result.now c.scope-bounds.ensures c.bounds.ensures c.bounds-2.ensures.bounds in
     let made : List Row → List PoolRow → Option Row → Lent = λ own pool cutoff. record { own = own; pool = pool; cutoff = cutoff } in
     let fits = lent_fits core c.self.invariant.0 c.rows-2.ensures.kept formed in
     let combo = c.args.combo.now in
@@ -179,16 +165,31 @@ invariant_of-self-in_err-added-in-Ok c =
     )
 
 pub add-requires-clause-coefficients : goal.add-requires-clause-coefficients
-add-requires-clause-coefficients c = omega arith
+add-requires-clause-coefficients c = c.in-Ok.ensures.columns ∙ c.self.invariant.1.wide ∙ sym c.self.invariant.0.same
 
 pub invariant_of-self : goal.invariant_of-self
-invariant_of-self c = grind (arith, common_steps)
+invariant_of-self c =
+    let core : CoreState = record { program = c.self.inside.program.now; reduced = c.self.inside.reduced.now; steps = c.self.inside.steps.now; pool = c.self.inside.pool; tree = c.self.inside.tree; incumbent = c.self.inside.incumbent; touched = c.self.inside.touched } in (
+      c.self.invariant.0,
+      subst (IsFitted core.reduced (held_of core) c.self.inside.cutoff c.self.inside.whole_costs) (sym c.in-Err.ensures.columns) c.self.invariant.1,
+    )
 
 pub returns-in_ok-added-in-Ok-clause-frame : goal.returns-in_ok-added-in-Ok-clause-frame
-returns-in_ok-added-in-Ok-clause-frame c = grind (arith, common_steps)
+returns-in_ok-added-in-Ok-clause-frame c = ap (λ (o : CoreState). record o { pool = c.add.new.self; touched = true }) c.self.view_is
 
 pub returns-in-Err-clause-frame : goal.returns-in-Err-clause-frame
-returns-in-Err-clause-frame c = grind (arith, common_steps)
+returns-in-Err-clause-frame c = ap (λ (o : CoreState). record o { pool = c.self.inside.pool; touched = c.self.inside.touched }) c.self.view_is
 
 pub returns-in-Err-clause-asked : goal.returns-in-Err-clause-asked
 returns-in-Err-clause-asked c = grind (arith, common_steps)
+
+pub rests_on_cutoff-rests-requires : goal.rests_on_cutoff-rests-requires
+rests_on_cutoff-rests-requires c = subst AreRising (sym c.rows-in-Ok.ensures.rows) c.rows-in-Ok.ensures.kept.rising
+
+pub returns-in_err-added-in-Ok-clause-asked : goal.returns-in_err-added-in-Ok-clause-asked
+returns-in_err-added-in-Ok-clause-asked c =
+    MatchResult-from_err c.from_residual.result _ _ c.from_residual.ensures.0
+    (λ _. c.in_err-added-in-Ok.ensures.added ∙ ap (λ (o : CoreState). o.pool) c.self.view_is)
+
+pub returns-in_err-added-in-Ok-clause-frame : goal.returns-in_err-added-in-Ok-clause-frame
+returns-in_err-added-in-Ok-clause-frame c = ap (λ (o : CoreState). record o { pool = c.add.new.self; touched = true }) c.self.view_is

@@ -4,7 +4,7 @@ use Rattle.cip_tree.specs.Nodes.{Nodes}
 use Rattle.cip_core.specs.CoreStates.{CoreState}
 use Rattle.cip_problem.specs.Log.{Closed}
 use Rattle.cip_core.specs.Steps.{HasLeft}
-use Rattle.cip_core.proofs.CoreSteps.{with_tree, left_empty}
+use Rattle.cip_core.proofs.CoreSteps.{with_tree, left_empty, sound_tree}
 use Rattle.cip_core.proofs.cores.Core.close_empty.Goals as goal
 
 pub returns-clause-left : goal.returns-clause-left
@@ -20,3 +20,8 @@ close-requires c = grind (arith, common_steps)
 
 pub returns-clause-frame : goal.returns-clause-frame
 returns-clause-frame c = grind (arith, common_steps)
+
+pub invariant_of-self : goal.invariant_of-self
+invariant_of-self c =
+    let core : CoreState = record { program = c.self.inside.program.now; reduced = c.self.inside.reduced.now; steps = c.self.inside.steps.now; pool = c.self.inside.pool; tree = c.self.inside.tree; incumbent = c.self.inside.incumbent; touched = c.self.inside.touched } in
+    (sound_tree core _ c.self.invariant.0, c.self.invariant.1)

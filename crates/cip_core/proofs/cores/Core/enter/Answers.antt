@@ -3,7 +3,7 @@ use Rattle.std.proofs.Common.{◌≡◌, IfOk, sym, subst, arith}
 use Rattle.cip_tree.specs.Nodes.{Nodes, region_of}
 use Rattle.cip_tree.specs.Walks.{IsEntered}
 use Rattle.cip_core.specs.CoreStates.{CoreState, IsTakenUp}
-use Rattle.cip_core.proofs.CoreSteps.{with_tree, up_entered}
+use Rattle.cip_core.proofs.CoreSteps.{with_tree, up_entered, sound_tree}
 use Rattle.cip_core.proofs.cores.Core.enter.Goals as goal
 
 pub enter-requires : goal.enter-requires
@@ -26,3 +26,8 @@ returns-clause-up c =
 
 pub returns-clause-frame : goal.returns-clause-frame
 returns-clause-frame c = grind (arith, common_steps)
+
+pub invariant_of-self : goal.invariant_of-self
+invariant_of-self c =
+    let core : CoreState = record { program = c.self.inside.program.now; reduced = c.self.inside.reduced.now; steps = c.self.inside.steps.now; pool = c.self.inside.pool; tree = c.self.inside.tree; incumbent = c.self.inside.incumbent; touched = c.self.inside.touched } in
+    (sound_tree core _ c.self.invariant.0, c.self.invariant.1)

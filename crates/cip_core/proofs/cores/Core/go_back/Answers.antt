@@ -4,7 +4,7 @@ use Rattle.std.specs.List.Sorted.{IsPermutation}
 use Rattle.cip_tree.specs.Nodes.{TakenNode, shown}
 use Rattle.cip_core.specs.CoreStates.{CoreState, IsTakenUp, IsGivenBound}
 use Rattle.cip_core.specs.Steps.{IsBack, IsTrimmed}
-use Rattle.cip_core.proofs.CoreSteps.{with_tree, gone_back}
+use Rattle.cip_core.proofs.CoreSteps.{with_tree, gone_back, sound_tree}
 use Rattle.cip_core.proofs.cores.Core.go_back.Goals as goal
 
 pub returns-clause-back : goal.returns-clause-back
@@ -26,3 +26,8 @@ put_back-requires c = grind (arith, common_steps)
 
 pub returns-clause-frame : goal.returns-clause-frame
 returns-clause-frame c = grind (arith, common_steps)
+
+pub invariant_of-self : goal.invariant_of-self
+invariant_of-self c =
+    let core : CoreState = record { program = c.self.inside.program.now; reduced = c.self.inside.reduced.now; steps = c.self.inside.steps.now; pool = c.self.inside.pool; tree = c.self.inside.tree; incumbent = c.self.inside.incumbent; touched = c.self.inside.touched } in
+    (sound_tree core _ c.self.invariant.0, c.self.invariant.1)

@@ -4,7 +4,7 @@ use Rattle.cip_tree.specs.Nodes.{Nodes, shown}
 use Rattle.cip_core.specs.CoreStates.{CoreState}
 use Rattle.cip_problem.specs.Log.{Parked}
 use Rattle.cip_core.specs.Later.{IsLater}
-use Rattle.cip_core.proofs.CoreSteps.{with_tree, endless_later}
+use Rattle.cip_core.proofs.CoreSteps.{with_tree, endless_later, sound_tree}
 use Rattle.cip_core.proofs.cores.Core.park_endless.Goals as goal
 
 pub returns-clause-later : goal.returns-clause-later
@@ -29,3 +29,8 @@ returns-clause-entry c = grind (arith, common_steps)
 
 pub returns-clause-ids : goal.returns-clause-ids
 returns-clause-ids c = grind (arith, common_steps)
+
+pub invariant_of-self : goal.invariant_of-self
+invariant_of-self c =
+    let core : CoreState = record { program = c.self.inside.program.now; reduced = c.self.inside.reduced.now; steps = c.self.inside.steps.now; pool = c.self.inside.pool; tree = c.self.inside.tree; incumbent = c.self.inside.incumbent; touched = c.self.inside.touched } in
+    (sound_tree core _ c.self.invariant.0, c.self.invariant.1)

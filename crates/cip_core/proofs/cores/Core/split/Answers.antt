@@ -1,15 +1,15 @@
 use Rattle.std.proofs.lemmas.Grind.{common_steps}
-use Rattle.std.proofs.Common.{◌≡◌, ◌+◌, sym, subst, arith, to_z, of_z}
+use Rattle.std.proofs.Common.{◌≡◌, ◌+◌, sym, subst, arith, to_z, of_z, ap, ◌∙◌}
 use mir.Syntax.{w128}
 use Rattle.std.proofs.lemmas.Int.{ints}
 use Rattle.cip_problem.specs.Log.{Split}
 use Rattle.cip_tree.specs.Nodes.{region_of as node_region}
 use Rattle.cip_tree.specs.Moves.{IsSplit}
-use Rattle.cip_core.specs.CoreStates.{CoreState, reduced_of, IsTakenUp}
+use Rattle.cip_core.specs.CoreStates.{CoreState, reduced_of, IsTakenUp, IsGivenBound}
 use Rattle.cip_core.specs.KeptNodes.{farthest}
 use Rattle.cip_core.specs.SplitPlaces.{IsSplitPlace}
-use Rattle.cip_core.specs.Steps.{HasLeft, IsTrimmed}
-use Rattle.cip_core.proofs.CoreSteps.{with_tree, split_off}
+use Rattle.cip_core.specs.Steps.{HasLeft, IsTrimmed, IsBack}
+use Rattle.cip_core.proofs.CoreSteps.{with_tree, split_off, sound_tree}
 use Rattle.cip_core.proofs.cores.Core.split.Goals as goal
 
 pub returns-in-Ok-clause-split : goal.returns-in-Ok-clause-split
@@ -30,10 +30,16 @@ returns-in-Ok-clause-split c =
     subst (λ (o : CoreState). HasLeft o (with_tree core tree) node (Split c.args.col at low high)) same (split_off core node c.args.col at low high halved tree up s place c.log-log.ensures.searched trimmed)
 
 pub go_back-requires-clause-given : goal.go_back-requires-clause-given
-go_back-requires-clause-given c = grind (arith, common_steps)
+go_back-requires-clause-given c =
+    let core : CoreState = record { program = c.self.inside.program.now; reduced = c.self.inside.reduced.now; steps = c.self.inside.steps.now; pool = c.self.inside.pool; tree = c.self.inside.tree; incumbent = c.self.inside.incumbent; touched = c.self.inside.touched } in
+    let back : with_tree core c.split.new.self ≡ c.args.self.now = ap (with_tree core) c.in-Err-NoMemory.ensures.0 ∙ c.self.view_is in
+    subst (λ (o : CoreState). IsGivenBound o c.args.node.number c.args.given) (sym back) c.requires.given
 
 pub go_back-requires-clause-up : goal.go_back-requires-clause-up
-go_back-requires-clause-up c = grind (arith, common_steps)
+go_back-requires-clause-up c =
+    let core : CoreState = record { program = c.self.inside.program.now; reduced = c.self.inside.reduced.now; steps = c.self.inside.steps.now; pool = c.self.inside.pool; tree = c.self.inside.tree; incumbent = c.self.inside.incumbent; touched = c.self.inside.touched } in
+    let back : with_tree core c.split.new.self ≡ c.args.self.now = ap (with_tree core) c.in-Err-NoMemory.ensures.0 ∙ c.self.view_is in
+    subst (λ (o : CoreState). IsTakenUp o c.args.node) (sym back) c.requires.at_work.up
 
 pub invariant_of-self-in-Err-NoMemory : goal.invariant_of-self-in-Err-NoMemory
 invariant_of-self-in-Err-NoMemory c = grind (arith, common_steps)
@@ -54,13 +60,21 @@ pub split-requires-clause-work : goal.split-requires-clause-work
 split-requires-clause-work c = grind (arith, common_steps)
 
 pub returns-in-Err-NoMemory-clause-split : goal.returns-in-Err-NoMemory-clause-split
-returns-in-Err-NoMemory-clause-split c = grind (arith, common_steps)
+returns-in-Err-NoMemory-clause-split c =
+    let core : CoreState = record { program = c.self.inside.program.now; reduced = c.self.inside.reduced.now; steps = c.self.inside.steps.now; pool = c.self.inside.pool; tree = c.self.inside.tree; incumbent = c.self.inside.incumbent; touched = c.self.inside.touched } in
+    let back : with_tree core c.split.new.self ≡ c.args.self.now = ap (with_tree core) c.in-Err-NoMemory.ensures.0 ∙ c.self.view_is in
+    subst (λ (o : CoreState). IsBack o c.go_back.new.self c.args.node.number c.args.given) back c.go_back.ensures.back
 
 pub returns-in-Ok-clause-frame : goal.returns-in-Ok-clause-frame
-returns-in-Ok-clause-frame c = grind (arith, common_steps)
+returns-in-Ok-clause-frame c = ap (λ (o : CoreState). with_tree o c.let_go.new.tree) c.self.view_is
 
 pub returns-in-Err-NoMemory-clause-frame : goal.returns-in-Err-NoMemory-clause-frame
 returns-in-Err-NoMemory-clause-frame c = grind (arith, common_steps)
 
 pub same-node : goal.same-node
 same-node c = grind (arith, common_steps)
+
+pub invariant_of-self : goal.invariant_of-self
+invariant_of-self c =
+    let core : CoreState = record { program = c.self.inside.program.now; reduced = c.self.inside.reduced.now; steps = c.self.inside.steps.now; pool = c.self.inside.pool; tree = c.self.inside.tree; incumbent = c.self.inside.incumbent; touched = c.self.inside.touched } in
+    (sound_tree core c.let_go.new.tree c.self.invariant.0, c.self.invariant.1)

@@ -3,7 +3,7 @@ use Rattle.std.proofs.Common.{◌≡◌, [], MatchOption, sym, ap, subst, arith}
 use Rattle.cip_tree.specs.Nodes.{Nodes}
 use Rattle.cip_tree.specs.Moves.{TakesFirst}
 use Rattle.cip_core.specs.CoreStates.{CoreState, IsKeptIn, IsTakenUp, IsGivenBound}
-use Rattle.cip_core.proofs.CoreSteps.{with_tree, took, took_given}
+use Rattle.cip_core.proofs.CoreSteps.{with_tree, took, took_given, sound_tree}
 use Rattle.cip_core.proofs.cores.Core.take.Goals as goal
 
 pub returns-clause-up : goal.returns-clause-up
@@ -25,3 +25,8 @@ returns-clause-frame c = grind (arith, common_steps)
 
 pub returns-clause-first : goal.returns-clause-first
 returns-clause-first c = grind (arith, common_steps)
+
+pub invariant_of-self : goal.invariant_of-self
+invariant_of-self c =
+    let core : CoreState = record { program = c.self.inside.program.now; reduced = c.self.inside.reduced.now; steps = c.self.inside.steps.now; pool = c.self.inside.pool; tree = c.self.inside.tree; incumbent = c.self.inside.incumbent; touched = c.self.inside.touched } in
+    (sound_tree core _ c.self.invariant.0, c.self.invariant.1)

@@ -1,3 +1,4 @@
+use Rattle.std.proofs.lemmas.Result.{MatchResult-from_err}
 use Rattle.std.proofs.lemmas.Grind.{common_steps}
 use Rattle.std.proofs.Common.{◌≡◌, ◌+◌, IfSome, length, false, true, ◌∙◌, sym, ap, subst, arith, to_z, of_z}
 use mir.Syntax.{w128}
@@ -15,7 +16,7 @@ use Rattle.cip_node.specs.NodeEnds.{HasEnded}
 use Rattle.cip_node.specs.SameRows.{rows_of}
 use Rattle.cip_node.specs.declared.ends.NodeEnd.TheVariants as by
 use Rattle.cip_node.proofs.EndLaws.{pruned_ended, halved_ended}
-use Rattle.cip_node.proofs.Ruled.{core_place, place_within}
+use Rattle.cip_node.proofs.Ruled.{core_place, place_within, not_settled}
 use Rattle.cip_node.proofs.works.NodeWork.branch.Goals as goal
 
 pub close_pruned-requires-clause-up : goal.close_pruned-requires-clause-up
@@ -87,3 +88,12 @@ place_by-requires-clause-columns c =
 
 pub unreachable-unreachable : goal.unreachable-unreachable
 unreachable-unreachable c = grind (arith, common_steps)
+
+pub unreachable-requires : goal.unreachable-requires
+unreachable-requires c =
+    let core = c.args.self.now.core in
+    not_settled (reduced_of core).integral core.tree.work (region_of core.tree c.args.node) c.requires.open_.full.region c.requires.open_.open_ c.in-None.ensures
+
+pub returns-in_err-low-in-Some-clause-ended : goal.returns-in_err-low-in-Some-clause-ended
+returns-in_err-low-in-Some-clause-ended c =
+    MatchResult-from_err c.from_residual.result _ _ c.from_residual.ensures.0 (λ _. c.in_err-low-in-Some.ensures.split)

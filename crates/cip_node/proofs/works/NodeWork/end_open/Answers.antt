@@ -73,7 +73,10 @@ pub returns-in-Err-clause-rows : goal.returns-in-Err-clause-rows
 returns-in-Err-clause-rows c = grind (arith, common_steps)
 
 pub close_empty-requires-clause-up : goal.close_empty-requires-clause-up
-close_empty-requires-clause-up c = grind (arith, common_steps)
+close_empty-requires-clause-up c = c.bound_in_rounds.ensures.later.at_work.up
 
 pub go_back-requires-clause-up : goal.go_back-requires-clause-up
-go_back-requires-clause-up c = grind (arith, common_steps)
+go_back-requires-clause-up c = c.bound_in_rounds.ensures.later.at_work.up
+
+pub bound_in_rounds-requires : goal.bound_in_rounds-requires
+bound_in_rounds-requires c = record { up = c.requires.can.up; region = c.requires.open_.full.region }

@@ -55,7 +55,7 @@ returns-in-Ok-clause-touched c =
     ap (λ (rows : Pool × Bool). rows.1) c.end.ensures.rows ∙ ap (λ (k : CoreState). k.touched) c.look.ensures.frame ∙ ap (λ (k : CoreState). k.touched) c.age.ensures.frame
 
 pub look-requires : goal.look-requires
-look-requires c = grind (arith, common_steps)
+look-requires c = c.age.ensures.up c.args.node c.requires.up
 
 pub returns-in-Err-clause-aged : goal.returns-in-Err-clause-aged
 returns-in-Err-clause-aged c = grind (arith, common_steps)
@@ -67,4 +67,4 @@ pub end-requires-clause-look : goal.end-requires-clause-look
 end-requires-clause-look c = grind (arith, common_steps)
 
 pub go_back-requires-clause-up : goal.go_back-requires-clause-up
-go_back-requires-clause-up c = grind (arith, common_steps)
+go_back-requires-clause-up c = c.look.ensures.up
