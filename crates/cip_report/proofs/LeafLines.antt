@@ -1,5 +1,6 @@
 -- The lines of a leaf, of its values and of its choices, up to a column and past it.
-use Rattle.std.proofs.Common.{◌≡◌, ℕ, zero, suc, ◌<◌, ◌≤◌, Bool, true, false, List, [], ◌∷◌, ◌++◌, length, map, take, drop, get_or, Some, refl, sym, ap, ◌∙◌, subst, arith, append_assoc, append-nil, length-append}
+use Rattle.std.proofs.Common.{◌≡◌, ℕ, zero, suc, ◌+◌, ◌<◌, ◌≤◌, Bool, true, false, List, [], ◌∷◌, ◌++◌, length, map, take, drop, get_or, Some, refl, sym, ap, ◌∙◌, subst, arith, add-one, append_assoc, append-nil, length-append}
+use lib.Chars.{codes}
 use Rattle.std.specs.Prelude.{slice_get}
 use Rattle.std.proofs.lemmas.List.{length-map, take_all}
 use Rattle.std.proofs.lemmas.Option.{none-some, same_Some}
@@ -7,8 +8,11 @@ use Rattle.cip_rational.specs.Rational.{ℚ}
 use Rattle.cip_rational.specs.NumberText.{fraction_text}
 use Rattle.cip_search.specs.Leaf.{at_wholes}
 use Rattle.cip_problem.specs.Program.{Choice}
-use Rattle.cip_problem.specs.Choices.{is_open}
+use Rattle.cip_problem.specs.Choices.{choice_at, is_open}
 use Rattle.cip_search.specs.Figures.{line, point_lines, leaf_name, choice_text, choice_lines}
+use Rattle.cip_io.specs.Sink.{SinkTells}
+use Rattle.cip_report.specs.Writing.{Passes}
+use Rattle.cip_report.proofs.WritingLemmas.{Passes-more}
 
 -- one more whole column
 pub wholes_more : (whole : List Bool) (names : List (List ℕ)) (n : ℕ) (name : List ℕ) → n < length whole → get_or whole n false ≡ true → slice_get names n ≡ Some name → at_wholes (take (suc n) whole) (take (suc n) names) ≡ at_wholes (take n whole) (take n names) ++ name ∷ []
@@ -107,6 +111,17 @@ module _ {Item : Type 0} (text : Item → List ℕ) (lines : List (List ℕ) →
       ∙ subst (λ k. lines (before ++ name ∷ []) (take (suc k) items) ≡ lines before (take k items) ++ line (leaf_name name) (text item)) (sym p)
       (leaf_more before name items item (omega (arith, p, q)) (v ∙ ap (λ k. get_or items k item) p))
 
+  -- a line more was written
+  pub step_passes : {O : Type 0} (tells : O → SinkTells) (start : SinkTells) (at out new : O) (front held kept buffered shown : List ℕ) (whole : List Bool) (names : List (List ℕ)) (n : ℕ) (name : List ℕ) (place next : ℕ) (items : List Item) (item : Item) → n < length whole → get_or whole n false ≡ true → slice_get names n ≡ Some name → place ≡ length (at_wholes (take n whole) (take n names)) → place < length items → item ≡ get_or items place item → new ≡ out → kept ≡ buffered → next ≡ place + 1 → shown ≡ text item → Passes start (tells at) (front ++ lines (at_wholes (take n whole) (take n names)) (take place items)) held → Passes (tells at) (tells out) (held ++ line (leaf_name name) shown) buffered → Passes start (tells new) (front ++ lines (at_wholes (take (n + 1) whole) (take (n + 1) names)) (take next items)) kept
+  step_passes tells start at out new front held kept buffered shown whole names n name place next items item l e f p q v o b x s old step =
+      rw (o, b, x, add-one, add-one, lines_more whole names n name place items item l e f p q v, ← append_assoc front (lines (at_wholes (take n whole) (take n names)) (take place items)) (line (leaf_name name) (text item)))
+      (Passes-more start (tells at) (tells out) _ held (line (leaf_name name) (text item)) buffered old (subst (λ t. Passes (tells at) (tells out) (held ++ line (leaf_name name) t) buffered) s step))
+
+  -- none was, of a column without one
+  pub same_passes : {O : Type 0} (tells : O → SinkTells) (start : SinkTells) (at new : O) (front held kept : List ℕ) (whole : List Bool) (names : List (List ℕ)) (n place next : ℕ) (items : List Item) → n < length whole → get_or whole n false ≡ false → new ≡ at → kept ≡ held → next ≡ place → Passes start (tells at) (front ++ lines (at_wholes (take n whole) (take n names)) (take place items)) held → Passes start (tells new) (front ++ lines (at_wholes (take (n + 1) whole) (take (n + 1) names)) (take next items)) kept
+  same_passes tells start at new front held kept whole names n place next items l e o b x old =
+      rw (o, b, x, add-one, wholes_same whole names n l e) old
+
 pub place_more : (whole : List Bool) (names : List (List ℕ)) (n : ℕ) (name : List ℕ) (place : ℕ) → n < length whole → get_or whole n false ≡ true → slice_get names n ≡ Some name → place ≡ length (at_wholes (take n whole) (take n names)) → suc place ≡ length (at_wholes (take (suc n) whole) (take (suc n) names))
 place_more whole names n name place l e f p =
     let parts = ap length (wholes_more whole names n name l e f) in
@@ -142,3 +157,26 @@ all_lines choices names on n place l e p =
 
 pub few_flags : (choices : List Choice) (n : ℕ) → n < length choices → n < length (map is_open choices)
 few_flags choices n l = subst (λ k. n < k) (sym (length-map choices is_open)) l
+
+-- an open choice at a column
+pub open_at : (choices : List Choice) (n : ℕ) (choice : Choice) (open_ : Bool) → n < length choices → choice ≡ get_or choices n choice → open_ ≡ is_open choice → open_ ≡ true → is_open (choice_at choices n) ≡ true
+open_at [] n choice open_ l e f t = absurd (omega (arith, l))
+open_at (c ∷ cs) zero choice open_ l e f t = ap is_open (sym e) ∙ sym f ∙ t
+open_at (c ∷ cs) (suc n) choice open_ l e f t = open_at cs n choice open_ (omega (arith, l)) e f t
+
+pub step_placed : (whole : List Bool) (names : List (List ℕ)) (n : ℕ) (name : List ℕ) (place next : ℕ) → n < length whole → get_or whole n false ≡ true → slice_get names n ≡ Some name → next ≡ place + 1 → place ≡ length (at_wholes (take n whole) (take n names)) → next ≡ length (at_wholes (take (n + 1) whole) (take (n + 1) names))
+step_placed whole names n name place next l e f x p = rw (x, add-one, add-one) (place_more whole names n name place l e f p)
+
+pub same_placed : (whole : List Bool) (names : List (List ℕ)) (n place next : ℕ) → n < length whole → get_or whole n false ≡ false → next ≡ place → place ≡ length (at_wholes (take n whole) (take n names)) → next ≡ length (at_wholes (take (n + 1) whole) (take (n + 1) names))
+same_placed whole names n place next l e x p = rw (x, add-one, wholes_same whole names n l e) p
+
+-- ---- the lines of what is lent
+
+pub value_lines_as : (whole whole' : List Bool) (names names' : List (List ℕ)) (leaf leaf' : List ℚ) → whole ≡ whole' → names ≡ names' → leaf ≡ leaf' → value_lines (at_wholes whole names) leaf ≡ value_lines (at_wholes whole' names') leaf'
+value_lines_as whole whole' names names' leaf leaf' w n l = rw (w, n, l) refl
+
+pub on_lines_as : (choices choices' : List Choice) (names names' : List (List ℕ)) (on on' : List Bool) → choices ≡ choices' → names ≡ names' → on ≡ on' → on_lines (at_wholes (map is_open choices) names) on ≡ on_lines (at_wholes (map is_open choices') names') on'
+on_lines_as choices choices' names names' on on' k n o = rw (k, n, o) refl
+
+pub ray_lines_as : (names names' : List (List ℕ)) (ray ray' : List ℚ) → names ≡ names' → ray ≡ ray' → point_lines (map (λ (name : List ℕ). codes "ray " ++ name) names) ray ≡ point_lines (map (λ (name : List ℕ). codes "ray " ++ name) names') ray'
+ray_lines_as names names' ray ray' n r = rw (n, r) refl

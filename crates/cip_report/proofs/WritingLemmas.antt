@@ -1,11 +1,13 @@
 -- Texts that are written one after another.
 use Rattle.std.proofs.Common.{◌≡◌, ◌+◌, ◌<◌, ◌≤◌, ℕ, List, [], ◌++◌, length, take, drop, get_or, map, Bor, zero, suc, refl, sym, ap, ◌∙◌, Some, None, Ok, Err, arith, append_assoc, append-nil, length-append, ◌∷◌, subst}
+use lib.Chars.{codes}
 use Rattle.std.specs.Prelude.{Option, Result, IsErr, OnOk, MatchResult, slice_get, flat_map}
 use Rattle.std.specs.Io.KnownBytes.{append_known}
 use Rattle.std.proofs.Math.Seq.{take-append-add}
 use Rattle.std.proofs.lemmas.Grind.{flat_map-append}
 use Rattle.std.proofs.lemmas.List.{take-append-le, take_more, take-append-drop}
 use Rattle.std.proofs.lemmas.Option.{same_Some}
+use Rattle.cip_io.specs.Faults.{CountsFaults, Rose}
 use Rattle.cip_io.specs.Sink.{SinkTells, TakesAll, PushesPart}
 use Rattle.cip_rational.specs.Rational.{ℚ}
 use Rattle.cip_rational.specs.NumberText.{fraction_text}
@@ -204,3 +206,41 @@ pub joined_fails : {T E : Type 0} (result : Result T E) (texts : List (Bor (List
 joined_fails result texts k text old mid new front held buffered failed l first part =
     subst (λ t. Writes result old new (front ++ t) buffered) (sym (joined_parts texts k text l))
     (second_of_three result old mid new front (joined (take k texts)) (get_or texts k text).now (joined (drop (k + 1) texts)) held buffered failed first part)
+
+-- ---- texts in other words
+
+pub Passes-as : (old new : SinkTells) (front text shown buffered : List ℕ) → shown ≡ text → Passes old new (front ++ shown) buffered → Passes old new (front ++ text) buffered
+Passes-as old new front text shown buffered e h = subst (λ t. Passes old new (front ++ t) buffered) e h
+
+pub PushesPart-as : (old new : SinkTells) (front text shown : List ℕ) → shown ≡ text → PushesPart old new (front ++ shown) → PushesPart old new (front ++ text)
+PushesPart-as old new front text shown e h = subst (λ t. PushesPart old new (front ++ t)) e h
+
+pub Writes-as : {T E : Type 0} (result : Result T E) (old new : SinkTells) (front text shown buffered : List ℕ) → shown ≡ text → Writes result old new (front ++ shown) buffered → Writes result old new (front ++ text) buffered
+Writes-as result old new front text shown buffered e h = subst (λ t. Writes result old new (front ++ t) buffered) e h
+
+-- two parts of a text
+pub Writes-parts : {T E : Type 0} (result : Result T E) (old new : SinkTells) (front first way second value side end buffered : List ℕ) → first ≡ value → second ≡ side → Writes result old new (front ++ (first ++ (way ++ (second ++ end)))) buffered → Writes result old new (front ++ (value ++ (way ++ (side ++ end)))) buffered
+Writes-parts result old new front first way second value side end buffered f s h =
+    subst (λ x. Writes result old new (front ++ (x ++ (way ++ (side ++ end)))) buffered) f
+    (subst (λ y. Writes result old new (front ++ (first ++ (way ++ (y ++ end)))) buffered) s h)
+
+-- ---- the line of a status, which is written first
+
+pub status_passes : (old mid : SinkTells) (front word shown held : List ℕ) → front ≡ [] → word ≡ shown → Passes old mid (front ++ line (codes "status") word) held → Passes old mid (line (codes "status") shown) held
+status_passes old mid front word shown held none e h =
+    subst (λ w. Passes old mid (line (codes "status") w) held) e (subst (λ f. Passes old mid (f ++ line (codes "status") word) held) none h)
+
+pub status_fails : (old new : SinkTells) (front word shown : List ℕ) → front ≡ [] → word ≡ shown → PushesPart old new (front ++ line (codes "status") word) → PushesPart old new (line (codes "status") shown)
+status_fails old new front word shown none e h =
+    subst (λ w. PushesPart old new (line (codes "status") w)) e (subst (λ f. PushesPart old new (f ++ line (codes "status") word)) none h)
+
+-- ---- counts of faults
+
+-- behind calls that left the count as it was, one failed
+pub counts_failed : {T E : Type 0} (result : Result T E) (old mid new : ℕ) → IsErr result → mid ≡ old → Rose mid new → CountsFaults result old new
+counts_failed (Ok x) old mid new failed same rose = absurd (cc)
+counts_failed (Err e) old mid new failed same rose = (tt, subst (λ n. Rose n new) same rose)
+
+-- behind such calls comes one more
+pub counts_behind : {T E : Type 0} (result : Result T E) (old mid new : ℕ) → mid ≡ old → CountsFaults result mid new → CountsFaults result old new
+counts_behind result old mid new same h = subst (λ n. CountsFaults result n new) same h

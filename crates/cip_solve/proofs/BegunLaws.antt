@@ -156,6 +156,10 @@ module _ (program : Program) (start : Option ℚ) (holds : IfSome start (IsBound
     marks = tt;
   }
 
+-- and there is no ray
+pub no_ray : (ray : List ℚ) → ends.NoMemory ≡ ends.Unbounded ray → ⊥
+no_ray ray e = cc
+
 -- nor by whatever would have worked on nodes
 pub unsearched_by : (program : Program) (nodes : ℕ) (asked : Option ℚ) (presolve alone : Bool) (log : List Entry) (marks : List (ℕ × Mark)) (answer : ends.Answer) → log ≡ [] → marks ≡ [] → IsSolved program nodes asked [] [] answer → IsSolvedBy program nodes asked presolve alone log marks answer
 unsearched_by program nodes asked presolve alone log marks answer l m s =

@@ -64,6 +64,10 @@ pub spent_same : {A B : Type 0} (left : A → B) (p : A → Bool) (spent : List 
 spent_same left p spent x rest whole all e w h = ap (λ ys. spent ++ map left ys) (sym (ap (filter p) w ∙ filter_cond p x rest false e)) ∙ h
 
 -- none is left
+pub kept_all : {A : Type 0} (p : A → Bool) (kept first : List A) (done start whole : List A) → done ≡ [] → start ≡ whole → kept ++ filter p done ≡ first ++ filter p start → kept ≡ first ++ filter p whole
+kept_all p kept first done start whole d s h =
+    sym (append-nil kept) ∙ (sym (ap (λ xs. kept ++ filter p xs) d) ∙ (h ∙ ap (λ xs. first ++ filter p xs) s))
+
 pub spent_all : {A B : Type 0} (left : A → B) (p : A → Bool) (spent first : List B) (done start whole : List A) → done ≡ [] → start ≡ whole → spent ++ map left (filter p done) ≡ first ++ map left (filter p start) → spent ≡ first ++ map left (filter p whole)
 spent_all left p spent first done start whole d s h =
     sym (append-nil spent) ∙ (sym (ap (λ xs. spent ++ map left (filter p xs)) d) ∙ (h ∙ ap (λ xs. first ++ map left (filter p xs)) s))

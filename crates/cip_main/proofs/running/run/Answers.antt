@@ -31,7 +31,7 @@ pub solve_and_report-status-requires-clause-some : goal.solve_and_report-status-
 solve_and_report-status-requires-clause-some g c = grind (arith, common_steps)
 
 pub solve_drawn-status-requires-clause-few : goal.solve_drawn-status-requires-clause-few
-solve_drawn-status-requires-clause-few g c = grind (arith, common_steps)
+solve_drawn-status-requires-clause-few g c = c.requires.few
 
 pub solve_and_report-status-requires-clause-few : goal.solve_and_report-status-requires-clause-few
-solve_and_report-status-requires-clause-few g c = grind (arith, common_steps)
+solve_and_report-status-requires-clause-few g c = c.requires.few

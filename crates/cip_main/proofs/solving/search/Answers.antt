@@ -1,20 +1,19 @@
-use Rattle.std.proofs.lemmas.Grind.{common_steps}
-use Rattle.std.proofs.Common.{◌≡◌, ◌++◌, ◌∷◌, [], refl, rules, arith}
+use Rattle.std.proofs.Common.{◌∙◌, refl, sym, arith}
 use Rattle.cip_solve.proofs.PassedOn.{near_columns}
 use Rattle.cip_input.specs.WordsRead.{limits_of}
-use Rattle.cip_main.proofs.Searches.{few_less, not_searched_still, searched_less}
+use Rattle.cip_main.proofs.Searches.{few_less, not_searched_still, room_for, pushed_there, searched_less}
 use Rattle.cip_main.proofs.solving.search.Goals as goal
 
 pub returns-then-is_err : goal.returns-then-is_err
 returns-then-is_err g c =
-    let same : c.reserve.new.self.items ≡ c.args.logs.now.items = search rules in record {
-      searched = not_searched_still c.args.program.now (limits_of c.args.limits.now) c.args.logs.now.items c.reserve.new.self.items _ _ c.unsearched.result same refl (c.unsearched.ensures.solved c.args.limits.now.nodes c.args.limits.now.gap) c.unsearched.ensures.trace;
+    record {
+      searched = not_searched_still c.args.program.now (limits_of c.args.limits.now) c.args.logs.now.items c.reserve.new.self.items _ _ c.unsearched.result c.reserve.ensures.items refl (c.unsearched.ensures.solved c.args.limits.now.nodes c.args.limits.now.gap) c.unsearched.ensures.trace;
     }
 
 pub returns-in_default : goal.returns-in_default
 returns-in_default g c =
-    let same : c.reserve.new.self.items ≡ c.args.logs.now.items = search rules in record {
-      searched = not_searched_still c.args.program.now (limits_of c.args.limits.now) c.args.logs.now.items c.reserve.new.self.items _ _ c.unsearched-in_default.result same (search rules) (c.unsearched-in_default.ensures.solved c.args.limits.now.nodes c.args.limits.now.gap) c.unsearched-in_default.ensures.trace;
+    record {
+      searched = not_searched_still c.args.program.now (limits_of c.args.limits.now) c.args.logs.now.items c.reserve.new.self.items _ _ c.unsearched-in_default.result c.reserve.ensures.items c.in_default.ensures.err (c.unsearched-in_default.ensures.solved c.args.limits.now.nodes c.args.limits.now.gap) c.unsearched-in_default.ensures.trace;
     }
 
 pub solve-answer-requires-clause-near : goal.solve-answer-requires-clause-near
@@ -25,7 +24,9 @@ solve-answer-requires-clause-few g c = few_less (limits_of c.args.limits.now) _ 
 
 pub returns : goal.returns
 returns g c =
-    let pushed : c.push.new.self.items ≡ c.args.logs.now.items ++ c.solve-answer.new.log ∷ [] = search rules in record {
+    let room = room_for c.reserve.result _ _ (sym c.is_err.ensures.value ∙ c.if-is_err.false) c.reserve.ensures.ok in
+    let pushed = pushed_there c.push.result _ _ _ c.solve-answer.new.log c.reserve.ensures.items c.push.ensures.items (c.push.ensures.succeeds room) in
+    record {
       searched = searched_less c.args.program.now (limits_of c.args.limits.now) _ _ c.solve-answer.new.log _ _ _ c.solve-answer.result c.in-Ok.ensures.less pushed c.solve-answer.ensures.solved c.solve-answer.ensures.kit;
     }
 
@@ -33,4 +34,4 @@ pub lessen-requires : goal.lessen-requires
 lessen-requires g c = omega arith
 
 pub solve-answer-requires-clause-some : goal.solve-answer-requires-clause-some
-solve-answer-requires-clause-some g c = grind (arith, common_steps)
+solve-answer-requires-clause-some g c = c.requires.some

@@ -1,3 +1,4 @@
+use Rattle.std.proofs.lemmas.Result.{IfOk-from_err}
 use Rattle.std.proofs.lemmas.Grind.{common_steps}
 use Rattle.std.proofs.lemmas.List.{append-nil}
 use Rattle.std.proofs.Common.{◌≡◌, arith, sym, ap, add-one, subst, true, ℕ, ◌++◌, ◌-◌, ◌∙◌}
@@ -39,3 +40,6 @@ value_at-cost-requires-clause-from c = grind (arith, common_steps)
 
 pub value_at-cost-requires-clause-rising : goal.value_at-cost-requires-clause-rising
 value_at-cost-requires-clause-rising c = grind (arith, common_steps)
+
+pub returns-in_err-push : goal.returns-in_err-push
+returns-in_err-push c = IfOk-from_err c.from_residual.result _ c.from_residual.ensures.0

@@ -1,3 +1,4 @@
+use Rattle.std.proofs.lemmas.Result.{IfOk-from_err}
 use Rattle.std.proofs.lemmas.Grind.{common_steps}
 use Rattle.std.proofs.Common.{arith}
 use Rattle.cip_text_rules.specs.MpsBounds.{Bounded, settled}
@@ -17,3 +18,6 @@ returns c = mapped_all (λ (column : Bounded). (settled column).whole) c.args.co
 
 pub offset_bounds-columns-column-index : goal.offset_bounds-columns-column-index
 offset_bounds-columns-column-index c = grind (arith, common_steps)
+
+pub returns-in_err-push : goal.returns-in_err-push
+returns-in_err-push c = IfOk-from_err c.from_residual.result _ c.from_residual.ensures.0

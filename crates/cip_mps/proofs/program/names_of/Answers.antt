@@ -1,3 +1,4 @@
+use Rattle.std.proofs.lemmas.Result.{IfOk-from_err}
 use Rattle.std.proofs.lemmas.Grind.{common_steps}
 use Rattle.std.proofs.lemmas.List.{take_all}
 use Rattle.std.proofs.Common.{◌++◌, ◌∷◌, [], cond, refl, ap, sym, ◌∙◌, take, add-one, arith, length, ◌≤◌, ap₂}
@@ -41,3 +42,6 @@ loop-number-init c = grind (arith, common_steps)
 
 pub same-kept : goal.same-kept
 same-kept c = grind (arith, common_steps)
+
+pub returns-in_err-keep_name : goal.returns-in_err-keep_name
+returns-in_err-keep_name c = IfOk-from_err c.from_residual.result _ c.from_residual.ensures.0

@@ -1,3 +1,4 @@
+use Rattle.std.proofs.lemmas.Result.{IfOk-from_err}
 use Rattle.std.proofs.lemmas.Grind.{common_steps}
 use Rattle.cip_mps.proofs.RowLaws.{last_pushed}
 use Rattle.cip_text_rules.specs.MpsState.{RowRead, no_row}
@@ -33,3 +34,9 @@ returns-then-is_err-clause-err c = grind (arith, common_steps)
 
 pub returns-then-is_err-clause-ok : goal.returns-then-is_err-clause-ok
 returns-then-is_err-clause-ok c = grind (arith, common_steps)
+
+pub returns-in_err-owned-clause-ok : goal.returns-in_err-owned-clause-ok
+returns-in_err-owned-clause-ok c = IfOk-from_err c.from_residual.result _ c.from_residual.ensures.0
+
+pub returns-in_err-push-clause-ok : goal.returns-in_err-push-clause-ok
+returns-in_err-push-clause-ok c = IfOk-from_err c.from_residual-in_err-push.result _ c.from_residual-in_err-push.ensures.0

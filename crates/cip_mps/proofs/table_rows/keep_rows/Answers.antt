@@ -1,3 +1,4 @@
+use Rattle.std.proofs.lemmas.Result.{IfOk-from_err}
 use Rattle.std.proofs.lemmas.Grind.{common_steps}
 use Rattle.std.proofs.Common.{rules, ap, sym, arith}
 use Rattle.std.specs.Prelude.{not}
@@ -38,3 +39,6 @@ loop-row-preserved-in_ok-push-derived c = grind (arith, common_steps)
 
 pub loop-row-preserved-derived : goal.loop-row-preserved-derived
 loop-row-preserved-derived c = grind (arith, common_steps)
+
+pub returns-in_err-push : goal.returns-in_err-push
+returns-in_err-push c = IfOk-from_err c.from_residual.result _ c.from_residual.ensures.0

@@ -1,13 +1,12 @@
 use Rattle.std.proofs.lemmas.Grind.{common_steps}
 use Rattle.std.proofs.Common.{◌≡◌, ◌<◌, ℕ, Some, length, get_or, List, refl, sym, ◌∙◌, subst, arith}
 use Rattle.std.specs.Prelude.{slice_get}
-use Rattle.std.proofs.lemmas.Option.{slice_get_within, slice_get_read, get_or_from_slice_get, same_Some}
+use Rattle.std.proofs.lemmas.Option.{slice_get_within, slice_get_read, same_Some}
 use Rattle.cip_problem.specs.Program.{Row}
-use Rattle.cip_problem.specs.Box.{Between}
 use Rattle.cip_model.specs.declared.verdicts.Place.{Place}
 use Rattle.cip_model.specs.Meaning.{IsOutside, IsFractional, IsBroken, RowOverflows, Overflows}
-use Rattle.cip_report.proofs.ToldSides.{outside_told, value_there}
-use Rattle.cip_report.proofs.WritingLemmas.{no_name}
+use Rattle.cip_report.proofs.ToldSides.{outside_told, value_there, sides_broken, bound_line, whole_line, row_line, wide_line}
+use Rattle.cip_report.proofs.WritingLemmas.{Writes-as}
 use Rattle.cip_report.proofs.checks.write_verdict.Goals as goal
 
 pub write_broken-requires : goal.write_broken-requires
@@ -22,8 +21,9 @@ returns-in-BreaksBound-clause-taken g c =
     let held : IsOutside c.args.program.now c.args.point.now c.in-BreaksBound.col = rw c.in-BreaksBound.is at c.requires.meaning in
     let within : c.in-BreaksBound.col < length c.args.point.now = subst (λ n. c.in-BreaksBound.col < n) (sym c.requires.long) held.is_column in
     let value = value_there c.args.point.now c.in-BreaksBound.col c.index-point-number.result within c.index-point-number.is in
-    let name = get_or_from_slice_get c.column_names.result.now c.in-BreaksBound.col c.name-name.result.now no_name c.name-name.ensures in
-    rw (c.in-BreaksBound.is, ← value, ← c.told_sides-sides.ensures, ← c.column_names.ensures.names, name) c.write_broken.ensures.taken
+    Writes-as c.write_broken.result _ _ c.args.buffer.now _ _ _
+    (bound_line c.args.program.now c.args.point.now c.args.verdict.now c.name-name.result.now c.column_names.result.now c.in-BreaksBound.col c.name-name.ensures c.index-point-number.result c.told_sides-sides.result c.in-BreaksBound.is value c.told_sides-sides.ensures c.column_names.ensures.names)
+    c.write_broken.ensures.taken
 
 pub name-name-requires-in-BreaksWhole : goal.name-name-requires-in-BreaksWhole
 name-name-requires-in-BreaksWhole g c =
@@ -45,8 +45,9 @@ returns-in-BreaksWhole-clause-taken g c =
     let among : c.in-BreaksWhole.col < length c.args.program.now.integral = slice_get_within _ _ _ held.integral in
     let within : c.in-BreaksWhole.col < length c.args.point.now = subst (λ n. c.in-BreaksWhole.col < n) (c.column_names-in-BreaksWhole.ensures.formed.integral ∙ sym c.requires.long) among in
     let value = value_there c.args.point.now c.in-BreaksWhole.col c.index-point-number-in-BreaksWhole.result within c.index-point-number-in-BreaksWhole.is in
-    let name = get_or_from_slice_get c.column_names-in-BreaksWhole.result.now c.in-BreaksWhole.col c.name-name-in-BreaksWhole.result.now no_name c.name-name-in-BreaksWhole.ensures in
-    rw (c.in-BreaksWhole.is, ← value, ← c.column_names-in-BreaksWhole.ensures.names, name) c.write_number-in-BreaksWhole.ensures.taken
+    Writes-as c.write_number-in-BreaksWhole.result _ _ c.args.buffer.now _ _ _
+    (whole_line c.args.program.now c.args.point.now c.args.verdict.now c.name-name-in-BreaksWhole.result.now c.column_names-in-BreaksWhole.result.now c.in-BreaksWhole.col c.name-name-in-BreaksWhole.ensures c.index-point-number-in-BreaksWhole.result c.in-BreaksWhole.is value c.column_names-in-BreaksWhole.ensures.names)
+    c.write_number-in-BreaksWhole.ensures.taken
 
 pub name-name-requires-in-BreaksRow : goal.name-name-requires-in-BreaksRow
 name-name-requires-in-BreaksRow g c =
@@ -70,8 +71,7 @@ write_broken-requires-in-BreaksRow g c =
     slice_get_read c.args.program.now.rows _ c.in-BreaksRow.row item refl among
     (subst (λ (rows : List Row). item ≡ get_or rows c.in-BreaksRow.row item) c.rows.ensures.rows c.index-rows-number.is) in
     let same : held.row ≡ item = same_Some held.row item (sym held.is_row ∙ row) in
-    let broken : ¬ Between held.row.low held.row.high c.in-BreaksRow.value = rw held.is_activity held.broken in
-    rw (c.low.ensures, c.high.ensures, ← same) broken
+    sides_broken held.row item c.low.result c.high.result c.in-BreaksRow.value _ same c.low.ensures c.high.ensures held.is_activity held.broken
 
 pub returns-in-BreaksRow-clause-taken : goal.returns-in-BreaksRow-clause-taken
 returns-in-BreaksRow-clause-taken g c =
@@ -81,8 +81,9 @@ returns-in-BreaksRow-clause-taken g c =
     let row : slice_get c.args.program.now.rows c.in-BreaksRow.row ≡ Some item =
     slice_get_read c.args.program.now.rows _ c.in-BreaksRow.row item refl among
     (subst (λ (rows : List Row). item ≡ get_or rows c.in-BreaksRow.row item) c.rows.ensures.rows c.index-rows-number.is) in
-    let name = get_or_from_slice_get c.row_names.result.now c.in-BreaksRow.row c.name-name-in-BreaksRow.result.now no_name c.name-name-in-BreaksRow.ensures in
-    rw (c.in-BreaksRow.is, row, ← c.low.ensures, ← c.high.ensures, ← c.row_names.ensures.names, name) c.write_broken-in-BreaksRow.ensures.taken
+    Writes-as c.write_broken-in-BreaksRow.result _ _ c.args.buffer.now _ _ _
+    (row_line c.args.program.now c.args.point.now c.args.verdict.now c.name-name-in-BreaksRow.result.now c.row_names.result.now c.in-BreaksRow.row c.name-name-in-BreaksRow.ensures c.in-BreaksRow.value item c.low.result c.high.result c.in-BreaksRow.is row c.low.ensures c.high.ensures c.row_names.ensures.names)
+    c.write_broken-in-BreaksRow.ensures.taken
 
 pub name-row_name-requires : goal.name-row_name-requires
 name-row_name-requires g c =
@@ -94,8 +95,9 @@ name-row_name-requires g c =
 
 pub returns-in-Row-clause-taken : goal.returns-in-Row-clause-taken
 returns-in-Row-clause-taken g c =
-    let name = get_or_from_slice_get c.row_names-rows.result.now c.in-Row.number c.name-row_name.result.now no_name c.name-row_name.ensures in
-    rw (c.in-Wide.is, c.in-Row.is, ← c.row_names-rows.ensures.names, name) c.write_line.ensures.taken
+    Writes-as c.write_line.result _ _ c.args.buffer.now _ _ _
+    (wide_line c.args.program.now c.args.point.now c.args.verdict.now c.name-row_name.result.now c.row_names-rows.result.now c.in-Row.number c.name-row_name.ensures c.in-Wide.place c.in-Wide.is c.in-Row.is c.row_names-rows.ensures.names)
+    c.write_line.ensures.taken
 
 pub returns-in-Feasible-clause-taken : goal.returns-in-Feasible-clause-taken
 returns-in-Feasible-clause-taken g c = grind (arith, common_steps)

@@ -5,7 +5,7 @@ use Rattle.cip_events.specs.declared.words.Word.TheVariants.{Init}
 use Rattle.cip_search.specs.TraceTexts.{trace_line, trace_lines}
 use Rattle.cip_report.specs.Traces.{traced_line}
 use Rattle.cip_report.specs.Writing.{Passes}
-use Rattle.cip_report.proofs.WritingLemmas.{second_of_three, Passes-more}
+use Rattle.cip_report.proofs.WritingLemmas.{second_of_three, Passes-more, counts_failed}
 use Rattle.cip_report.proofs.TraceLemmas.{trace_parts, trace_lines-more}
 use Rattle.cip_report.proofs.traces.write_kept.Goals as goal
 
@@ -55,3 +55,6 @@ overflow_add-place g c = grind (arith, common_steps)
 
 pub returns-clause-faults : goal.returns-clause-faults
 returns-clause-faults g c = grind (arith, common_steps)
+
+pub returns-in_err-write_traced-clause-faults : goal.returns-in_err-write_traced-clause-faults
+returns-in_err-write_traced-clause-faults g c = counts_failed c.from_residual.result _ _ _ c.from_residual.ensures.0 c.loop-place.invariant.1 c.in_err-write_traced.ensures.faults.1

@@ -5,7 +5,7 @@ use Rattle.cip_report.specs.declared.figures.Ended.{Ended}
 use Rattle.cip_report.specs.declared.figures.Ended.TheVariants.{Infeasible}
 use Rattle.cip_report.specs.Answers.{status_of, figures_of}
 use Rattle.cip_report.specs.Writing.{Writes}
-use Rattle.cip_report.proofs.WritingLemmas.{first_of_three, second_of_three, third_of_three}
+use Rattle.cip_report.proofs.WritingLemmas.{first_of_three, second_of_three, third_of_three, counts_failed}
 use Rattle.cip_report.proofs.writing.write_figures.Goals as goal
 
 -- the figures of a search with another end are all there
@@ -50,3 +50,9 @@ returns-in-Infeasible-clause-taken g c = grind (arith, common_steps)
 
 pub write_held-requires : goal.write_held-requires
 write_held-requires g c = grind (arith, common_steps)
+
+pub returns-in_err-write_costs-in_default-clause-faults : goal.returns-in_err-write_costs-in_default-clause-faults
+returns-in_err-write_costs-in_default-clause-faults g c = counts_failed c.from_residual.result _ _ _ c.from_residual.ensures.0 refl c.in_err-write_costs-in_default.ensures.faults.1
+
+pub returns-in_err-write_held-in_default-clause-faults : goal.returns-in_err-write_held-in_default-clause-faults
+returns-in_err-write_held-in_default-clause-faults g c = counts_failed c.from_residual-in_err-write_held-in_default.result _ _ _ c.from_residual-in_err-write_held-in_default.ensures.0 c.in_ok-write_costs-in_default.ensures.faults.0 c.in_err-write_held-in_default.ensures.faults.1

@@ -1,12 +1,12 @@
 use Rattle.std.proofs.lemmas.Grind.{common_steps}
-use Rattle.std.proofs.Common.{◌<◌, ◌≤◌, ◌++◌, ◌∙◌, subst, false, map, get_or, take, length, append_assoc, add-one, rules, arith}
+use Rattle.std.proofs.Common.{◌<◌, ◌≤◌, ◌++◌, ◌∙◌, ap, subst, false, map, get_or, take, length, append_assoc, rules, arith}
 use Rattle.std.proofs.lemmas.List.{get_or_default}
 use Rattle.cip_problem.specs.Choices.{is_open}
 use Rattle.cip_search.specs.Leaf.{at_wholes}
-use Rattle.cip_search.specs.Figures.{line, leaf_name, choice_text}
+use Rattle.cip_search.specs.Figures.{choice_text}
 use Rattle.cip_report.specs.Writing.{Passes}
-use Rattle.cip_report.proofs.WritingLemmas.{second_of_three, Passes-more}
-use Rattle.cip_report.proofs.LeafLines.{on_lines, choices_are_lines, place_below, place_more, lines_around, lines_more, wholes_same, open_flag, few_flags, all_lines}
+use Rattle.cip_report.proofs.WritingLemmas.{second_of_three, counts_failed}
+use Rattle.cip_report.proofs.LeafLines.{on_lines, choices_are_lines, place_below, lines_around, step_passes, same_passes, step_placed, same_placed, open_flag, few_flags, all_lines, open_at}
 use Rattle.cip_report.proofs.writing.write_leaf_choices.Goals as goal
 use Rattle.cip_report.proofs.writing.write_leaf_choices.Goals.{then-is_open+in_ok-write_line, else-is_open}
 
@@ -44,20 +44,18 @@ loop-column-preserved g c =
       | then-is_open+in_ok-write_line w ↦
           let at = flag ∙ w.if-is_open.true in
           let below : c.loop-column.place < length c.args.on.now = place_below flags c.args.names.now c.loop-column.column w.name-name.result.now c.loop-column.place c.args.on.now few at w.name-name.ensures old.placed c.requires.fits in
-          let more = lines_more choice_text on_lines choices_are_lines flags c.args.names.now c.loop-column.column w.name-name.result.now c.loop-column.place c.args.on.now (get_or c.args.on.now c.loop-column.place false) few at w.name-name.ensures old.placed below (get_or_default c.args.on.now c.loop-column.place false (get_or c.args.on.now c.loop-column.place false) below) in
-          let texts = append_assoc c.args.buffer.now (on_lines (at_wholes (take c.loop-column.column flags) (take c.loop-column.column c.args.names.now)) (take c.loop-column.place c.args.on.now)) (line (leaf_name w.name-name.result.now) (choice_text (get_or c.args.on.now c.loop-column.place false))) in
-          let word = w.as_bytes-word.ensures.value ∙ w.choice_word.ensures in
           record {
-            passes = rw (w.out-is, w.buffer-is, w.place-is, add-one, add-one, more, ← texts) (Passes-more _ _ _ _ _ _ _ old.passes (rw word at w.in_ok-write_line.ensures.taken));
-            same = rw w.out-is (w.in_ok-write_line.ensures.faults.0 ∙ old.same);
-            placed = rw (w.place-is, add-one, add-one) (place_more flags c.args.names.now c.loop-column.column w.name-name.result.now c.loop-column.place few at w.name-name.ensures old.placed);
+            passes = step_passes choice_text on_lines choices_are_lines (λ o. g.K.Sink.tells o) (g.K.Sink.tells c.args.out.now) c.loop-column.out w.write_line.new.out _ c.args.buffer.now _ _ _ _ flags c.args.names.now c.loop-column.column w.name-name.result.now c.loop-column.place _ c.args.on.now (get_or c.args.on.now c.loop-column.place false) few at w.name-name.ensures old.placed below
+                (get_or_default c.args.on.now c.loop-column.place false (get_or c.args.on.now c.loop-column.place false) below) w.out-is w.buffer-is w.place-is (w.as_bytes-word.ensures.value ∙ w.choice_word.ensures) old.passes w.in_ok-write_line.ensures.taken;
+            same = ap (λ o. (g.K.Sink.tells o).faults) w.out-is ∙ (w.in_ok-write_line.ensures.faults.0 ∙ old.same);
+            placed = step_placed flags c.args.names.now c.loop-column.column w.name-name.result.now c.loop-column.place _ few at w.name-name.ensures w.place-is old.placed;
           }
       | else-is_open w ↦
-          let less = wholes_same flags c.args.names.now c.loop-column.column few (flag ∙ w.if-is_open.false) in
+          let off = flag ∙ w.if-is_open.false in
           record {
-            passes = rw (w.out-is, w.buffer-is, w.place-is, add-one, less) old.passes;
-            same = rw w.out-is old.same;
-            placed = rw (w.place-is, add-one, less) old.placed;
+            passes = same_passes choice_text on_lines choices_are_lines (λ o. g.K.Sink.tells o) (g.K.Sink.tells c.args.out.now) c.loop-column.out _ c.args.buffer.now _ _ flags c.args.names.now c.loop-column.column c.loop-column.place _ c.args.on.now few off w.out-is w.buffer-is w.place-is old.passes;
+            same = ap (λ o. (g.K.Sink.tells o).faults) w.out-is ∙ old.same;
+            placed = same_placed flags c.args.names.now c.loop-column.column c.loop-column.place _ few off w.place-is old.placed;
           }
     ]
 
@@ -78,3 +76,10 @@ offset_bounds-choices-column g c = grind (arith, common_steps)
 
 pub returns-clause-faults : goal.returns-clause-faults
 returns-clause-faults g c = grind (arith, common_steps)
+
+pub returns-in_err-write_line-clause-faults : goal.returns-in_err-write_line-clause-faults
+returns-in_err-write_line-clause-faults g c = counts_failed c.from_residual.result _ _ _ c.from_residual.ensures.0 c.loop-column.invariant.same c.in_err-write_line.ensures.faults.1
+
+pub name-name-requires : goal.name-name-requires
+name-name-requires g c =
+    c.requires.among c.loop-column.column (open_at c.args.choices.now c.loop-column.column c.index-choices-column.result c.is_open.result c.loop-column-test.true c.index-choices-column.is c.is_open.ensures c.if-is_open.true)

@@ -1,10 +1,9 @@
 use Rattle.std.proofs.lemmas.Grind.{common_steps}
-use Rattle.std.proofs.Common.{◌<◌, ◌∙◌, take, length, append_assoc, add-one, rules, arith}
+use Rattle.std.proofs.Common.{◌<◌, ◌∙◌, ap, refl, take, length, append_assoc, rules, arith}
 use Rattle.cip_rational.specs.NumberText.{fraction_text}
 use Rattle.cip_search.specs.Leaf.{at_wholes}
-use Rattle.cip_search.specs.Figures.{line, leaf_name}
-use Rattle.cip_report.proofs.WritingLemmas.{second_of_three, Passes-more}
-use Rattle.cip_report.proofs.LeafLines.{value_lines, values_are_lines, place_below, place_more, lines_around, lines_more, wholes_same}
+use Rattle.cip_report.proofs.WritingLemmas.{second_of_three, counts_failed}
+use Rattle.cip_report.proofs.LeafLines.{value_lines, values_are_lines, place_below, lines_around, step_passes, same_passes, step_placed, same_placed}
 use Rattle.cip_report.proofs.writing.write_leaf_values.Goals as goal
 use Rattle.cip_report.proofs.writing.write_leaf_values.Goals.{then-whole-column+in_ok-write_number, else-whole-column}
 
@@ -34,20 +33,18 @@ loop-column-preserved g c = elim c.if-whole-column.branch [
   | then-whole-column+in_ok-write_number w ↦
       let old = c.loop-column.invariant in
       let below : c.loop-column.place < length c.args.leaf.now = place_below c.args.whole.now c.args.names.now c.loop-column.column w.name.result.now c.loop-column.place c.args.leaf.now c.loop-column-test.true w.if-whole-column.true w.name.ensures old.placed c.requires.fits in
-      let more = lines_more fraction_text value_lines values_are_lines c.args.whole.now c.args.names.now c.loop-column.column w.name.result.now c.loop-column.place c.args.leaf.now w.index-leaf-place.result c.loop-column-test.true w.if-whole-column.true w.name.ensures old.placed below w.index-leaf-place.is in
-      let texts = append_assoc c.args.buffer.now (value_lines (at_wholes (take c.loop-column.column c.args.whole.now) (take c.loop-column.column c.args.names.now)) (take c.loop-column.place c.args.leaf.now)) (line (leaf_name w.name.result.now) (fraction_text w.index-leaf-place.result)) in
       record {
-        passes = rw (w.out-is, w.buffer-is, w.place-is, add-one, add-one, more, ← texts) (Passes-more _ _ _ _ _ _ _ old.passes w.in_ok-write_number.ensures.taken);
-        same = rw w.out-is (w.in_ok-write_number.ensures.faults.0 ∙ old.same);
-        placed = rw (w.place-is, add-one, add-one) (place_more c.args.whole.now c.args.names.now c.loop-column.column w.name.result.now c.loop-column.place c.loop-column-test.true w.if-whole-column.true w.name.ensures old.placed);
+        passes = step_passes fraction_text value_lines values_are_lines (λ o. g.K.Sink.tells o) (g.K.Sink.tells c.args.out.now) c.loop-column.out w.write_number.new.out _ c.args.buffer.now _ _ _ _ c.args.whole.now c.args.names.now c.loop-column.column w.name.result.now c.loop-column.place _ c.args.leaf.now w.index-leaf-place.result c.loop-column-test.true w.if-whole-column.true w.name.ensures old.placed below
+            w.index-leaf-place.is w.out-is w.buffer-is w.place-is refl old.passes w.in_ok-write_number.ensures.taken;
+        same = ap (λ o. (g.K.Sink.tells o).faults) w.out-is ∙ (w.in_ok-write_number.ensures.faults.0 ∙ old.same);
+        placed = step_placed c.args.whole.now c.args.names.now c.loop-column.column w.name.result.now c.loop-column.place _ c.loop-column-test.true w.if-whole-column.true w.name.ensures w.place-is old.placed;
       }
   | else-whole-column w ↦
       let old = c.loop-column.invariant in
-      let less = wholes_same c.args.whole.now c.args.names.now c.loop-column.column c.loop-column-test.true w.if-whole-column.false in
       record {
-        passes = rw (w.out-is, w.buffer-is, w.place-is, add-one, less) old.passes;
-        same = rw w.out-is old.same;
-        placed = rw (w.place-is, add-one, less) old.placed;
+        passes = same_passes fraction_text value_lines values_are_lines (λ o. g.K.Sink.tells o) (g.K.Sink.tells c.args.out.now) c.loop-column.out _ c.args.buffer.now _ _ c.args.whole.now c.args.names.now c.loop-column.column c.loop-column.place _ c.args.leaf.now c.loop-column-test.true w.if-whole-column.false w.out-is w.buffer-is w.place-is old.passes;
+        same = ap (λ o. (g.K.Sink.tells o).faults) w.out-is ∙ old.same;
+        placed = same_placed c.args.whole.now c.args.names.now c.loop-column.column c.loop-column.place _ c.loop-column-test.true w.if-whole-column.false w.place-is old.placed;
       }
 ]
 
@@ -65,3 +62,6 @@ bounds-whole-column g c = grind (arith, common_steps)
 
 pub returns-clause-faults : goal.returns-clause-faults
 returns-clause-faults g c = grind (arith, common_steps)
+
+pub returns-in_err-write_number-clause-faults : goal.returns-in_err-write_number-clause-faults
+returns-in_err-write_number-clause-faults g c = counts_failed c.from_residual.result _ _ _ c.from_residual.ensures.0 c.loop-column.invariant.same c.in_err-write_number.ensures.faults.1

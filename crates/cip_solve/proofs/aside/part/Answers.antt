@@ -2,7 +2,7 @@ use Rattle.std.proofs.lemmas.Grind.{common_steps}
 use Rattle.std.proofs.Common.{◌≡◌, ◌∷◌, ◌∙◌, ◌≤◌, ap, arith, length, rules, vec_len}
 use Rattle.std.specs.Prelude.{not}
 use Rattle.std.specs.Vec.Iter.{drain_items}
-use Rattle.cip_solve.proofs.SetAside.{off_by, kept_more, kept_same, spent_more, spent_same, spent_all}
+use Rattle.cip_solve.proofs.SetAside.{off_by, kept_more, kept_same, spent_more, spent_same, kept_all, spent_all}
 use Rattle.cip_solve.proofs.aside.part.Goals as goal
 use Rattle.cip_roster.proofs.Moving.{whole_range}
 
@@ -37,6 +37,14 @@ returns-clause-spent g c =
     let from : drain_items c.into_iter-plugin-iterator.result ≡ c.args.plugins.now.items =
     ap (λ it. drain_items it) c.into_iter-plugin-iterator.ensures.into_iter_gives ∙ all in
     spent_all _ _ _ _ _ _ _ c.in-None.ensures.steps.0 from c.loop-plugin.invariant.spent
+
+pub returns-clause-kept : goal.returns-clause-kept
+returns-clause-kept g c =
+    let fits : length c.args.plugins.now.items ≤ vec_len c.args.plugins.now = search rules in
+    let from : drain_items c.into_iter-plugin-iterator.result ≡ c.args.plugins.now.items =
+    ap (λ it. drain_items it) c.into_iter-plugin-iterator.ensures.into_iter_gives
+    ∙ (c.drain-plugin-items.ensures.rest ∙ whole_range c.args.plugins.now.items (vec_len c.args.plugins.now) fits) in
+    kept_all _ _ _ _ _ _ c.in-None.ensures.steps.0 from c.loop-plugin.invariant.kept
 
 pub loop-plugin-init : goal.loop-plugin-init
 loop-plugin-init g c = grind (arith, common_steps)

@@ -1,3 +1,4 @@
+use Rattle.std.proofs.lemmas.Result.{IfOk-from_err}
 use Rattle.std.proofs.lemmas.Grind.{common_steps}
 use Rattle.std.proofs.Common.{refl, arith}
 use Rattle.cip_solve.proofs.SetAside.{none_named, none_off, parted}
@@ -21,3 +22,9 @@ returns-clause-err g c = omega arith
 
 pub returns-then-is_empty-clause-err : goal.returns-then-is_empty-clause-err
 returns-then-is_empty-clause-err g c = omega arith
+
+pub returns-in_err-kept-clause-aside : goal.returns-in_err-kept-clause-aside
+returns-in_err-kept-clause-aside g c = IfOk-from_err c.from_residual-in_err-kept.result _ c.from_residual-in_err-kept.ensures.0
+
+pub returns-in_err-reserve-clause-aside : goal.returns-in_err-reserve-clause-aside
+returns-in_err-reserve-clause-aside g c = IfOk-from_err c.from_residual.result _ c.from_residual.ensures.0

@@ -2,7 +2,7 @@ use Rattle.std.proofs.lemmas.Grind.{common_steps}
 use Rattle.std.proofs.Common.{refl, ap, subst, arith}
 use Rattle.cip_calls.specs.CoreStates.{CoreState}
 use Rattle.cip_calls.proofs.PassedOn.{used_none}
-use Rattle.std.proofs.lemmas.Result.{IfOk-weaker}
+use Rattle.std.proofs.lemmas.Result.{IfOk-weaker, IfOk-from_err}
 use Rattle.std.specs.Prelude.{Bool}
 use Rattle.cip_rows.specs.RowPools.{Pool}
 use Rattle.cip_solve.specs.NodesReached.{IsReached}
@@ -97,3 +97,6 @@ end_leaf-requires-clause-given g c = grind (arith, common_steps)
 
 pub close_empty-requires-clause-up : goal.close_empty-requires-clause-up
 close_empty-requires-clause-up g c = grind (arith, common_steps)
+
+pub returns-in_err-end-in-Leaf-clause-used : goal.returns-in_err-end-in-Leaf-clause-used
+returns-in_err-end-in-Leaf-clause-used g c = IfOk-from_err c.from_residual.result _ c.from_residual.ensures.0

@@ -1,3 +1,4 @@
+use Rattle.std.proofs.lemmas.Result.{IfOk-from_err}
 use Rattle.std.proofs.lemmas.Grind.{common_steps}
 use Rattle.std.proofs.Common.{◌∷◌, [], ◌∙◌, length, refl, sym, ap, subst, arith}
 use Rattle.cip_plugin.specs.Calls.{Propagate}
@@ -32,13 +33,13 @@ pub propagate-requires-clause-sound : goal.propagate-requires-clause-sound
 propagate-requires-clause-sound g c = c.requires.ready.1
 
 pub returns-in-Emptied-clause-come : goal.returns-in-Emptied-clause-come
-returns-in-Emptied-clause-come g c = grind (arith, common_steps)
+returns-in-Emptied-clause-come g c = c.propagate.ensures.come
 
 pub returns-in_err-propagate-clause-come : goal.returns-in_err-propagate-clause-come
-returns-in_err-propagate-clause-come g c = grind (arith, common_steps)
+returns-in_err-propagate-clause-come g c = c.propagate.ensures.come
 
 pub tell_now-requires : goal.tell_now-requires
-tell_now-requires g c = grind (arith, common_steps)
+tell_now-requires g c = record { ready = (c.propagate.ensures.come.ready, c.propagate.ensures.come.sound) }
 
 pub look_at-requires-clause-long : goal.look_at-requires-clause-long
 look_at-requires-clause-long g c =
@@ -57,3 +58,15 @@ returns-in_ok-tell_now-in_default-clause-seen g c =
     (subst (λ i. IsBoxLook i core.tree.work.box core.tree.work.choices c.look_at.result) (c.whole.ensures.whole ∙ ap (λ (p : Program). p.integral) c.reduced-program.ensures)
     (subst (λ b. IsBoxLook c.whole.result.now b core.tree.work.choices c.look_at.result) c.bounds.ensures
     (subst (λ o. IsBoxLook c.whole.result.now c.bounds.result.now o c.look_at.result) c.choices.ensures c.look_at.ensures))))
+
+pub returns-in_err-propagate-clause-seen : goal.returns-in_err-propagate-clause-seen
+returns-in_err-propagate-clause-seen g c = IfOk-from_err c.from_residual.result _ c.from_residual.ensures.0
+
+pub returns-in_err-propagate-clause-used : goal.returns-in_err-propagate-clause-used
+returns-in_err-propagate-clause-used g c = IfOk-from_err c.from_residual.result _ c.from_residual.ensures.0
+
+pub returns-in_err-tell_now-in_default-clause-seen : goal.returns-in_err-tell_now-in_default-clause-seen
+returns-in_err-tell_now-in_default-clause-seen g c = IfOk-from_err c.from_residual-in_err-tell_now-in_default.result _ c.from_residual-in_err-tell_now-in_default.ensures.0
+
+pub returns-in_err-tell_now-in_default-clause-used : goal.returns-in_err-tell_now-in_default-clause-used
+returns-in_err-tell_now-in_default-clause-used g c = IfOk-from_err c.from_residual-in_err-tell_now-in_default.result _ c.from_residual-in_err-tell_now-in_default.ensures.0

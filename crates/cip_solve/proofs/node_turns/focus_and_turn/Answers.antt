@@ -3,7 +3,7 @@ use Rattle.std.proofs.Common.{◌∷◌, [], subst, arith}
 use Rattle.cip_events.specs.Events.{event_at}
 use Rattle.cip_events.specs.declared.events.EventKind.TheVariants.{NodeFocused}
 use Rattle.cip_plugin.specs.Calls.{OnEvent}
-use Rattle.std.proofs.lemmas.Result.{IfOk-weaker}
+use Rattle.std.proofs.lemmas.Result.{IfOk-weaker, IfOk-from_err}
 use Rattle.cip_calls.proofs.PassedOn.{come_further, used_further}
 use Rattle.cip_solve.specs.NodesReached.{IsReachedIf, IsUsedIf, asks_in_pass}
 use Rattle.cip_solve.proofs.Coming.{come_told}
@@ -52,3 +52,15 @@ returns-clause-used g c =
 
 pub returns-clause-reached : goal.returns-clause-reached
 returns-clause-reached g c = grind (arith, common_steps)
+
+pub returns-in_err-focus-clause-reached : goal.returns-in_err-focus-clause-reached
+returns-in_err-focus-clause-reached g c = IfOk-from_err c.from_residual.result _ c.from_residual.ensures.0
+
+pub returns-in_err-focus-clause-used : goal.returns-in_err-focus-clause-used
+returns-in_err-focus-clause-used g c = IfOk-from_err c.from_residual.result _ c.from_residual.ensures.0
+
+pub returns-in_err-turn-clause-reached : goal.returns-in_err-turn-clause-reached
+returns-in_err-turn-clause-reached g c = IfOk-from_err c.from_residual-in_err-turn.result _ c.from_residual-in_err-turn.ensures.0
+
+pub returns-in_err-turn-clause-used : goal.returns-in_err-turn-clause-used
+returns-in_err-turn-clause-used g c = IfOk-from_err c.from_residual-in_err-turn.result _ c.from_residual-in_err-turn.ensures.0

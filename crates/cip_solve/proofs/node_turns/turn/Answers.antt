@@ -1,3 +1,4 @@
+use Rattle.std.proofs.lemmas.Result.{IfOk-from_err}
 use Rattle.std.proofs.lemmas.Grind.{common_steps}
 use Rattle.std.proofs.Common.{Option, sym, subst, arith}
 use Rattle.cip_calls.proofs.PassedOn.{come_further}
@@ -48,7 +49,7 @@ pub returns-in-Place-clause-come : goal.returns-in-Place-clause-come
 returns-in-Place-clause-come g c = grind (arith, common_steps)
 
 pub returns-in_err-found-clause-come : goal.returns-in_err-found-clause-come
-returns-in_err-found-clause-come g c = grind (arith, common_steps)
+returns-in_err-found-clause-come g c = c.pass.ensures.come
 
 pub returns-in-Err-clause-used : goal.returns-in-Err-clause-used
 returns-in-Err-clause-used g c = grind (arith, common_steps)
@@ -64,3 +65,12 @@ returns-in-Empty-clause-used g c = grind (arith, common_steps)
 
 pub pass-requires : goal.pass-requires
 pass-requires g c = grind (arith, common_steps)
+
+pub returns-in_err-found-clause-reached : goal.returns-in_err-found-clause-reached
+returns-in_err-found-clause-reached g c = IfOk-from_err c.from_residual.result _ c.from_residual.ensures.0
+
+pub returns-in_err-found-clause-used : goal.returns-in_err-found-clause-used
+returns-in_err-found-clause-used g c = IfOk-from_err c.from_residual.result _ c.from_residual.ensures.0
+
+pub hear-requires : goal.hear-requires
+hear-requires g c = record { ready = (c.pass.ensures.come.ready, c.pass.ensures.come.sound) }

@@ -1,3 +1,4 @@
+use Rattle.std.proofs.lemmas.Result.{MatchResult-from_err, IfOk-from_err}
 use Rattle.std.proofs.lemmas.Grind.{common_steps}
 use Rattle.std.proofs.Common.{refl, arith}
 use Rattle.cip_solve.proofs.outsets.set_out.Goals as goal
@@ -55,3 +56,18 @@ returns-in-Err-clause-start g c = omega arith
 
 pub returns-in-Ok-ask-clause-err : goal.returns-in-Ok-ask-clause-err
 returns-in-Ok-ask-clause-err g c = omega arith
+
+pub returns-in_err-scratches-clause-err : goal.returns-in_err-scratches-clause-err
+returns-in_err-scratches-clause-err g c = MatchResult-from_err c.from_residual.result _ _ c.from_residual.ensures.0 (λ _. refl)
+
+pub returns-in_err-scratches-clause-begun : goal.returns-in_err-scratches-clause-begun
+returns-in_err-scratches-clause-begun g c = IfOk-from_err c.from_residual.result _ c.from_residual.ensures.0
+
+pub returns-in_err-scratches-clause-ready : goal.returns-in_err-scratches-clause-ready
+returns-in_err-scratches-clause-ready g c = IfOk-from_err c.from_residual.result _ c.from_residual.ensures.0
+
+pub returns-in_err-scratches-clause-room : goal.returns-in_err-scratches-clause-room
+returns-in_err-scratches-clause-room g c = IfOk-from_err c.from_residual.result _ c.from_residual.ensures.0
+
+pub returns-in_err-scratches-clause-start : goal.returns-in_err-scratches-clause-start
+returns-in_err-scratches-clause-start g c = IfOk-from_err c.from_residual.result _ c.from_residual.ensures.0

@@ -1,5 +1,5 @@
-use Rattle.std.proofs.lemmas.Grind.{common_steps}
-use Rattle.std.proofs.Common.{◌∷◌, [], arith}
+use Rattle.std.proofs.lemmas.Result.{IfOk-from_err}
+use Rattle.std.proofs.Common.{◌∷◌, []}
 use Rattle.cip_plugin.specs.Calls.{Search}
 use Rattle.cip_calls.proofs.PassedOn.{come_further}
 use Rattle.cip_calls.proofs.PassedOn.{points_not_sides}
@@ -34,16 +34,25 @@ returns-clause-used g c =
     (used_further [] (Search ∷ []) _ _ _ _ _ _ c.tell_now.ensures.come.sound.settled c.in_ok-tell_now.ensures.used (c.in_ok-_came.ensures.used (λ e. points_not_sides (c.in_ok-_came.ensures.sides e)))) last)
 
 pub ask_round-requires-clause-ready : goal.ask_round-requires-clause-ready
-ask_round-requires-clause-ready g c = grind (arith, common_steps)
+ask_round-requires-clause-ready g c = c.tell_now.ensures.come.ready
 
 pub ask_round-requires-clause-sound : goal.ask_round-requires-clause-sound
-ask_round-requires-clause-sound g c = grind (arith, common_steps)
+ask_round-requires-clause-sound g c = c.tell_now.ensures.come.sound
 
 pub returns-in_err-tell_now-clause-open_ : goal.returns-in_err-tell_now-clause-open_
-returns-in_err-tell_now-clause-open_ g c = grind (arith, common_steps)
+returns-in_err-tell_now-clause-open_ g c = c.requires.open_
 
 pub tell_now-requires-2 : goal.tell_now-requires-2
-tell_now-requires-2 g c = grind (arith, common_steps)
+tell_now-requires-2 g c = record { ready = (c.ask_round.ensures.come.ready, c.ask_round.ensures.come.sound) }
 
 pub tell_now-requires : goal.tell_now-requires
-tell_now-requires g c = grind (arith, common_steps)
+tell_now-requires g c = record { ready = c.requires.ready }
+
+pub returns-in_err-_came-clause-used : goal.returns-in_err-_came-clause-used
+returns-in_err-_came-clause-used g c = IfOk-from_err c.from_residual-in_err-_came.result _ c.from_residual-in_err-_came.ensures.0
+
+pub returns-in_err-tell_now-clause-used : goal.returns-in_err-tell_now-clause-used
+returns-in_err-tell_now-clause-used g c = IfOk-from_err c.from_residual.result _ c.from_residual.ensures.0
+
+pub returns-in_err-tell_now-clause-come : goal.returns-in_err-tell_now-clause-come
+returns-in_err-tell_now-clause-come g c = c.tell_now.ensures.come

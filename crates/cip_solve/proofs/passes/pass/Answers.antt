@@ -1,3 +1,4 @@
+use Rattle.std.proofs.lemmas.Result.{IfOk-from_err}
 use Rattle.std.proofs.lemmas.Grind.{common_steps}
 use Rattle.std.proofs.Common.{◌≢◌, ◌∷◌, [], ◌∙◌, sym, subst, arith}
 use Rattle.cip_plugin.specs.Calls.{Propagate, Separate, Search}
@@ -18,10 +19,10 @@ open_not_empty : Open ≢ Empty
 open_not_empty e = cc
 
 pub returns-in-Empty-clause-come : goal.returns-in-Empty-clause-come
-returns-in-Empty-clause-come g c = grind (arith, common_steps)
+returns-in-Empty-clause-come g c = c.narrow.ensures.come
 
 pub returns-in-Leaf-clause-come : goal.returns-in-Leaf-clause-come
-returns-in-Leaf-clause-come g c = grind (arith, common_steps)
+returns-in-Leaf-clause-come g c = c.narrow.ensures.come
 
 pub returns-in_err-separate-in-Open-clause-come : goal.returns-in_err-separate-in-Open-clause-come
 returns-in_err-separate-in-Open-clause-come g c = come_further _ _ _ _ _ _ _ _ _ _ _ _ _ c.narrow.ensures.come c.separate.ensures.come
@@ -56,7 +57,7 @@ pub returns-in-Ok-clause-reached : goal.returns-in-Ok-clause-reached
 returns-in-Ok-clause-reached g c = c.improve.ensures.open_
 
 pub separate-requires : goal.separate-requires
-separate-requires g c = grind (arith, common_steps)
+separate-requires g c = record { ready = (c.narrow.ensures.come.ready, c.narrow.ensures.come.sound) }
 
 pub returns-in-Err-clause-used : goal.returns-in-Err-clause-used
 returns-in-Err-clause-used g c = grind (arith, common_steps)
@@ -68,10 +69,28 @@ pub returns-in-Empty-2-clause-used : goal.returns-in-Empty-2-clause-used
 returns-in-Empty-2-clause-used g c = grind (arith, common_steps)
 
 pub narrow-requires : goal.narrow-requires
-narrow-requires g c = grind (arith, common_steps)
+narrow-requires g c = record { ready = c.requires.ready }
 
 pub returns-in-Leaf-clause-used : goal.returns-in-Leaf-clause-used
 returns-in-Leaf-clause-used g c = grind (arith, common_steps)
 
 pub returns-in-Empty-clause-used : goal.returns-in-Empty-clause-used
 returns-in-Empty-clause-used g c = grind (arith, common_steps)
+
+pub improve-requires-clause-ready : goal.improve-requires-clause-ready
+improve-requires-clause-ready g c = (c.separate.ensures.come.ready, c.separate.ensures.come.sound)
+
+pub returns-in_err-narrow-clause-reached : goal.returns-in_err-narrow-clause-reached
+returns-in_err-narrow-clause-reached g c = IfOk-from_err c.from_residual.result _ c.from_residual.ensures.0
+
+pub returns-in_err-narrow-clause-used : goal.returns-in_err-narrow-clause-used
+returns-in_err-narrow-clause-used g c = IfOk-from_err c.from_residual.result _ c.from_residual.ensures.0
+
+pub returns-in_err-separate-in-Open-clause-reached : goal.returns-in_err-separate-in-Open-clause-reached
+returns-in_err-separate-in-Open-clause-reached g c = IfOk-from_err c.from_residual-in_err-separate-in-Open.result _ c.from_residual-in_err-separate-in-Open.ensures.0
+
+pub returns-in_err-separate-in-Open-clause-used : goal.returns-in_err-separate-in-Open-clause-used
+returns-in_err-separate-in-Open-clause-used g c = IfOk-from_err c.from_residual-in_err-separate-in-Open.result _ c.from_residual-in_err-separate-in-Open.ensures.0
+
+pub returns-in_err-narrow-clause-come : goal.returns-in_err-narrow-clause-come
+returns-in_err-narrow-clause-come g c = c.narrow.ensures.come

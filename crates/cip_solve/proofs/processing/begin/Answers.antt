@@ -1,3 +1,4 @@
+use Rattle.std.proofs.lemmas.Result.{IfOk-from_err}
 use Rattle.std.proofs.lemmas.Grind.{common_steps}
 use Rattle.std.proofs.Common.{◌≡◌, ap, sym, subst, inl, ◌∙◌, arith}
 use Rattle.cip_problem.specs.WellFormed.{columns}
@@ -109,3 +110,9 @@ returns-clause-used g c = grind (arith, common_steps)
 
 pub returns-then-not-branch-clause-used : goal.returns-then-not-branch-clause-used
 returns-then-not-branch-clause-used g c = grind (arith, common_steps)
+
+pub returns-in_err-enter-clause-reached : goal.returns-in_err-enter-clause-reached
+returns-in_err-enter-clause-reached g c = IfOk-from_err c.from_residual.result _ c.from_residual.ensures.0
+
+pub returns-in_err-enter-clause-used : goal.returns-in_err-enter-clause-used
+returns-in_err-enter-clause-used g c = IfOk-from_err c.from_residual.result _ c.from_residual.ensures.0

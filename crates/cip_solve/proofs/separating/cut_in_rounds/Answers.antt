@@ -1,5 +1,6 @@
+use Rattle.std.proofs.lemmas.Result.{IfOk-from_err}
 use Rattle.std.proofs.lemmas.Grind.{common_steps}
-use Rattle.std.proofs.Common.{◌∷◌, [], ◌∙◌, sym, arith}
+use Rattle.std.proofs.Common.{◌∷◌, [], ◌∙◌, refl, sym, arith}
 use Rattle.cip_plugin.specs.Calls.{Separate}
 use Rattle.cip_calls.proofs.PassedOn.{come_further}
 use Rattle.cip_calls.proofs.PassedOn.{used_further, used_again, accepted_open}
@@ -61,7 +62,28 @@ pub returns-in_default : goal.returns-in_default
 returns-in_default g c = grind (arith, common_steps)
 
 pub returns-in_err-came-clause-region : goal.returns-in_err-came-clause-region
-returns-in_err-came-clause-region g c = grind (arith, common_steps)
+returns-in_err-came-clause-region g c = c.cut_once.ensures.region
 
 pub returns-in_err-tell_now-clause-region : goal.returns-in_err-tell_now-clause-region
-returns-in_err-tell_now-clause-region g c = grind (arith, common_steps)
+returns-in_err-tell_now-clause-region g c = refl
+
+pub cut_once-requires-in-loop-clause-ready : goal.cut_once-requires-in-loop-clause-ready
+cut_once-requires-in-loop-clause-ready g c = (c.loop.invariant.come.ready, c.loop.invariant.come.sound)
+
+pub returns-in_err-came-2-clause-found : goal.returns-in_err-came-2-clause-found
+returns-in_err-came-2-clause-found g c = IfOk-from_err c.from_residual-in_err-came-2.result _ c.from_residual-in_err-came-2.ensures.0
+
+pub returns-in_err-came-2-clause-used : goal.returns-in_err-came-2-clause-used
+returns-in_err-came-2-clause-used g c = IfOk-from_err c.from_residual-in_err-came-2.result _ c.from_residual-in_err-came-2.ensures.0
+
+pub returns-in_err-came-clause-found : goal.returns-in_err-came-clause-found
+returns-in_err-came-clause-found g c = IfOk-from_err c.from_residual-in_err-came.result _ c.from_residual-in_err-came.ensures.0
+
+pub returns-in_err-came-clause-used : goal.returns-in_err-came-clause-used
+returns-in_err-came-clause-used g c = IfOk-from_err c.from_residual-in_err-came.result _ c.from_residual-in_err-came.ensures.0
+
+pub returns-in_err-tell_now-clause-found : goal.returns-in_err-tell_now-clause-found
+returns-in_err-tell_now-clause-found g c = IfOk-from_err c.from_residual.result _ c.from_residual.ensures.0
+
+pub returns-in_err-tell_now-clause-used : goal.returns-in_err-tell_now-clause-used
+returns-in_err-tell_now-clause-used g c = IfOk-from_err c.from_residual.result _ c.from_residual.ensures.0

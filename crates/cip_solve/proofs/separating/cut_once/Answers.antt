@@ -1,5 +1,6 @@
+use Rattle.std.proofs.lemmas.Result.{IfOk-from_err}
 use Rattle.std.proofs.lemmas.Grind.{common_steps}
-use Rattle.std.proofs.Common.{◌≡◌, ◌∷◌, [], ◌∙◌, refl, sym, subst, arith}
+use Rattle.std.proofs.Common.{◌∷◌, [], ◌∙◌, refl, sym, subst, arith}
 use Rattle.cip_plugin.specs.Calls.{Separate}
 use Rattle.cip_calls.proofs.PassedOn.{come_further}
 use Rattle.cip_calls.proofs.PassedOn.{cuts_not_sides, quiet_left}
@@ -24,7 +25,7 @@ returns-in_default-clause-found g c =
     (c.ask_round.ensures.node cuts_not_sides) c.requires.found)
 
 pub returns-in_default-clause-come : goal.returns-in_default-clause-come
-returns-in_default-clause-come g c = grind (arith, common_steps)
+returns-in_default-clause-come g c = c.ask_round.ensures.come
 
 pub returns-in_default-clause-used : goal.returns-in_default-clause-used
 returns-in_default-clause-used g c = grind (arith, common_steps)
@@ -62,11 +63,25 @@ pub returns-in-Open-clause-found : goal.returns-in-Open-clause-found
 returns-in-Open-clause-found g c =
     let core = c.solve_lp.new.work.core in
     let node = c.solve_lp.new.node in
-    let kept : c.in-Open.newer ≡ c.replace.new.dest = cc in
-    subst (IsFoundAt core node) kept (subst (IsBounded core node) c.in-Open.is c.in_ok-solve_lp-in-Accepted.ensures.bounded)
+    subst (IsFoundAt core node) (sym c.replace.ensures.after) (subst (IsBounded core node) c.in-Open.is c.in_ok-solve_lp-in-Accepted.ensures.bounded)
 
 pub returns-in_err-came-clause-come : goal.returns-in_err-came-clause-come
-returns-in_err-came-clause-come g c = grind (arith, common_steps)
+returns-in_err-came-clause-come g c = c.ask_round.ensures.come
 
 pub ask_round-requires-clause-ready : goal.ask_round-requires-clause-ready
-ask_round-requires-clause-ready g c = grind (arith, common_steps)
+ask_round-requires-clause-ready g c = c.requires.ready.0
+
+pub solve_lp-requires : goal.solve_lp-requires
+solve_lp-requires g c = record { ready = (c.ask_round.ensures.come.ready, c.ask_round.ensures.come.sound) }
+
+pub returns-in_err-came-clause-found : goal.returns-in_err-came-clause-found
+returns-in_err-came-clause-found g c = IfOk-from_err c.from_residual.result _ c.from_residual.ensures.0
+
+pub returns-in_err-came-clause-used : goal.returns-in_err-came-clause-used
+returns-in_err-came-clause-used g c = IfOk-from_err c.from_residual.result _ c.from_residual.ensures.0
+
+pub returns-in_err-solve_lp-in-Accepted-clause-found : goal.returns-in_err-solve_lp-in-Accepted-clause-found
+returns-in_err-solve_lp-in-Accepted-clause-found g c = IfOk-from_err c.from_residual-in_err-solve_lp-in-Accepted.result _ c.from_residual-in_err-solve_lp-in-Accepted.ensures.0
+
+pub returns-in_err-solve_lp-in-Accepted-clause-used : goal.returns-in_err-solve_lp-in-Accepted-clause-used
+returns-in_err-solve_lp-in-Accepted-clause-used g c = IfOk-from_err c.from_residual-in_err-solve_lp-in-Accepted.result _ c.from_residual-in_err-solve_lp-in-Accepted.ensures.0

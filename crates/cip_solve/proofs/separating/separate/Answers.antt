@@ -1,3 +1,4 @@
+use Rattle.std.proofs.lemmas.Result.{IfOk-from_err}
 use Rattle.std.proofs.lemmas.Grind.{common_steps}
 use Rattle.std.proofs.Common.{◌∷◌, [], ◌∙◌, sym, subst, arith}
 use Rattle.cip_plugin.specs.Calls.{Separate}
@@ -42,16 +43,16 @@ returns-in-Ok-clause-bounded g c =
     subst (λ (b : Bounded). IsBounded core node b) (sym c.left_by.ensures) (bounded_by c.in-Ok.came core node c.cut_in_rounds.new.found c.in-Ok.ensures.found)
 
 pub returns-in-Empty-clause-come : goal.returns-in-Empty-clause-come
-returns-in-Empty-clause-come g c = grind (arith, common_steps)
+returns-in-Empty-clause-come g c = c.solve_lp.ensures.come
 
 pub returns-in-Empty-clause-region : goal.returns-in-Empty-clause-region
-returns-in-Empty-clause-region g c = grind (arith, common_steps)
+returns-in-Empty-clause-region g c = c.solve_lp.ensures.region
 
 pub returns-in_err-solve_lp-clause-region : goal.returns-in_err-solve_lp-clause-region
-returns-in_err-solve_lp-clause-region g c = grind (arith, common_steps)
+returns-in_err-solve_lp-clause-region g c = c.solve_lp.ensures.region
 
 pub returns-in_err-solve_lp-clause-come : goal.returns-in_err-solve_lp-clause-come
-returns-in_err-solve_lp-clause-come g c = grind (arith, common_steps)
+returns-in_err-solve_lp-clause-come g c = c.solve_lp.ensures.come
 
 pub returns-in-Err-clause-used : goal.returns-in-Err-clause-used
 returns-in-Err-clause-used g c = grind (arith, common_steps)
@@ -60,4 +61,13 @@ pub returns-in-Err-clause-bounded : goal.returns-in-Err-clause-bounded
 returns-in-Err-clause-bounded g c = grind (arith, common_steps)
 
 pub solve_lp-requires : goal.solve_lp-requires
-solve_lp-requires g c = grind (arith, common_steps)
+solve_lp-requires g c = record { ready = c.requires.ready }
+
+pub cut_in_rounds-requires-clause-ready : goal.cut_in_rounds-requires-clause-ready
+cut_in_rounds-requires-clause-ready g c = (c.solve_lp.ensures.come.ready, c.solve_lp.ensures.come.sound)
+
+pub returns-in_err-solve_lp-clause-bounded : goal.returns-in_err-solve_lp-clause-bounded
+returns-in_err-solve_lp-clause-bounded g c = IfOk-from_err c.from_residual.result _ c.from_residual.ensures.0
+
+pub returns-in_err-solve_lp-clause-used : goal.returns-in_err-solve_lp-clause-used
+returns-in_err-solve_lp-clause-used g c = IfOk-from_err c.from_residual.result _ c.from_residual.ensures.0

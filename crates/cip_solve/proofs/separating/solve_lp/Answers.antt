@@ -1,3 +1,4 @@
+use Rattle.std.proofs.lemmas.Result.{IfOk-from_err}
 use Rattle.std.proofs.lemmas.Grind.{common_steps}
 use Rattle.std.proofs.Common.{refl, ap, arith}
 use Rattle.std.specs.Prelude.{Bool}
@@ -61,3 +62,6 @@ returns-in-Err-clause-bounded g c = grind (arith, common_steps)
 
 pub bound-requires : goal.bound-requires
 bound-requires g c = grind (arith, common_steps)
+
+pub returns-in_err-bounded-clause-bounded : goal.returns-in_err-bounded-clause-bounded
+returns-in_err-bounded-clause-bounded g c = IfOk-from_err c.from_residual.result _ c.from_residual.ensures.0

@@ -1,5 +1,5 @@
 use Rattle.std.proofs.lemmas.Grind.{common_steps}
-use Rattle.std.proofs.Common.{◌∙◌, ap, false, inl, refl, sym, subst, true≢false, arith}
+use Rattle.std.proofs.Common.{◌∙◌, ap, false, inl, refl, sym, subst, true≢false, length, arith}
 use Rattle.cip_problem.specs.Program.{Program}
 use Rattle.cip_problem.specs.WellFormed.{columns}
 use Rattle.cip_tree.specs.Entries as tree
@@ -60,16 +60,17 @@ returns-in-Ok-clause-kit g c = kit_told _ _ _ _ _ _ refl (inl (record {
 }))
 
 pub end-trace-requires-clause-sound : goal.end-trace-requires-clause-sound
-end-trace-requires-clause-sound g c = grind (arith, common_steps)
+end-trace-requires-clause-sound g c = c.search_from-answer.ensures.asked.0.1
 
 pub returns-in-Err-clause-first : goal.returns-in-Err-clause-first
-returns-in-Err-clause-first g c = grind (arith, common_steps)
+returns-in-Err-clause-first g c =
+    subst (StopsFirst c.args.program.now c.args.options.now.gap) (sym (ap tree.entries_of c.clear.ensures.items)) (c.unsearched.ensures.first c.args.options.now.gap)
 
 pub returns-in-Err-clause-kit : goal.returns-in-Err-clause-kit
 returns-in-Err-clause-kit g c = grind (arith, common_steps)
 
 pub returns-in-Err-clause-nodes : goal.returns-in-Err-clause-nodes
-returns-in-Err-clause-nodes g c = grind (arith, common_steps)
+returns-in-Err-clause-nodes g c = c.unsearched.ensures.nodes ∙ sym (ap length (ap tree.entries_of c.clear.ensures.items))
 
 pub search_from-answer-requires-clause-some : goal.search_from-answer-requires-clause-some
 search_from-answer-requires-clause-some g c = omega arith

@@ -1,3 +1,4 @@
+use Rattle.std.proofs.lemmas.Result.{IfOk-from_err}
 use Rattle.std.proofs.lemmas.Grind.{common_steps}
 use Rattle.std.proofs.Common.{subst, sym, ◌∙◌, arith}
 use Rattle.cip_roster.specs.Turns.{IsSound}
@@ -30,3 +31,6 @@ returns-clause-sound g c = grind (arith, common_steps)
 
 pub returns-in_err-queue_both-clause-frame : goal.returns-in_err-queue_both-clause-frame
 returns-in_err-queue_both-clause-frame g c = grind (arith, common_steps)
+
+pub returns-in_err-queue_both-clause-used : goal.returns-in_err-queue_both-clause-used
+returns-in_err-queue_both-clause-used g c = IfOk-from_err c.from_residual.result _ c.from_residual.ensures.0

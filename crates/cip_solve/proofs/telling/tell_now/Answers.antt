@@ -1,3 +1,4 @@
+use Rattle.std.proofs.lemmas.Result.{IfOk-from_err}
 use Rattle.std.proofs.Common.{refl, subst, sym}
 use Rattle.cip_roster.specs.Turns.{IsSound}
 use Rattle.cip_calls.proofs.PassedOn.{later_at_itself}
@@ -24,3 +25,6 @@ returns-clause-come g c =
 pub returns-clause-used : goal.returns-clause-used
 returns-clause-used g c =
     told_behind (λ r. g.R.Seated.state r) (λ v. v.items) _ _ _ _ c.tell.result _ _ _ c.queue_if.ensures.roster c.queue_if.ensures.rest.1 c.tell.ensures.used
+
+pub returns-in_err-queue_if-clause-used : goal.returns-in_err-queue_if-clause-used
+returns-in_err-queue_if-clause-used g c = IfOk-from_err c.from_residual.result _ c.from_residual.ensures.0

@@ -1,3 +1,4 @@
+use Rattle.std.proofs.lemmas.Result.{IfOk-from_err}
 use Rattle.std.proofs.lemmas.Grind.{common_steps}
 use Rattle.std.proofs.Common.{◌+◌, Bool, List, length, refl, ap, sym, ◌∙◌, arith}
 use Rattle.std.specs.Prelude.{not, if◌then◌else◌}
@@ -75,3 +76,6 @@ returns-else-not-is_free_kind c =
 
 pub put_row-requires : goal.put_row-requires
 put_row-requires c = grind (arith, common_steps)
+
+pub returns-in_err-put_row : goal.returns-in_err-put_row
+returns-in_err-put_row c = IfOk-from_err c.from_residual.result _ c.from_residual.ensures.0

@@ -1,6 +1,6 @@
 use Rattle.std.proofs.lemmas.Grind.{common_steps}
 use Rattle.std.specs.Prelude.{IfSome}
-use Rattle.std.proofs.lemmas.Result.{on_ok_weaker}
+use Rattle.std.proofs.lemmas.Result.{on_ok_weaker, IfOk-from_err}
 use Rattle.cip_mps.proofs.ValueLaws.{put_one, put_two}
 use Rattle.cip_mps.specs.DraftStates.{kept}
 use Rattle.std.proofs.Common.{◌≡◌, false, ap, List, ◌∙◌, ℕ, ◌<◌, length, subst, sym, arith}
@@ -60,3 +60,6 @@ hold-requires-clause-is_column c = grind (arith, common_steps)
 
 pub hold-requires-clause-open : goal.hold-requires-clause-open
 hold-requires-clause-open c = grind (arith, common_steps)
+
+pub returns-in_err-hold : goal.returns-in_err-hold
+returns-in_err-hold c = IfOk-from_err c.from_residual.result _ c.from_residual.ensures.0

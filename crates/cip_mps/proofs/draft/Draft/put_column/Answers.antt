@@ -1,3 +1,4 @@
+use Rattle.std.proofs.lemmas.Result.{IfOk-from_err}
 use Rattle.std.proofs.lemmas.Grind.{common_steps}
 use Rattle.cip_mps.specs.FoundRows.{AreFound}
 use Rattle.cip_text_rules.specs.MpsSayings.{ColumnLine}
@@ -88,3 +89,9 @@ make_column-requires-clause-within c = grind (arith, common_steps)
 
 pub make_column-requires-clause-column : goal.make_column-requires-clause-column
 make_column-requires-clause-column c = grind (arith, common_steps)
+
+pub returns-in_err-hold_values : goal.returns-in_err-hold_values
+returns-in_err-hold_values c = IfOk-from_err c.from_residual-in_err-hold_values.result _ c.from_residual-in_err-hold_values.ensures.0
+
+pub returns-in_err-number : goal.returns-in_err-number
+returns-in_err-number c = IfOk-from_err c.from_residual.result _ c.from_residual.ensures.0

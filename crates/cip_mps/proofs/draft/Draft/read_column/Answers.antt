@@ -1,3 +1,4 @@
+use Rattle.std.proofs.lemmas.Result.{IfOk-from_err}
 use Rattle.std.proofs.lemmas.Grind.{common_steps}
 use Rattle.std.proofs.Common.{sym, ◌∙◌, arith}
 use Rattle.cip_mps_lines.specs.MpsLines.{values_of}
@@ -57,3 +58,6 @@ column_fault-fault-requires-clause-rows c = grind (arith, common_steps)
 
 pub column_fault-fault-requires-clause-within : goal.column_fault-fault-requires-clause-within
 column_fault-fault-requires-clause-within c = grind (arith, common_steps)
+
+pub returns-in_err-put_column : goal.returns-in_err-put_column
+returns-in_err-put_column c = IfOk-from_err c.from_residual.result _ c.from_residual.ensures.0

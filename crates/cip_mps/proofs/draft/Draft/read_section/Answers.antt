@@ -1,3 +1,4 @@
+use Rattle.std.proofs.lemmas.Result.{IfOk-from_err}
 use Rattle.std.proofs.lemmas.Grind.{common_steps}
 use Rattle.cip_text.specs.TextLines.{fields_left}
 use Rattle.cip_mps.proofs.TakenLaws.{faulty_step, section_is}
@@ -19,3 +20,6 @@ invariant_of-self c = grind (arith, common_steps)
 
 pub returns-in_ok-push : goal.returns-in_ok-push
 returns-in_ok-push c = grind (arith, common_steps)
+
+pub returns-in_err-push : goal.returns-in_err-push
+returns-in_err-push c = IfOk-from_err c.from_residual.result _ c.from_residual.ensures.0

@@ -1,3 +1,4 @@
+use Rattle.std.proofs.lemmas.Result.{IfOk-from_err}
 use Rattle.std.proofs.lemmas.Grind.{common_steps}
 use Rattle.std.proofs.Common.{arith}
 use Rattle.cip_mps.specs.MpsLines.{saying_of}
@@ -16,3 +17,9 @@ returns-else-is_none-clause-taken c = grind (arith, common_steps)
 
 pub returns-in_ok-move_behind-clause-taken : goal.returns-in_ok-move_behind-clause-taken
 returns-in_ok-move_behind-clause-taken c = grind (arith, common_steps)
+
+pub returns-in_err-kind-clause-taken : goal.returns-in_err-kind-clause-taken
+returns-in_err-kind-clause-taken c = IfOk-from_err c.from_residual.result _ c.from_residual.ensures.0
+
+pub returns-in_err-move_behind-clause-taken : goal.returns-in_err-move_behind-clause-taken
+returns-in_err-move_behind-clause-taken c = IfOk-from_err c.from_residual-in_err-move_behind.result _ c.from_residual-in_err-move_behind.ensures.0

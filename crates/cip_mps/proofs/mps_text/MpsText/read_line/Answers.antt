@@ -1,3 +1,4 @@
+use Rattle.std.proofs.lemmas.Result.{IfOk-from_err}
 use Rattle.std.proofs.lemmas.Grind.{common_steps}
 use Rattle.cip_mps.proofs.RowLaws.{always_ok}
 use Rattle.std.proofs.Common.{refl, arith}
@@ -44,3 +45,15 @@ returns-in-None-clause-kinds c = grind (arith, common_steps)
 
 pub returns-in-None-clause-size : goal.returns-in-None-clause-size
 returns-in-None-clause-size c = grind (arith, common_steps)
+
+pub returns-in_err-join-clause-kept : goal.returns-in_err-join-clause-kept
+returns-in_err-join-clause-kept c = IfOk-from_err c.from_residual.result _ c.from_residual.ensures.0
+
+pub returns-in_err-join-clause-kinds : goal.returns-in_err-join-clause-kinds
+returns-in_err-join-clause-kinds c = IfOk-from_err c.from_residual.result _ c.from_residual.ensures.0
+
+pub returns-in_err-join-clause-read : goal.returns-in_err-join-clause-read
+returns-in_err-join-clause-read c = IfOk-from_err c.from_residual.result _ c.from_residual.ensures.0
+
+pub returns-in_err-join-clause-size : goal.returns-in_err-join-clause-size
+returns-in_err-join-clause-size c = IfOk-from_err c.from_residual.result _ c.from_residual.ensures.0

@@ -1,5 +1,5 @@
 use Rattle.std.proofs.lemmas.Grind.{common_steps}
-use Rattle.std.proofs.Common.{◌≡◌, ◌++◌, ◌∷◌, ◌∙◌, List, map, take, length, rules, ap, sym, arith}
+use Rattle.std.proofs.Common.{◌≡◌, ◌++◌, ◌∷◌, ◌∙◌, List, map, take, length, ap, sym, arith}
 use Rattle.std.specs.List.{filter}
 use Rattle.std.specs.Vec.Iter.{into_iter_items}
 use Rattle.std.proofs.lemmas.List.{take-append-drop}
@@ -25,7 +25,7 @@ loop-group-preserved c =
     record {
       finished = ap (λ rows. rows ++ finished behind groups) kept ∙ step;
       enough = parts.1.1;
-      left = search rules;
+      left = omega (arith, c.in-Some.ensures.steps, c.loop-group.invariant.left, ap length split);
     }
 
 pub into_rows-requires : goal.into_rows-requires

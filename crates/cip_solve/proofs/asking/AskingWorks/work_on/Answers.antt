@@ -1,4 +1,7 @@
 use Rattle.std.proofs.lemmas.Grind.{common_steps}
+use Rattle.cip_problem.specs.WellFormed.{columns}
+use Rattle.cip_solve.specs.CoreStates.{reduced_of}
+use Rattle.cip_solve.specs.ProposalsJudged.{HaveRoom}
 use Rattle.cip_solve.specs.Turns.{IsSound}
 use Rattle.std.proofs.Common.{subst, sym, ◌∙◌, arith}
 use Rattle.cip_solve.specs.Wished.{Ran}
@@ -31,10 +34,13 @@ pub returns-clause-plain : goal.returns-clause-plain
 returns-clause-plain g c = grind (arith, common_steps)
 
 pub returns-clause-ready : goal.returns-clause-ready
-returns-clause-ready g c = grind (arith, common_steps)
+returns-clause-ready g c = (
+  subst (λ s. HaveRoom s (columns (reduced_of c.process.new.work.core))) (sym (c.tell_end-told.ensures.frame.0 ∙ c.take_judged-judged.ensures.frame.1)) c.process.ensures.kept.space,
+  c.tell_end-told.ensures.sound,
+)
 
 pub returns-in_err-done-clause-ready : goal.returns-in_err-done-clause-ready
-returns-in_err-done-clause-ready g c = grind (arith, common_steps)
+returns-in_err-done-clause-ready g c = (c.process.ensures.kept.space, c.process.ensures.kept.sound)
 
 pub returns-in_err-done-clause-served : goal.returns-in_err-done-clause-served
 returns-in_err-done-clause-served g c = grind (arith, common_steps)

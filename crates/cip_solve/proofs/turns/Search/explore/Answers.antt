@@ -1,9 +1,10 @@
 use Rattle.std.proofs.lemmas.Grind.{common_steps}
-use Rattle.std.proofs.Common.{◌+◌, ◌∙◌, None, ap, arith, length, inr, refl, sym, subst}
+use Rattle.std.proofs.Common.{◌+◌, ◌∙◌, None, ap, arith, length, inl, inr, refl, sym, subst}
 use Rattle.cip_solve.specs.SplitsServed.{splits_in, HasServed}
 use Rattle.cip_solve.proofs.SameSearches.{same_itself, same_further, still_of}
 use Rattle.cip_solve.proofs.Serving.{served_none}
 use Rattle.cip_solve.proofs.FirstLaws.{first_stop, short_more, none_short}
+use Rattle.cip_solve.proofs.TurnLaws.{longer_itself}
 use Rattle.cip_solve.specs.CoreStates.{reduced_of, way_of}
 use Rattle.cip_solve.proofs.turns.Search.explore.Goals as goal
 
@@ -113,3 +114,12 @@ turn-requires-clause-ready g c = grind (arith, common_steps)
 
 pub turn-requires-clause-written : goal.turn-requires-clause-written
 turn-requires-clause-written g c = grind (arith, common_steps)
+
+pub returns-clause-first : goal.returns-clause-first
+returns-clause-first g c =
+    let core = c.args.self.now.work.core in
+    let log = c.loop.self.work.core.tree.log in
+    first_stop core.program (reduced_of core) (way_of core) core.tree.root.bound c.args.asked.now log log (λ n h. refl) (longer_itself log) c.loop.invariant.short
+
+pub returns-clause-stopped : goal.returns-clause-stopped
+returns-clause-stopped g c = record { still = c.loop.invariant.standing.still; spent = λ n. inl (omega (arith, c.loop.invariant.longer)) }
