@@ -105,5 +105,3 @@ later_pooled core pool node w = record {
   ids = refl;
   same = λ u. refl;
 }
-
-

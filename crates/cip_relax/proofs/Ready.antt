@@ -15,9 +15,9 @@ is_ready problem program pool n m own held costs others formed sound = record {
   costs = ap length costs ∙ sym n;
   fits = record {
     own = subst (λ k. All (λ (row : Row). StandsBelow k row.terms) problem.own.now) (sym n)
-      (subst (λ (rows : List Row). All (λ (row : Row). StandsBelow (columns program) row.terms) rows) (sym own) formed.rows);
+        (subst (λ (rows : List Row). All (λ (row : Row). StandsBelow (columns program) row.terms) rows) (sym own) formed.rows);
     pool = subst (λ k. All (KeptFits k) problem.pool.now) (sym m)
-      (subst (λ (rows : List PoolRow). All (KeptFits pool.columns) rows) (sym held) sound.fits);
+        (subst (λ (rows : List PoolRow). All (KeptFits pool.columns) rows) (sym held) sound.fits);
     rising = subst AreRising (sym held) sound.rising;
     cutoff = tt;
   };

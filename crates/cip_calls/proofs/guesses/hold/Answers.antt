@@ -58,7 +58,7 @@ pub returns-clause-after : goal.returns-clause-after
 returns-clause-after c =
     let core = c.args.core.now in
     let answer =
-        c.offer_at-taken.ensures.offered.is_answer ∙ ap (offered core.incumbent.best) c.requires.found
-        ∙ taken_by core.incumbent.best c.args.cost true
-            (sym c.if-not-is_cheaper.false ∙ c.is_cheaper.ensures ∙ ap (costs_less c.args.cost) c.held_cost.ensures) in
+    c.offer_at-taken.ensures.offered.is_answer ∙ ap (offered core.incumbent.best) c.requires.found
+    ∙ taken_by core.incumbent.best c.args.cost true
+    (sym c.if-not-is_cheaper.false ∙ c.is_cheaper.ensures ∙ ap (costs_less c.args.cost) c.held_cost.ensures) in
     subst (IsOffered core c.offer_at-taken.new.self c.args.values.now) answer c.offer_at-taken.ensures.offered

@@ -24,7 +24,7 @@ returns-in-Ok-clause-judged c =
     let values = c.args.guess.now.values.items in
     let read = c.as_slice-values.result.now in
     let long : length values ≡ columns (reduced_of core) =
-        sym (ap length c.as_slice-values.ensures.value) ∙ c.if-values-columns.false ∙ c.columns.ensures.count ∙ ap columns c.reduced.ensures in
+    sym (ap length c.as_slice-values.ensures.value) ∙ c.if-values-columns.false ∙ c.columns.ensures.count ∙ ap columns c.reduced.ensures in
     let fits = subst (λ (x : List ℚ). FitsBack core.steps x) c.as_slice-values.ensures.value
     (subst (λ (t : StepsTaken). FitsBack t read) c.steps.ensures c.in-Ok.ensures.fits) in
     let point : c.as_slice.result.now ≡ point_back core.steps values =
@@ -65,7 +65,7 @@ judge_point-requires-clause-values c =
     let values = c.args.guess.now.values.items in
     let read = c.as_slice-values.result.now in
     let long : length values ≡ columns (reduced_of core) =
-        sym (ap length c.as_slice-values.ensures.value) ∙ c.if-values-columns.false ∙ c.columns.ensures.count ∙ ap columns c.reduced.ensures in
+    sym (ap length c.as_slice-values.ensures.value) ∙ c.if-values-columns.false ∙ c.columns.ensures.count ∙ ap columns c.reduced.ensures in
     let point : c.as_slice.result.now ≡ point_back core.steps values =
     c.as_slice.ensures.value ∙ c.in-Ok.ensures.point ∙ ap (λ (t : StepsTaken). point_back t read) c.steps.ensures
     ∙ ap (point_back core.steps) c.as_slice-values.ensures.value in

@@ -27,7 +27,6 @@ returns-in-Shown-clause-guessed c =
     let same = same_program program lent box c.rows.result.now c.as_slice.result.now c.costs.result.now c.rows.ensures.rows others c.costs.ensures.costs in
     rw c.in-Shown.is at (c.in_ok-beside.ensures.guessed lent box (length c.args.scratch.now.row.entries) same)
 
-
 pub returns-in-Shown-clause-room : goal.returns-in-Shown-clause-room
 returns-in-Shown-clause-room c = grind (arith, common_steps)
 

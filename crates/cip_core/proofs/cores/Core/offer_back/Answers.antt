@@ -42,17 +42,17 @@ offer-requires-clause-values c =
     let point = c.args.point.now in
     let steps : c.self.inside.steps.now ≡ core.steps = ap (λ (o : CoreState). o.steps) c.self.view_is in
     let back : c.as_slice.result.now ≡ point_back core.steps point =
-        c.as_slice.ensures.value ∙ c.in-Ok.ensures.point ∙ ap (λ (t : StepsTaken). point_back t point) steps in
+    c.as_slice.ensures.value ∙ c.in-Ok.ensures.point ∙ ap (λ (t : StepsTaken). point_back t point) steps in
     ap length back ∙ c.is_sound.ensures.sound.back.pair.long point (c.requires.values ∙ sym c.is_sound.ensures.reduced.bounds)
     ∙ c.is_sound.ensures.formed.bounds
 
 pub returns-in-Ok-clause-tried : goal.returns-in-Ok-clause-tried
-returns-in-Ok-clause-tried c =  λ _ fits.
+returns-in-Ok-clause-tried c = λ _ fits.
     let core = c.args.self.now in
     let point = c.args.point.now in
     let steps : c.self.inside.steps.now ≡ core.steps = ap (λ (o : CoreState). o.steps) c.self.view_is in
     let back : c.as_slice.result.now ≡ point_back core.steps point =
-        c.as_slice.ensures.value ∙ c.in-Ok.ensures.point ∙ ap (λ (t : StepsTaken). point_back t point) steps in
+    c.as_slice.ensures.value ∙ c.in-Ok.ensures.point ∙ ap (λ (t : StepsTaken). point_back t point) steps in
     let new = c.offer.new.self in
     subst (IsTried new.program (held_of new)) (back ∙ ap (λ (o : CoreState). point_back o.steps point) (sym c.offer.ensures.frame))
     c.offer.ensures.offered.tried
@@ -63,7 +63,7 @@ returns-in-Ok-clause-offered c =
     let point = c.args.point.now in
     let steps : c.self.inside.steps.now ≡ core.steps = ap (λ (o : CoreState). o.steps) c.self.view_is in
     let back : c.as_slice.result.now ≡ point_back core.steps point =
-        c.as_slice.ensures.value ∙ c.in-Ok.ensures.point ∙ ap (λ (t : StepsTaken). point_back t point) steps in
+    c.as_slice.ensures.value ∙ c.in-Ok.ensures.point ∙ ap (λ (t : StepsTaken). point_back t point) steps in
     record {
       fits = subst (λ (t : StepsTaken). FitsBack t point) steps c.in-Ok.ensures.fits;
       offered = subst (λ (p : List ℚ). IsOffered core c.offer.new.self p c.offer.result) back c.offer.ensures.offered;

@@ -10,8 +10,8 @@ continuous_sides-requires-2 c =
     let on = c.self.inside.on.now in
     let formed = c.whole-whole.ensures.formed in
     let e : c.as_slice-2.result.now ≡ decided_box program.choices program.bounds on =
-        c.as_slice-2.ensures ∙ c.in_ok-sides.ensures ∙ ap (λ cs. decided_box cs c.bounds-bounds.result.now on) c.choices-choices.ensures.choices
-        ∙ ap (λ b. decided_box program.choices b on) c.bounds-bounds.ensures.bounds in
+    c.as_slice-2.ensures ∙ c.in_ok-sides.ensures ∙ ap (λ cs. decided_box cs c.bounds-bounds.result.now on) c.choices-choices.ensures.choices
+    ∙ ap (λ b. decided_box program.choices b on) c.bounds-bounds.ensures.bounds in
     ap length c.whole-whole.ensures.whole ∙ formed.integral ∙ sym (decided_formed program on formed).bounds ∙ sym (ap length e)
 
 pub continuous_sides-requires : goal.continuous_sides-requires
