@@ -1,4 +1,5 @@
 pub mod BlockAnswers
+pub mod BlockNumbers
 pub mod EndLaws
 pub mod EndedTexts
 pub mod PassedOn

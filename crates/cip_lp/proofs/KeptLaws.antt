@@ -1,22 +1,22 @@
 -- What was said without fault keeps what the code keeps of the facts.
-use Rattle.std.proofs.Common.{◌≡◌, ℕ, ◌<◌, ◌≤◌, Bool, true, false, ◌||◌, cond, List, [], ◌∷◌, ◌++◌, length, Option, None, Some, refl, sym, ap, subst, ◌∙◌, arith}
-use Rattle.std.specs.Prelude.{All, IfSome, is_some, slice_set, Result, Ok, Err, OnOk, OnErr}
+use Rattle.std.proofs.Common.{◌≡◌, ℕ, ◌<◌, ◌≤◌, Bool, true, false, ◌||◌, ◌&&◌, not, cond, List, [], ◌∷◌, ◌++◌, length, Option, None, Some, refl, sym, ap, subst, ◌∙◌, arith}
+use Rattle.std.specs.Prelude.{All, IfSome, is_some, is_none, nat_le, slice_set, Result, Ok, Err, OnOk, OnErr}
 use Rattle.std.proofs.lemmas.Bool.{true≢false}
 use Rattle.std.proofs.lemmas.List.{length-set}
 use Rattle.std.proofs.lemmas.List.Elements.{All-nil}
 use Rattle.cip_problem.specs.Limits.{most_columns}
 use Rattle.cip_problem.specs.Program.{Row, Sides}
-use Rattle.cip_rational.specs.Rational.{ℚ, zeroℚ}
+use Rattle.cip_rational.specs.Rational.{ℚ, zeroℚ, negate}
 use Rattle.cip_text_rules.specs.MpsWords.{number_in, is_in}
 use Rattle.cip_text_rules.specs.MpsRules.{rule, least}
 use Rattle.cip_text_rules.proofs.ByLine.{or_nothing}
 use Rattle.cip_text_rules.proofs.Quiet.{right_false}
 use Rattle.cip_text_rules.specs.LpWords.{LpPart, Costs, Constraints}
 use Rattle.cip_text_rules.specs.LpPlaces.{Amount, Event, Fails, Opens, NamesObjective, Begins, AddsCost, AddsConstant, Adds, Ends, Mentions, SetsLow, SetsHigh, SetsBoth, MakesWhole, MakesBinary}
-use Rattle.cip_text_rules.specs.LpFacts.{FormTerm, LpFacts, default_sides, is_named, name_of_row, is_again, is_column_too_many, is_entry_too_many, is_long, form_with, form_term, column_number, minimized, entries_with, with_column, with_cost, with_term, with_row, terms_of, with_part, event_fault, facts_with}
+use Rattle.cip_text_rules.specs.LpFacts.{FormTerm, LpFacts, nothing_said, default_sides, is_named, name_of_row, own_name, is_again, is_column_too_many, is_entry_too_many, is_long, form_with, form_term, column_number, minimized, entries_with, with_column, with_cost, with_term, with_row, terms_of, with_part, event_fault, facts_with}
 use Rattle.cip_text_rules.specs.LpSound.{form_rises}
 use Rattle.cip_text_rules.proofs.LpEvents.{unbroken}
-use Rattle.cip_text_rules.proofs.LpFits.{event_kept, number_within}
+use Rattle.cip_text_rules.proofs.LpFits.{event_kept, number_within, first_sound}
 use Rattle.cip_lp.specs.LpDrafts.{is_among, IsKeptLp}
 use Rattle.cip_lp.specs.LpEvents.{IsLpKind, IsTaken}
 
@@ -224,3 +224,82 @@ objective_kept facts name h = record { sound = record { costs = h.sound.costs; b
 
 pub row_left : (facts : LpFacts) (name : Option (List ℕ)) (form : List FormTerm) → name ≡ None → form ≡ [] → IsKeptLp facts → IsKeptLp (record facts { row_name = name; form = form })
 row_left facts name form e f h = rw (e, f) (record { sound = record { costs = h.sound.costs; bounds = h.sound.bounds; integral = h.sound.integral; row_names = h.sound.row_names; few_columns = h.sound.few_columns; few_rows = h.sound.few_rows; room = λ s. absurd (true≢false (sym s)); few_entries = h.sound.few_entries; form = All-nil _; rising = refl; rows = h.sound.rows }; fresh = refl })
+
+pub bounds_kept : (facts : LpFacts) (bounds : List Sides) → length bounds ≡ length facts.bounds → IsKeptLp facts → IsKeptLp (record facts { bounds = bounds })
+bounds_kept facts bounds e h = record { sound = record { costs = h.sound.costs; bounds = e ∙ h.sound.bounds; integral = h.sound.integral; row_names = h.sound.row_names; few_columns = h.sound.few_columns; few_rows = h.sound.few_rows; room = h.sound.room; few_entries = h.sound.few_entries; form = h.sound.form; rising = h.sound.rising; rows = h.sound.rows }; fresh = h.fresh }
+
+pub integral_kept : (facts : LpFacts) (integral : List Bool) → length integral ≡ length facts.integral → IsKeptLp facts → IsKeptLp (record facts { integral = integral })
+integral_kept facts integral e h = record { sound = record { costs = h.sound.costs; bounds = h.sound.bounds; integral = e ∙ h.sound.integral; row_names = h.sound.row_names; few_columns = h.sound.few_columns; few_rows = h.sound.few_rows; room = h.sound.room; few_entries = h.sound.few_entries; form = h.sound.form; rising = h.sound.rising; rows = h.sound.rows }; fresh = h.fresh }
+
+pub maximized_kept : (facts : LpFacts) (maximized : Bool) → IsKeptLp facts → IsKeptLp (record facts { maximized = maximized })
+maximized_kept facts maximized h = record { sound = record { costs = h.sound.costs; bounds = h.sound.bounds; integral = h.sound.integral; row_names = h.sound.row_names; few_columns = h.sound.few_columns; few_rows = h.sound.few_rows; room = h.sound.room; few_entries = h.sound.few_entries; form = h.sound.form; rising = h.sound.rising; rows = h.sound.rows }; fresh = h.fresh }
+
+-- ---- what is said of rows
+
+-- the row in hand has ended, where it was put behind the others
+pub ended_is : {E : Type 0} (put : Result (Unit {0}) E) (f old : LpFacts) (name : List ℕ) (low high : Option ℚ) (row : Row) (row_names : List (List ℕ)) (rows : List Row) (row_name : Option (List ℕ)) (form : List FormTerm) → f ≡ old → f.row_name ≡ Some name
+    → row ≡ record { terms = terms_of f.form; low = low; high = high } → OnOk put ((row_names ≡ f.row_names ++ name ∷ []) × (rows ≡ f.rows ++ row ∷ [])) → row_name ≡ None → form ≡ []
+    → OnOk put (◌≡◌ {A = LpFacts} (record f { row_names = row_names; rows = rows; row_name = row_name; form = form }) (facts_with old (Ends low high)))
+ended_is (Err x) f old name low high row row_names rows row_name form v e r ok n t = tt
+ended_is (Ok u) f old name low high row row_names rows row_name form v e r ok n t =
+    let all : rows ≡ f.rows ++ record { terms = terms_of f.form; low = low; high = high } ∷ [] = ok.1 ∙ ap (λ (x : Row). f.rows ++ x ∷ []) r in
+    let put : ◌≡◌ {A = LpFacts} (record f { row_names = row_names; rows = rows; row_name = row_name; form = form }) (with_row f (Some name) low high) = λ i. record f { row_names = ok.0 i; rows = all i; row_name = n i; form = t i } in
+    put ∙ ap (λ (o : Option (List ℕ)). with_row f o low high) (sym e) ∙ ap (λ (g : LpFacts). with_row g g.row_name low high) v
+
+-- a row without a name of its own has begun
+pub unnamed_taken : (old new : LpFacts) (name : List ℕ) (kind : Option ℕ) → name ≡ own_name old → IsTaken old new (Begins (Some name)) kind → IsTaken old new (Begins None) kind
+unnamed_taken old new name kind e h =
+    let own : IsTaken old new (Begins (Some (own_name old))) kind = subst (λ (n : List ℕ). IsTaken old new (Begins (Some n)) kind) e h in
+    record { is_kind = own.is_kind; taken = own.taken; few = own.few }
+
+-- ---- costs, names and columns
+
+pub minimized_by : (was old : LpFacts) (value : ℚ) (maximized : Bool) → was ≡ old → was.maximized ≡ maximized → minimized old value ≡ cond maximized (negate value) value
+minimized_by was old value maximized v e = ap (λ (f : LpFacts). minimized f value) (sym v) ∙ ap (λ (b : Bool). cond b (negate value) value) e
+
+too_many : (facts : LpFacts) (name : List ℕ) (column : Option ℕ) → column ≡ number_in facts.column_names name → (is_none column && nat_le most_columns (length facts.column_names)) ≡ is_column_too_many facts name
+too_many facts name column e = ap (λ (o : Option ℕ). is_none o && nat_le most_columns (length facts.column_names)) e ∙ ap (λ (b : Bool). b && nat_le most_columns (length facts.column_names)) (none_is (number_in facts.column_names name))
+  where
+    none_is : (o : Option ℕ) → is_none o ≡ not (is_some o)
+    none_is None = refl
+    none_is (Some k) = refl
+
+-- a column that is named is one too many, has too long a name, or is taken
+pub many_said : (facts : LpFacts) (name : List ℕ) (column : Option ℕ) → column ≡ number_in facts.column_names name → true ≡ (is_none column && nat_le most_columns (length facts.column_names)) → IsTaken facts facts (Mentions name) (Some 9)
+many_said facts name column e many = record {
+  is_kind = ap (λ (b : Bool). least (rule 9 b ∷ rule 10 (is_long name) ∷ [])) (many ∙ too_many facts name column e);
+  taken = λ none. absurd (cc);
+  few = (omega arith, omega arith);
+}
+
+pub long_said : (facts : LpFacts) (name : List ℕ) (column : Option ℕ) → column ≡ number_in facts.column_names name → false ≡ (is_none column && nat_le most_columns (length facts.column_names)) → true ≡ is_long name → IsTaken facts facts (Mentions name) (Some 10)
+long_said facts name column e few long = record {
+  is_kind = λ i. least (rule 9 ((few ∙ too_many facts name column e) i) ∷ rule 10 (long i) ∷ []);
+  taken = λ none. absurd (cc);
+  few = (omega arith, omega arith);
+}
+
+pub column_said : (old new : LpFacts) (name : List ℕ) (column : Option ℕ) → column ≡ number_in old.column_names name → false ≡ (is_none column && nat_le most_columns (length old.column_names)) → false ≡ is_long name → new ≡ with_column old name → IsTaken old new (Mentions name) None
+column_said old new name column e few short n = record {
+  is_kind = λ i. least (rule 9 ((few ∙ too_many old name column e) i) ∷ rule 10 (short i) ∷ []);
+  taken = λ _. n;
+  few = tt;
+}
+
+-- the objective has its name
+pub named_said : (was old : LpFacts) (name owned : List ℕ) → was ≡ old → owned ≡ name → false ≡ is_long name → IsTaken old (record was { objective = Some owned }) (NamesObjective name) None
+named_said was old name owned v e short = record {
+  is_kind = ap (λ (b : Bool). least (rule 10 b ∷ [])) short;
+  taken = λ _. λ i. record (v i) { objective = Some (e i) };
+  few = tt;
+}
+
+-- before the first token
+pub nothing_kept : (row_names : List (List ℕ)) (rows : List Row) (column_names : List (List ℕ)) (costs : List ℚ) (bounds : List Sides) (integral : List Bool) (constant : ℚ) (form : List FormTerm)
+    → row_names ≡ [] → rows ≡ [] → column_names ≡ [] → costs ≡ [] → bounds ≡ [] → integral ≡ [] → constant ≡ zeroℚ → form ≡ []
+    → IsKeptLp (record { maximized = false; objective = None; row_names = row_names; rows = rows; row_name = None; column_names = column_names; costs = costs; bounds = bounds; integral = integral; constant = constant; form = form; entries = 0 })
+nothing_kept row_names rows column_names costs bounds integral constant form a b c d e f g h =
+    let first : IsKeptLp nothing_said = record { sound = first_sound; fresh = refl } in
+    let same : ◌≡◌ {A = LpFacts} nothing_said (record { maximized = false; objective = None; row_names = row_names; rows = rows; row_name = None; column_names = column_names; costs = costs; bounds = bounds; integral = integral; constant = constant; form = form; entries = 0 }) =
+    λ i. record { maximized = false; objective = None; row_names = sym a i; rows = sym b i; row_name = None; column_names = sym c i; costs = sym d i; bounds = sym e i; integral = sym f i; constant = sym g i; form = sym h i; entries = 0 } in
+    subst IsKeptLp same first

@@ -8,6 +8,7 @@ pub mod LastBytes
 pub mod LineLaws
 pub mod LpAnswers
 pub mod PieceLaws
+pub mod ReadLaws
 pub mod TakenLaws
 pub mod ValueLaws
 pub mod WordLaws

@@ -17,7 +17,7 @@ use Rattle.cip_text.specs.PieceFaults.{first_fault, has_kind_to}
 use Rattle.cip_text.specs.PieceStands.{progress_of, progress_after, outcome_with}
 use Rattle.cip_text.proofs.Streams.{few_kinds}
 use Rattle.cip_text_rules.specs.LpOutcome.{LpContext, lp_reading, told_kind, HasLpFault}
-use Rattle.cip_text_rules.specs.LpBytes.{LpBytes, part_read, behind, beyond, text_taken}
+use Rattle.cip_text_rules.specs.LpBytes.{LpBytes, part_read, behind, beyond, text_taken, IsTold}
 use Rattle.cip_text_rules.specs.LpTakenTexts.{last_line, TakenFaultsStay, TakenTextsComeOut}
 use Rattle.cip_lp.specs.declared.kinds.LpKind.{LpKind}
 use Rattle.cip_lp.specs.declared.lp_text.LpText.{LpText}
@@ -108,6 +108,17 @@ is_known law now text known line kind stands e few said = record {
 said_known : TakenFaultsStay → (now : LpText) (text : List ℕ) (f : Option KnownFault) (fault : TextFault LpKind) → shown_of now ≡ text_taken text → now.fault ≡ f → has_kind_to 12 f ≡ true → IsSaid kind_number (option_map as_told f) (Err fault) → IsKnown text fault.line (kind_number fault.kind)
 said_known law now text None fault stands e few said = absurd (cc said)
 said_known law now text (Some known) fault stands e few said = is_known law now text known fault.line (kind_number fault.kind) stands e few (said_by known fault said)
+
+nothing_told : (now : LpText) (bytes : List ℕ) (f : Option KnownFault) → HasCome now bytes → now.fault ≡ f → option_map as_told f ≡ None → (line kind : ℕ) → ¬ IsTold bytes line kind
+nothing_told now bytes (Some f) h e none line kind = absurd (cc none)
+nothing_told now bytes None h e none line kind = λ told.
+    let failed : progress_of None (bytes_of now) ≡ Failed line told.number = sym (ap (λ g. progress_of g (bytes_of now)) e) ∙ h ∙ told.taken in
+    absurd (cc)
+
+-- what is told of the bytes that have come
+pub answered : TakenFaultsStay → (now : LpText) (bytes : List ℕ) (result : Result (Unit {0}) (TextFault LpKind)) → HasCome now bytes → has_kind_to 12 now.fault ≡ true → IsSaid kind_number (option_map as_told now.fault) result → IsAnswered bytes result
+answered law now bytes (Ok u) h few said = nothing_told now bytes now.fault h refl said
+answered law now bytes (Err fault) h few said = said_known law now bytes now.fault fault h refl few said
 
 -- a known fault is the text's
 known_fault : (text : List ℕ) (line kind : ℕ) → IsKnown text line kind → HasLpFault text line kind

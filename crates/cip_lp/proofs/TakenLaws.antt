@@ -12,7 +12,7 @@ use Rattle.cip_lp.specs.declared.places.Stage.TheVariants.{FirstName}
 use Rattle.cip_lp.specs.LpEvents.{IsTaken}
 use Rattle.cip_lp.specs.LpTaken.{AreTaken, IsTokenTaken}
 
-later_none : (a : Option ℕ) → or_later a None ≡ a
+pub later_none : (a : Option ℕ) → or_later a None ≡ a
 later_none None = refl
 later_none (Some k) = refl
 

@@ -1,5 +1,8 @@
 pub mod Lists
+pub mod Naming
 pub mod Ready
+pub mod Refusals
+pub mod Room
 pub mod Rounding
 pub mod Solvable
 pub mod Solving

@@ -1,4 +1,4 @@
-use Rattle.std.proofs.Common.{[], rules, inl, inr}
+use Rattle.std.proofs.Common.{[], true≢false, is_err, sym, ap, rules, inl, inr}
 use Rattle.cip_text.proofs.Begun.{begun_or_spent}
 use Rattle.cip_blocks.specs.BlockTexts.{program_of}
 use Rattle.cip_blocks.specs.BlockReaders.{HasCome}
@@ -19,7 +19,7 @@ pub returns-clause-blocks : goal.returns-clause-blocks
 returns-clause-blocks c =
     elim (begun_or_spent HasCome program_of c.new-reader.result c.args.program.now c.new-reader.ensures) [
       | inl begun ↦ c.finish.ensures.reads c.args.program.now c.args.text.now (c.in_ok-feed.ensures.reads c.args.program.now [] begun).0
-      | inr spent ↦ absurd (let e = c.in_ok-feed.ensures.spent spent in cc e.0)
+      | inr spent ↦ absurd (true≢false (sym (ap is_err (c.in_ok-feed.ensures.spent spent).0)))
     ]
 
 pub returns-clause-apart : goal.returns-clause-apart
@@ -28,5 +28,5 @@ returns-clause-apart c =
       | inl begun ↦
           whole_apart c.blocks_are_apart.ensures c.args.program.now c.args.text.now c.finish.result
           (c.finish.ensures.reads c.args.program.now c.args.text.now (c.in_ok-feed.ensures.reads c.args.program.now [] begun).0)
-      | inr spent ↦ absurd (let e = c.in_ok-feed.ensures.spent spent in cc e.0)
+      | inr spent ↦ absurd (true≢false (sym (ap is_err (c.in_ok-feed.ensures.spent spent).0)))
     ]

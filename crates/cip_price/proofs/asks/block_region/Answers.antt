@@ -1,3 +1,4 @@
+use Rattle.std.proofs.lemmas.Grind.{common_steps}
 use Rattle.std.proofs.Common.{◌≡◌, ◌<◌, length, None, Some, slice_get, refl, sym, ap, ap₂, ◌∙◌, subst, arith}
 use Rattle.std.specs.Prelude.{All}
 use Rattle.std.proofs.lemmas.Option.{slice_get_read}
@@ -27,3 +28,6 @@ returns c =
     ∙ block_found c.args.task.now.program.now kept c.requires.made c.args.block c.args.task.now.bounds.now
     c.requires.block)
     (c.in-Ok.ensures ∙ (c.requires.made.subproblems c.args.block c.index-part.result.now part_is).choices)
+
+pub index-part-requires : goal.index-part-requires
+index-part-requires c = grind (arith, common_steps)

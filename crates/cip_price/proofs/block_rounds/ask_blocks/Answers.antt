@@ -1,3 +1,4 @@
+use Rattle.std.proofs.lemmas.Grind.{common_steps}
 use Rattle.std.proofs.Common.{◌+◌, [], refl, ◌∙◌, arith}
 use Rattle.cip_price.specs.PriceTasks.{task_at}
 use Rattle.cip_price.proofs.Offered.{grows_by}
@@ -43,3 +44,48 @@ loop-at-preserved g c = record {
   task = c.ask_next.ensures.task;
   room = c.ask_next.ensures.room ∙ c.loop-at.invariant.room;
 }
+
+pub loop-at-init : goal.loop-at-init
+loop-at-init g c = grind (arith, common_steps)
+
+pub returns-clause-round : goal.returns-clause-round
+returns-clause-round g c = grind (arith, common_steps)
+
+pub ask_next-requires-clause-block : goal.ask_next-requires-clause-block
+ask_next-requires-clause-block g c = grind (arith, common_steps)
+
+pub returns-then-is_full-clause-room : goal.returns-then-is_full-clause-room
+returns-then-is_full-clause-room g c = grind (arith, common_steps)
+
+pub returns-in-Err-clause-room : goal.returns-in-Err-clause-room
+returns-in-Err-clause-room g c = grind (arith, common_steps)
+
+pub overflow_cast-at : goal.overflow_cast-at
+overflow_cast-at g c = grind (arith, common_steps)
+
+pub ask_next-requires-clause-rests : goal.ask_next-requires-clause-rests
+ask_next-requires-clause-rests g c = grind (arith, common_steps)
+
+pub returns-in-Err-clause-task : goal.returns-in-Err-clause-task
+returns-in-Err-clause-task g c = grind (arith, common_steps)
+
+pub ask_next-requires-clause-room : goal.ask_next-requires-clause-room
+ask_next-requires-clause-room g c = grind (arith, common_steps)
+
+pub ask_next-requires-clause-prices : goal.ask_next-requires-clause-prices
+ask_next-requires-clause-prices g c = grind (arith, common_steps)
+
+pub returns-then-is_full-clause-task : goal.returns-then-is_full-clause-task
+returns-then-is_full-clause-task g c = grind (arith, common_steps)
+
+pub ask_next-requires-clause-task : goal.ask_next-requires-clause-task
+ask_next-requires-clause-task g c = grind (arith, common_steps)
+
+pub returns-clause-room : goal.returns-clause-room
+returns-clause-room g c = grind (arith, common_steps)
+
+pub returns-clause-task : goal.returns-clause-task
+returns-clause-task g c = grind (arith, common_steps)
+
+pub returns-clause-grows : goal.returns-clause-grows
+returns-clause-grows g c = grind (arith, common_steps)

@@ -1,4 +1,5 @@
-use Rattle.std.proofs.Common.{ℕ, ◌<◌, List, length, sym, subst}
+use Rattle.std.proofs.lemmas.Grind.{common_steps}
+use Rattle.std.proofs.Common.{ℕ, ◌<◌, List, length, sym, subst, arith}
 use Rattle.std.specs.Prelude.{All}
 use Rattle.cip_problem.specs.Program.{Row}
 use Rattle.cip_master.proofs.Numbers.{masters_inside}
@@ -10,3 +11,9 @@ crosses_row-requires c =
     (subst (λ (numbers : List ℕ). All (λ number. number < length c.args.task.now.program.now.rows) numbers)
     (sym c.master_rows.ensures)
     (masters_inside c.args.task.now.program.now c.args.task.now.blocks.now c.requires.made))
+
+pub returns : goal.returns
+returns c = grind (arith, common_steps)
+
+pub returns-then-crosses_column : goal.returns-then-crosses_column
+returns-then-crosses_column c = grind (arith, common_steps)

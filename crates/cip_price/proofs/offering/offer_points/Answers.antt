@@ -1,4 +1,5 @@
-use Rattle.std.proofs.Common.{◌+◌, List, [], length, take, drop, sym, subst}
+use Rattle.std.proofs.lemmas.Grind.{common_steps}
+use Rattle.std.proofs.Common.{◌+◌, List, [], length, take, drop, sym, subst, arith}
 use Rattle.std.proofs.lemmas.List.{take_all}
 use Rattle.std.proofs.lemmas.Result.{MatchResult-from_err}
 use Rattle.cip_cert.specs.declared.pricing.BlockPoint.{BlockPoint}
@@ -66,3 +67,24 @@ returns-clause-tells g c =
     subst (λ (ps : List BlockPoint). Tells (g.A.AskPricer.told c.args.asker.now)
     (drops_from (task_at c.args.task.now []) c.args.block 0 ps) (g.A.AskPricer.told c.loop-at.asker))
     (take_all c.loop-at.at c.args.points.now c.loop-at-test.false) c.loop-at.invariant.tells
+
+pub offer-requires-clause-block : goal.offer-requires-clause-block
+offer-requires-clause-block g c = grind (arith, common_steps)
+
+pub offer-requires-clause-task : goal.offer-requires-clause-task
+offer-requires-clause-task g c = grind (arith, common_steps)
+
+pub returns-in_err-next-clause-task : goal.returns-in_err-next-clause-task
+returns-in_err-next-clause-task g c = grind (arith, common_steps)
+
+pub bounds-points-at : goal.bounds-points-at
+bounds-points-at g c = grind (arith, common_steps)
+
+pub returns-clause-task : goal.returns-clause-task
+returns-clause-task g c = grind (arith, common_steps)
+
+pub returns-clause-grows : goal.returns-clause-grows
+returns-clause-grows g c = grind (arith, common_steps)
+
+pub offset_bounds-points-at : goal.offset_bounds-points-at
+offset_bounds-points-at g c = grind (arith, common_steps)

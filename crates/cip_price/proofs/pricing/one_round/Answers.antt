@@ -1,4 +1,5 @@
-use Rattle.std.proofs.Common.{[], Option, Some, refl, ap, ◌∙◌, subst}
+use Rattle.std.proofs.lemmas.Grind.{common_steps}
+use Rattle.std.proofs.Common.{[], Option, Some, refl, ap, ◌∙◌, subst, arith}
 use Rattle.std.proofs.lemmas.Result.{MatchResult-weaker}
 use Rattle.cip_rational.specs.Rational.{ℚ}
 use Rattle.cip_master.specs.MasterAnswers.{IsMasterAnswer}
@@ -42,3 +43,60 @@ returns-in-Unsolved-clause-step g c =
     At_cause c.in-Unsolved.cause m refl refl c.ask_master.ensures.best
     (ap Some (c.with_cause.ensures
     ∙ ap (λ (best : Option ℚ). with_cause best (Master c.in-Unsolved.cause)) c.ask_master.ensures.best))
+
+pub round_at_prices-requires-clause-ready : goal.round_at_prices-requires-clause-ready
+round_at_prices-requires-clause-ready g c = grind (arith, common_steps)
+
+pub round_at_farkas-answer-requires-clause-ready : goal.round_at_farkas-answer-requires-clause-ready
+round_at_farkas-answer-requires-clause-ready g c = grind (arith, common_steps)
+
+pub round_at_prices-requires-clause-priced : goal.round_at_prices-requires-clause-priced
+round_at_prices-requires-clause-priced g c = grind (arith, common_steps)
+
+pub returns-in_err-answer-clause-step : goal.returns-in_err-answer-clause-step
+returns-in_err-answer-clause-step g c = grind (arith, common_steps)
+
+pub returns-in_err-answer-clause-grows : goal.returns-in_err-answer-clause-grows
+returns-in_err-answer-clause-grows g c = grind (arith, common_steps)
+
+pub round_at_prices-requires-clause-best : goal.round_at_prices-requires-clause-best
+round_at_prices-requires-clause-best g c = grind (arith, common_steps)
+
+pub returns-in-Unsolved-clause-grows : goal.returns-in-Unsolved-clause-grows
+returns-in-Unsolved-clause-grows g c = grind (arith, common_steps)
+
+pub round_at_farkas-answer-requires-clause-best : goal.round_at_farkas-answer-requires-clause-best
+round_at_farkas-answer-requires-clause-best g c = grind (arith, common_steps)
+
+pub round_at_farkas-answer-requires-clause-farkas : goal.round_at_farkas-answer-requires-clause-farkas
+round_at_farkas-answer-requires-clause-farkas g c = grind (arith, common_steps)
+
+pub returns-in-Farkas-clause-stands : goal.returns-in-Farkas-clause-stands
+returns-in-Farkas-clause-stands g c = grind (arith, common_steps)
+
+pub returns-in-Prices-clause-stands : goal.returns-in-Prices-clause-stands
+returns-in-Prices-clause-stands g c = grind (arith, common_steps)
+
+pub returns-in-Prices-clause-grows : goal.returns-in-Prices-clause-grows
+returns-in-Prices-clause-grows g c = grind (arith, common_steps)
+
+pub returns-in-Farkas-clause-task : goal.returns-in-Farkas-clause-task
+returns-in-Farkas-clause-task g c = grind (arith, common_steps)
+
+pub returns-in-Farkas-clause-grows : goal.returns-in-Farkas-clause-grows
+returns-in-Farkas-clause-grows g c = grind (arith, common_steps)
+
+pub returns-in-Prices-clause-task : goal.returns-in-Prices-clause-task
+returns-in-Prices-clause-task g c = grind (arith, common_steps)
+
+pub round_at_farkas-answer-requires-clause-task : goal.round_at_farkas-answer-requires-clause-task
+round_at_farkas-answer-requires-clause-task g c = grind (arith, common_steps)
+
+pub returns-in_err-answer-clause-task : goal.returns-in_err-answer-clause-task
+returns-in_err-answer-clause-task g c = grind (arith, common_steps)
+
+pub ask_master-requires-clause-kept : goal.ask_master-requires-clause-kept
+ask_master-requires-clause-kept g c = grind (arith, common_steps)
+
+pub ask_master-requires-clause-task : goal.ask_master-requires-clause-task
+ask_master-requires-clause-task g c = grind (arith, common_steps)

@@ -1,4 +1,5 @@
-use Rattle.std.proofs.Common.{Bool, [], refl, sym, subst}
+use Rattle.std.proofs.lemmas.Grind.{common_steps}
+use Rattle.std.proofs.Common.{Bool, [], refl, sym, subst, arith}
 use Rattle.std.specs.Prelude.{MatchResult}
 use Rattle.std.proofs.lemmas.Result.{MatchResult-from_err}
 use Rattle.cip_price.specs.PriceTasks.{task_at}
@@ -36,3 +37,39 @@ returns-clause-by g c =
     (λ _. IsCutShort c.args.limits.moves (task_at c.args.task.now []) (g.A.AskPricer.told c.args.asker.now)
     (g.A.AskPricer.told c.price_in_rounds-answer.new.asker) c.args.pool.now))
     c.if-has_crossed.ensures c.price_in_rounds-answer.ensures.by
+
+pub returns-in_err-work-clause-grows : goal.returns-in_err-work-clause-grows
+returns-in_err-work-clause-grows g c = grind (arith, common_steps)
+
+pub has_crossed-requires : goal.has_crossed-requires
+has_crossed-requires g c = grind (arith, common_steps)
+
+pub returns-then-has_crossed-clause-grows : goal.returns-then-has_crossed-clause-grows
+returns-then-has_crossed-clause-grows g c = grind (arith, common_steps)
+
+pub returns-clause-holds : goal.returns-clause-holds
+returns-clause-holds g c = grind (arith, common_steps)
+
+pub returns-clause-task : goal.returns-clause-task
+returns-clause-task g c = grind (arith, common_steps)
+
+pub returns-clause-grows : goal.returns-clause-grows
+returns-clause-grows g c = grind (arith, common_steps)
+
+pub price_in_rounds-answer-requires-clause-ready : goal.price_in_rounds-answer-requires-clause-ready
+price_in_rounds-answer-requires-clause-ready g c = grind (arith, common_steps)
+
+pub price_in_rounds-answer-requires-clause-task : goal.price_in_rounds-answer-requires-clause-task
+price_in_rounds-answer-requires-clause-task g c = grind (arith, common_steps)
+
+pub returns-in_err-work-clause-task : goal.returns-in_err-work-clause-task
+returns-in_err-work-clause-task g c = grind (arith, common_steps)
+
+pub price_in_rounds-answer-requires-clause-best : goal.price_in_rounds-answer-requires-clause-best
+price_in_rounds-answer-requires-clause-best g c = grind (arith, common_steps)
+
+pub returns-then-has_crossed-clause-task : goal.returns-then-has_crossed-clause-task
+returns-then-has_crossed-clause-task g c = grind (arith, common_steps)
+
+pub new-requires : goal.new-requires
+new-requires g c = grind (arith, common_steps)

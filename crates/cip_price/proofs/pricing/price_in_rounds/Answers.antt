@@ -1,3 +1,4 @@
+use Rattle.std.proofs.lemmas.Grind.{common_steps}
 use Rattle.std.proofs.Common.{◌≡◌, ℕ, suc, ◌+◌, [], sym, subst, arith}
 use Rattle.std.proofs.lemmas.Result.{MatchResult-from_err}
 use Rattle.cip_price.specs.PriceTasks.{task_at}
@@ -83,3 +84,27 @@ returns-clause-holds g c =
     subst (PriceHolds (task_at c.args.task.now []) c.loop-round.pool) (sym c.with_cause.ensures)
     (cause_holds (task_at c.args.task.now []) c.loop-round.pool c.loop-round.work.best Rounds
     c.loop-round.invariant.best)
+
+pub returns-in-Some-clause-holds : goal.returns-in-Some-clause-holds
+returns-in-Some-clause-holds g c = grind (arith, common_steps)
+
+pub returns-in-Some-clause-task : goal.returns-in-Some-clause-task
+returns-in-Some-clause-task g c = grind (arith, common_steps)
+
+pub returns-in_err-answer-clause-task : goal.returns-in_err-answer-clause-task
+returns-in_err-answer-clause-task g c = grind (arith, common_steps)
+
+pub returns-clause-task : goal.returns-clause-task
+returns-clause-task g c = grind (arith, common_steps)
+
+pub returns-clause-grows : goal.returns-clause-grows
+returns-clause-grows g c = grind (arith, common_steps)
+
+pub one_round-requires-clause-best : goal.one_round-requires-clause-best
+one_round-requires-clause-best g c = grind (arith, common_steps)
+
+pub one_round-requires-clause-ready : goal.one_round-requires-clause-ready
+one_round-requires-clause-ready g c = grind (arith, common_steps)
+
+pub one_round-requires-clause-task : goal.one_round-requires-clause-task
+one_round-requires-clause-task g c = grind (arith, common_steps)

@@ -1,4 +1,5 @@
-use Rattle.std.proofs.Common.{[], refl, ◌∙◌}
+use Rattle.std.proofs.lemmas.Grind.{common_steps}
+use Rattle.std.proofs.Common.{[], refl, ◌∙◌, arith}
 use Rattle.cip_price.specs.PriceTasks.{task_at}
 use Rattle.cip_price.proofs.Standing.{none_held, open_going, round_trees, ready_grown, prices_stand}
 use Rattle.cip_price.proofs.Led.{round_may}
@@ -33,3 +34,45 @@ returns-clause-stands g c =
     refl c.ask_blocks.ensures.room c.in-Ok-sum_at_prices.ensures.fits)
     c.raised-work.ensures c.decided-answer.result c.args.mixed.weights c.args.mixed.cost c.requires.priced
     c.decided-answer.ensures
+
+pub sum_at_prices-requires-clause-task : goal.sum_at_prices-requires-clause-task
+sum_at_prices-requires-clause-task g c = grind (arith, common_steps)
+
+pub returns-clause-behind : goal.returns-clause-behind
+returns-clause-behind g c = grind (arith, common_steps)
+
+pub sum_at_prices-requires-clause-multipliers : goal.sum_at_prices-requires-clause-multipliers
+sum_at_prices-requires-clause-multipliers g c = grind (arith, common_steps)
+
+pub returns-in_default-clause-behind : goal.returns-in_default-clause-behind
+returns-in_default-clause-behind g c = grind (arith, common_steps)
+
+pub returns-in_default-sum_at_prices-clause-task : goal.returns-in_default-sum_at_prices-clause-task
+returns-in_default-sum_at_prices-clause-task g c = grind (arith, common_steps)
+
+pub returns-in_default-sum_at_prices-clause-grows : goal.returns-in_default-sum_at_prices-clause-grows
+returns-in_default-sum_at_prices-clause-grows g c = grind (arith, common_steps)
+
+pub ask_blocks-requires-clause-room : goal.ask_blocks-requires-clause-room
+ask_blocks-requires-clause-room g c = grind (arith, common_steps)
+
+pub ask_blocks-requires-clause-rests : goal.ask_blocks-requires-clause-rests
+ask_blocks-requires-clause-rests g c = grind (arith, common_steps)
+
+pub ask_blocks-requires-clause-prices : goal.ask_blocks-requires-clause-prices
+ask_blocks-requires-clause-prices g c = grind (arith, common_steps)
+
+pub returns-in_default-clause-task : goal.returns-in_default-clause-task
+returns-in_default-clause-task g c = grind (arith, common_steps)
+
+pub returns-in_default-clause-grows : goal.returns-in_default-clause-grows
+returns-in_default-clause-grows g c = grind (arith, common_steps)
+
+pub ask_blocks-requires-clause-task : goal.ask_blocks-requires-clause-task
+ask_blocks-requires-clause-task g c = grind (arith, common_steps)
+
+pub returns-in_default-sum_at_prices-clause-stands : goal.returns-in_default-sum_at_prices-clause-stands
+returns-in_default-sum_at_prices-clause-stands g c = grind (arith, common_steps)
+
+pub returns-in_default-clause-stands : goal.returns-in_default-clause-stands
+returns-in_default-clause-stands g c = grind (arith, common_steps)

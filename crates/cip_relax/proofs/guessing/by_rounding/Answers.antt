@@ -18,15 +18,6 @@ pub returns-in-None-clause-guessed : goal.returns-in-None-clause-guessed
 returns-in-None-clause-guessed c = λ lent box columns same.
     c.beside_point-in-None.ensures lent box columns same tt
 
-pub returns-in-Bound-clause-room : goal.returns-in-Bound-clause-room
-returns-in-Bound-clause-room c = grind (arith, common_steps)
-
-pub returns-in-None-clause-room : goal.returns-in-None-clause-room
-returns-in-None-clause-room c = grind (arith, common_steps)
-
-pub returns-in-Empty-clause-room : goal.returns-in-Empty-clause-room
-returns-in-Empty-clause-room c = grind (arith, common_steps)
-
 pub beside_point-requires : goal.beside_point-requires
 beside_point-requires c = grind (arith, common_steps)
 
@@ -38,3 +29,12 @@ safe_bound-requires-clause-ready c = grind (arith, common_steps)
 
 pub safe_bound-requires-clause-room : goal.safe_bound-requires-clause-room
 safe_bound-requires-clause-room c = grind (arith, common_steps)
+
+pub returns-in-Bound-clause-room : goal.returns-in-Bound-clause-room
+returns-in-Bound-clause-room c = c.safe_bound.ensures.room
+
+pub returns-in-None-clause-room : goal.returns-in-None-clause-room
+returns-in-None-clause-room c = c.safe_bound.ensures.room
+
+pub returns-in-Empty-clause-room : goal.returns-in-Empty-clause-room
+returns-in-Empty-clause-room c = c.safe_bound.ensures.room

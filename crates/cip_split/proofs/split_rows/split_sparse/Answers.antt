@@ -136,3 +136,6 @@ returns-in-Some-clause-others c = grind (arith, common_steps)
 
 pub returns-in-Some-clause-columns : goal.returns-in-Some-clause-columns
 returns-in-Some-clause-columns c = grind (arith, common_steps)
+
+pub joined-requires : goal.joined-requires
+joined-requires c = c.right_row.ensures.columns ∙ (c.requires.same ∙ sym c.left_row.ensures.columns)

@@ -1,5 +1,8 @@
 use Rattle.std.proofs.lemmas.Grind.{common_steps}
-use Rattle.std.proofs.Common.{arith}
+use Rattle.std.proofs.Common.{◌∙◌, arith}
+use Rattle.cip_blocks.proofs.BlockNumbers.{number_past, number_begun, number_taken}
+use Rattle.cip_blocks.specs.BlockWordsRead.{program_of, state_of}
+use Rattle.cip_blocks.proofs.block_words.BlockWords.take_number.Goals.{then-at-len-via-then-at-len, then-at-len-via-else-at-len+then-index}
 use Rattle.cip_blocks.proofs.block_words.BlockWords.take_number.Goals as goal
 
 pub returns-in_default-2-clause-taken : goal.returns-in_default-2-clause-taken
@@ -46,3 +49,19 @@ returns-in_default-clause-same c = grind (arith, common_steps)
 
 pub returns-in_default-2-clause-same : goal.returns-in_default-2-clause-same
 returns-in_default-2-clause-same c = grind (arith, common_steps)
+
+pub returns-clause-taken : goal.returns-clause-taken
+returns-clause-taken c =
+    number_taken c.block_words_have_tests.ensures (program_of c.args.self.now) (state_of c.args.self.now) c.args.word.now c.in-Some.number c.in-Some.ensures c.if-number-gt0.true
+    c.len.result c.index.result.now (c.len.ensures ∙ c.args.self.now.begun.ok.0) c.if-at-len.false c.index.ensures c.if-index.false
+
+pub returns-then-at-len-clause-taken : goal.returns-then-at-len-clause-taken
+returns-then-at-len-clause-taken c =
+    elim c.then-at-len.branch [
+      | then-at-len-via-then-at-len w ↦
+          number_past c.block_words_have_tests.ensures (program_of c.args.self.now) (state_of c.args.self.now) c.args.word.now c.in-Some.number c.in-Some.ensures c.if-number-gt0.true
+          c.len.result (c.len.ensures ∙ c.args.self.now.begun.ok.0) w.if-at-len.true
+      | then-at-len-via-else-at-len+then-index w ↦
+          number_begun c.block_words_have_tests.ensures (program_of c.args.self.now) (state_of c.args.self.now) c.args.word.now c.in-Some.number c.in-Some.ensures c.if-number-gt0.true
+          w.index.result.now w.index.ensures w.if-index.true
+    ]

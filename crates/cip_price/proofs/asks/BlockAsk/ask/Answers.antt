@@ -1,4 +1,5 @@
-use Rattle.std.proofs.Common.{[], None, Some, ap}
+use Rattle.std.proofs.lemmas.Grind.{common_steps}
+use Rattle.std.proofs.Common.{[], None, Some, ap, arith}
 use Rattle.std.proofs.lemmas.Result.{MatchResult-from_err}
 use Rattle.cip_problem.specs.Log.{Node}
 use Rattle.cip_price.specs.PriceTasks.{task_at}
@@ -31,3 +32,36 @@ returns-in-Some-clause-asked g c =
     (Some c.in-Some.priced) c.as_slice.ensures.value (ap (λ (d : Node). d.box) c.requires.ask.region) c.in-Some.is
     c.in_ok-answer.ensures)
     c.take_answer.ensures.tells c.take_answer.ensures.found
+
+pub returns-in_err-answer-clause-grows : goal.returns-in_err-answer-clause-grows
+returns-in_err-answer-clause-grows g c = grind (arith, common_steps)
+
+pub take_answer-requires-clause-room : goal.take_answer-requires-clause-room
+take_answer-requires-clause-room g c = grind (arith, common_steps)
+
+pub returns-in-None-clause-asked : goal.returns-in-None-clause-asked
+returns-in-None-clause-asked g c = grind (arith, common_steps)
+
+pub returns-in-None-clause-grows : goal.returns-in-None-clause-grows
+returns-in-None-clause-grows g c = grind (arith, common_steps)
+
+pub returns-in-Some-clause-room : goal.returns-in-Some-clause-room
+returns-in-Some-clause-room g c = grind (arith, common_steps)
+
+pub returns-in-Some-clause-grows : goal.returns-in-Some-clause-grows
+returns-in-Some-clause-grows g c = grind (arith, common_steps)
+
+pub returns-in-Some-clause-task : goal.returns-in-Some-clause-task
+returns-in-Some-clause-task g c = grind (arith, common_steps)
+
+pub returns-in-None-clause-task : goal.returns-in-None-clause-task
+returns-in-None-clause-task g c = grind (arith, common_steps)
+
+pub returns-in-None-clause-room : goal.returns-in-None-clause-room
+returns-in-None-clause-room g c = grind (arith, common_steps)
+
+pub returns-in_err-answer-clause-task : goal.returns-in_err-answer-clause-task
+returns-in_err-answer-clause-task g c = grind (arith, common_steps)
+
+pub returns-in_err-answer-clause-room : goal.returns-in_err-answer-clause-room
+returns-in_err-answer-clause-room g c = grind (arith, common_steps)

@@ -1,3 +1,4 @@
+use Rattle.std.proofs.lemmas.Grind.{common_steps}
 use Rattle.std.proofs.Common.{◌≡◌, [], List, length, Some, slice_get, refl, sym, ap, ◌∙◌, subst, arith}
 use Rattle.std.proofs.lemmas.Option.{slice_get_read}
 use Rattle.cip_problem.specs.Program.{Row}
@@ -77,3 +78,15 @@ returns-in-Err-clause-bound c =
     c.as_slice-2.result.now c.as_slice-costs.result.now c.args.self.now.costs.items c.args.tree.now _ _
     c.as_slice.ensures.value c.as_slice-2.ensures.value c.as_slice-costs.ensures.value c.requires.ask.region
     c.requires.room
+
+pub tree_bound-requires-clause-costs : goal.tree_bound-requires-clause-costs
+tree_bound-requires-clause-costs c = grind (arith, common_steps)
+
+pub returns-in-Ok-clause-room : goal.returns-in-Ok-clause-room
+returns-in-Ok-clause-room c = grind (arith, common_steps)
+
+pub returns-in-Err-clause-room : goal.returns-in-Err-clause-room
+returns-in-Err-clause-room c = grind (arith, common_steps)
+
+pub index-part-requires : goal.index-part-requires
+index-part-requires c = grind (arith, common_steps)

@@ -1,3 +1,4 @@
+use Rattle.std.proofs.lemmas.Result.{IfOk-from_err}
 use Rattle.std.proofs.lemmas.Grind.{common_steps}
 use Rattle.std.proofs.Common.{◌++◌, map, sym, ap, ◌∙◌, arith}
 use Rattle.std.proofs.lemmas.List.{append-nil}
@@ -28,3 +29,27 @@ loop-kept-init-derived c = grind (arith, common_steps)
 
 pub loop-kept-preserved-derived : goal.loop-kept-preserved-derived
 loop-kept-preserved-derived c = grind (arith, common_steps)
+
+pub returns-in_err-push-clause-rows : goal.returns-in_err-push-clause-rows
+returns-in_err-push-clause-rows c = IfOk-from_err c.from_residual.result _ c.from_residual.ensures.0
+
+pub returns-in_err-push-clause-ids : goal.returns-in_err-push-clause-ids
+returns-in_err-push-clause-ids c = IfOk-from_err c.from_residual.result _ c.from_residual.ensures.0
+
+pub returns-in_err-push-clause-pool : goal.returns-in_err-push-clause-pool
+returns-in_err-push-clause-pool c = IfOk-from_err c.from_residual.result _ c.from_residual.ensures.0
+
+pub returns-in_err-push-clause-bounds : goal.returns-in_err-push-clause-bounds
+returns-in_err-push-clause-bounds c = IfOk-from_err c.from_residual.result _ c.from_residual.ensures.0
+
+pub returns-in_err-push-2-clause-rows : goal.returns-in_err-push-2-clause-rows
+returns-in_err-push-2-clause-rows c = IfOk-from_err c.from_residual-in_err-push-2.result _ c.from_residual-in_err-push-2.ensures.0
+
+pub returns-in_err-push-2-clause-ids : goal.returns-in_err-push-2-clause-ids
+returns-in_err-push-2-clause-ids c = IfOk-from_err c.from_residual-in_err-push-2.result _ c.from_residual-in_err-push-2.ensures.0
+
+pub returns-in_err-push-2-clause-pool : goal.returns-in_err-push-2-clause-pool
+returns-in_err-push-2-clause-pool c = IfOk-from_err c.from_residual-in_err-push-2.result _ c.from_residual-in_err-push-2.ensures.0
+
+pub returns-in_err-push-2-clause-bounds : goal.returns-in_err-push-2-clause-bounds
+returns-in_err-push-2-clause-bounds c = IfOk-from_err c.from_residual-in_err-push-2.result _ c.from_residual-in_err-push-2.ensures.0
