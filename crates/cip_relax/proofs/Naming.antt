@@ -18,10 +18,10 @@ multiple_of factor row = record { row = row; factor = factor }
 -- a row behind the program's own has the id that is found at its place
 pub named_behind : (own : ℕ) (ids : List ℕ) (m : RowMultiple) (number : ℕ) (found : Option ℕ) → m.row ≡ Own number → own ≤ number → slice_get ids (number - own) ≡ found → record { row = pool_name number found; factor = m.factor } ≡ named_multiple own ids m
 named_behind own ids m number found e l h = sym (
-  ap (λ (row : RowId). multiple_of m.factor (named own ids row)) e
-  ∙ ap (λ (b : Bool). multiple_of m.factor (if b then Own number else pool_name number (slice_get ids (number - own)))) (le-ltb number own l)
-  ∙ ap (λ (o : Option ℕ). multiple_of m.factor (pool_name number o)) h
-)
+    ap (λ (row : RowId). multiple_of m.factor (named own ids row)) e
+    ∙ ap (λ (b : Bool). multiple_of m.factor (if b then Own number else pool_name number (slice_get ids (number - own)))) (le-ltb number own l)
+    ∙ ap (λ (o : Option ℕ). multiple_of m.factor (pool_name number o)) h
+    )
 
 -- and none, where there is no id
 pub unnamed_behind : (own : ℕ) (ids : List ℕ) (m : RowMultiple) (number : ℕ) → m.row ≡ Own number → own ≤ number → slice_get ids (number - own) ≡ None → m ≡ named_multiple own ids m

@@ -18,9 +18,9 @@ pub invariant_of-self-2 : goal.invariant_of-self-2
 invariant_of-self-2 c =
     let e = c.in_ok-put_column.ensures.ok in
     let new : number_in (facts_in c.self.inside).column_names c.args.name.now ≡ None = subst
-        (λ f. number_in f.column_names c.args.name.now ≡ None) (sym c.self.view_is) c.requires.new in
+    (λ f. number_in f.column_names c.args.name.now ≡ None) (sym c.self.view_is) c.requires.new in
     let quiet : event_fault (facts_in c.self.inside) (Mentions c.args.name.now) ≡ None = subst
-        (λ (f : LpFacts). event_fault f (Mentions c.args.name.now) ≡ None) (sym c.self.view_is) c.requires.quiet in
+    (λ (f : LpFacts). event_fault f (Mentions c.args.name.now) ≡ None) (sym c.self.view_is) c.requires.quiet in
     subst IsKeptLp (sym (column_put (facts_in c.self.inside) c.args.name.now c.put_column.new.names
     c.put_column.new.costs.items c.put_column.new.sides.items c.put_column.new.whole.items new e.0 e.1 e.2 e.3))
     (kept_with (facts_in c.self.inside) (Mentions c.args.name.now) c.self.invariant quiet)
@@ -29,7 +29,7 @@ pub returns-clause-ok : goal.returns-clause-ok
 returns-clause-ok c =
     let e = c.in_ok-put_column.ensures.ok in
     let new : number_in (facts_in c.self.inside).column_names c.args.name.now ≡ None = subst
-        (λ f. number_in f.column_names c.args.name.now ≡ None) (sym c.self.view_is) c.requires.new in
+    (λ f. number_in f.column_names c.args.name.now ≡ None) (sym c.self.view_is) c.requires.new in
     column_put (facts_in c.self.inside) c.args.name.now c.put_column.new.names c.put_column.new.costs.items
     c.put_column.new.sides.items c.put_column.new.whole.items new e.0 e.1 e.2 e.3
     ∙ ap (λ (f : LpFacts). with_column f c.args.name.now) c.self.view_is

@@ -11,5 +11,5 @@ invariant_of-self c = constant_kept (facts_in c.self.inside) c.minimized-self-in
 pub returns : goal.returns
 returns c =
     let value = c.minimized-self-inside.ensures ∙ ap (λ (a : Amount). minimized c.args.self.now a.value)
-        c.amount.view_is in
+    c.amount.view_is in
     λ i. record (c.self.view_is i) { constant = value i }

@@ -17,9 +17,9 @@ pub invariant_of-self : goal.invariant_of-self
 invariant_of-self c =
     let event = Begins (Some c.args.name.items) in
     let kind = c.begin_fault-fault.ensures.kind ∙ ap
-        (λ (name : List ℕ). event_fault c.args.self.now (Begins (Some name))) c.as_slice.ensures.value in
+    (λ (name : List ℕ). event_fault c.args.self.now (Begins (Some name))) c.as_slice.ensures.value in
     let none : event_fault c.args.self.now event ≡ None = no_fault c.begin_fault-fault.result _
-        (sym c.is_some.ensures ∙ c.if-is_some.false) kind in
+    (sym c.is_some.ensures ∙ c.if-is_some.false) kind in
     kept_with (facts_in c.self.inside) event c.self.invariant
     (subst (λ (f : LpFacts). event_fault f event ≡ None) (sym c.self.view_is) none)
 

@@ -12,9 +12,9 @@ invariant_of-self-2 c =
     let room = c.make_room.new.places.items in
     let term : FormTerm = term_shown c.term.inside.column c.term.inside.value in
     let within : term.column < length room = omega (arith, c.in_ok-make_room.ensures.room, c.make_room.new.places.ok.0)
-        in
+    in
     let count : c.len.result ≡ length terms = omega
-        (arith, c.len.ensures, c.in_ok-make_room.ensures.len, c.self.inside.terms.ok.0) in
+    (arith, c.len.ensures, c.in_ok-make_room.ensures.len, c.self.inside.terms.ok.0) in
     let more : c.push_reserved.new.self.items ≡ terms ++ term ∷ [] =
     c.push_reserved.ensures.items ∙ ap (λ (ts : List FormTerm). ts ++ c.args.term ∷ []) c.in_ok-make_room.ensures.terms
     ∙ ap (λ (t : FormTerm). terms ++ t ∷ []) (sym c.term.view_is) in

@@ -15,8 +15,8 @@ returns-in-Name c =
 pub returns-in_ok-kind-in-FirstName : goal.returns-in_ok-kind-in-FirstName
 returns-in_ok-kind-in-FirstName c =
     let names : IsTaken c.args.self.now.draft c.name_objective.new.self
-        (NamesObjective c.args.self.now.place.name.items)
-        c.in_ok-kind-in-FirstName.kind =
+    (NamesObjective c.args.self.now.place.name.items)
+    c.in_ok-kind-in-FirstName.kind =
     subst (λ (n : List ℕ). IsTaken c.args.self.now.draft c.name_objective.new.self (NamesObjective n)
     c.in_ok-kind-in-FirstName.kind)
     c.as_slice.ensures.value c.in_ok-kind-in-FirstName.ensures in

@@ -30,7 +30,7 @@ returns-in-Relates c =
 pub returns-in_ok-kind-in-FirstName : goal.returns-in_ok-kind-in-FirstName
 returns-in_ok-kind-in-FirstName c =
     let begins : IsTaken c.args.self.now.draft c.begin_named.new.self (Begins (Some c.args.self.now.place.name.items))
-        c.in_ok-kind-in-FirstName.kind =
+    c.in_ok-kind-in-FirstName.kind =
     subst (λ (n : List ℕ). IsTaken c.args.self.now.draft c.begin_named.new.self (Begins (Some n))
     c.in_ok-kind-in-FirstName.kind)
     c.as_slice.ensures.value c.in_ok-kind-in-FirstName.ensures in

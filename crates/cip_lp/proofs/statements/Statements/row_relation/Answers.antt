@@ -22,7 +22,7 @@ returns-then-not-is_zero c =
 pub returns-then-not-agree-2 : goal.returns-then-not-agree-2
 returns-then-not-agree-2 c =
     let goes : Bool → Bool = λ b. goes_on (cond b (Some (first_of c.args.self.now.place)) None)
-        (relation_shown c.args.relation) in
+    (relation_shown c.args.relation) in
     misplaced c.args.self.now _ _ (where_of c.args.self.now)
     (row_by c.args.self.now (Relates (relation_shown c.args.relation)) AfterTerm c.in-AfterTerm.is ∙ no _ _ _
     (c.if-not-agree-2.ensures ∙ ap goes (sym c.if-self.true)))

@@ -12,7 +12,7 @@ use Rattle.cip_lp.proofs.statements.Statements.settle.Goals as goal
 pub returns-in_ok-kind-in-FirstName : goal.returns-in_ok-kind-in-FirstName
 returns-in_ok-kind-in-FirstName c =
     let adds : IsTaken c.args.self.now.draft c.add_cost.new.self
-        (AddsCost (unit false) c.args.self.now.place.name.items) c.in_ok-kind-in-FirstName.kind =
+    (AddsCost (unit false) c.args.self.now.place.name.items) c.in_ok-kind-in-FirstName.kind =
     subst (λ (event : Event). IsTaken c.args.self.now.draft c.add_cost.new.self event c.in_ok-kind-in-FirstName.kind)
     (ap₂ (λ a n. AddsCost a n) c.unit.ensures c.as_slice-name.ensures.value) c.in_ok-kind-in-FirstName.ensures in
     cost_said c.args.self.now _ (token_shown c.args.token) c.in_ok-kind-in-FirstName.kind c.in-Minimize.is
