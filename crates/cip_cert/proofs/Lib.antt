@@ -1,3 +1,4 @@
+pub mod Allowed
 pub mod Aggregated
 pub mod Cleared
 pub mod EntryParts
@@ -9,3 +10,4 @@ pub mod Stepwise
 pub mod Sums
 pub mod Values
 pub mod Rounded
+pub mod NamedRows

@@ -14,12 +14,13 @@ use Rattle.cip_bland.specs.declared.places.EntryPlace.{EntryPlace}
 use Rattle.cip_bland.specs.Exchange.{moved_at}
 use Rattle.cip_bland.specs.Operations.{first_overflow, sum_at}
 use Rattle.cip_bland.specs.MoveOperations.{moved_operations_at}
+use Rattle.cip_frac.proofs.InRange.{size_of_sum}
 use Rattle.cip_dict.specs.Values.{IsAdded}
 use Rattle.cip_dict.specs.WholeLines.{HasTermsBelow}
 use Rattle.cip_dict.proofs.Formed.{sum_zero_left, sum_zero_right}
 use Rattle.cip_dict.proofs.WholeLines.{whole_lines_tell}
 use Rattle.cip_dict.proofs.WholePuts.{sum_none}
-use Rattle.cip_dict.proofs.WideProducts.{read_wide, size_of_sum}
+use Rattle.cip_dict.proofs.WideProducts.{read_wide}
 
 -- where a factor is 0 the value stays
 

@@ -4,8 +4,9 @@ use Rattle.std.specs.Int.{w64, w128}
 use Rattle.std.proofs.lemmas.Bool.{eq-eqb, ne_eqb}
 use Rattle.std.proofs.lemmas.Int.{ints}
 use Rattle.cip_rational.specs.Range.{magnitude}
+use Rattle.cip_frac.proofs.InRange.{size_of_sum}
 use Rattle.cip_dict.proofs.WholeParts.{read_small}
-use Rattle.cip_dict.proofs.WideProducts.{read_wide, size_of_sum}
+use Rattle.cip_dict.proofs.WideProducts.{read_wide}
 
 -- in 64 and in 128 bits
 abbrev word : ℤ → ℤ

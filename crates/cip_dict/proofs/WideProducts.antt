@@ -1,5 +1,5 @@
 -- Products and sums of small whole numbers, as they are formed in 128 bits.
-use Rattle.std.proofs.Common.{◌≡◌, ℕ, zero, suc, ◌+◌, ◌*◌, ◌/◌, ◌%◌, ◌-◌, ◌<◌, ◌≤◌, ◌^◌, ℤ, pos, negsuc, ◌+ℤ◌, ◌*ℤ◌, FitsSigned, to_z, of_z, Bool, cond, sym, ap, ◌∙◌, arith, div-add-mod'}
+use Rattle.std.proofs.Common.{◌≡◌, ℕ, zero, suc, ◌+◌, ◌*◌, ◌/◌, ◌%◌, ◌-◌, ◌<◌, ◌^◌, ℤ, pos, negsuc, ◌+ℤ◌, ◌*ℤ◌, FitsSigned, to_z, of_z, Bool, cond, sym, ap, ◌∙◌, arith, div-add-mod'}
 use Rattle.std.specs.Int.{w64, w128}
 use Rattle.std.proofs.lemmas.Int.{ints, unsigned_abs-mul, fits_signed_from_abs}
 use Rattle.std.proofs.lemmas.Nat.{mul-le}
@@ -17,9 +17,6 @@ widened z h = ap (λ x. to_z w128 (of_z w128 x)) (read_small z h) ∙ read_wide 
 pub word_size : (z : ℤ) → FitsSigned w64 z → magnitude z < 2 ^ 64
 word_size (pos n) f = omega (arith, f.sfits)
 word_size (negsuc n) f = omega (arith, f.sfits)
-
-pub size_of_sum : (a b : ℤ) → magnitude (a +ℤ b) ≤ magnitude a + magnitude b
-size_of_sum a b = omega (arith, ints)
 
 pub product_size : (a c : ℤ) → magnitude a < 2 ^ 42 → magnitude c < 2 ^ 42 → magnitude (a *ℤ c) < 2 ^ 84
 product_size a c p q = let l = mul-le (magnitude a) (magnitude c) (2 ^ 42 - 1) (2 ^ 42 - 1) (omega (arith, p)) (omega (arith, q)) in omega (arith, l, unsigned_abs-mul a c)

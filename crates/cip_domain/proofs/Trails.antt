@@ -143,6 +143,14 @@ stands_back box new all trail s e n h k d l =
     ap (λ (x : Saved). x.col) (ap (λ t. get_or t k d) e ∙ get_or_append_left trail (s ∷ []) d k l) in
     omega (arith, n, same, h k d within)
 
+-- and so is that of the last one
+pub last_within : (box : List Sides) (all trail : List Saved) (s : Saved) → all ≡ trail ++ s ∷ [] → StandsIn box all → s.col < length box
+last_within box all trail s e h =
+    let within : length trail < length all = omega (arith, ap length e, length_push trail s) in
+    let last : get_or all (length trail) s ≡ s =
+    ap (λ t. get_or t (length trail) s) e ∙ get_or_push trail s s (length trail) refl in
+    subst (λ (x : Saved). x.col < length box) last (h (length trail) s within)
+
 -- and those of one more step are too
 pub stands_more : (box new : List Sides) (trail : List Saved) (s : Saved) → length new ≡ length box
     → s.col < length box → StandsIn box trail → StandsIn new (trail ++ s ∷ [])

@@ -1,5 +1,5 @@
 -- Short products and quotients: what the code computes over 64 bits is the number meant.
-use Rattle.std.proofs.Common.{◌≡◌, ℕ, ◌*◌, ◌<◌, ◌≤◌, ◌^◌, ◌*ℤ◌, ◌+ℤ◌, ℤ, pos, unsigned_abs, neg_ℤ, ◌-ℤ◌, FitsSigned, to_z, of_z, arith, ap, ◌∙◌}
+use Rattle.std.proofs.Common.{◌≡◌, ℕ, ◌*◌, ◌<◌, ◌≤◌, ◌^◌, ◌*ℤ◌, ◌+ℤ◌, ℤ, pos, unsigned_abs, neg_ℤ, ◌-ℤ◌, FitsSigned, to_z, of_z, arith, ap, ap₂, subst, ◌∙◌}
 use Rattle.std.specs.Int.{w64, w128}
 use Rattle.std.specs.Prelude.{int_div}
 use Rattle.std.proofs.lemmas.Int.{ints, unsigned_abs-mul, to_z-of_z, fits_signed_from_abs, quot_is, quot_fits}
@@ -24,6 +24,13 @@ negated n h = omega (arith, ints)
 
 pub kept : (n : ℤ) → unsigned_abs n < 2 ^ 127 → to_z w128 (of_z w128 n) ≡ n
 kept n h = omega (arith, ints)
+
+pub negated_fits : (n : ℤ) → unsigned_abs n < 2 ^ 127 → FitsSigned w128 (pos 0 -ℤ to_z w128 (of_z w128 n))
+negated_fits n h = rw (kept n h) (omega (arith, ints))
+
+-- no greater than a number that was negated
+pub negated_small : (n r : ℤ) → unsigned_abs n < 2 ^ 127 → unsigned_abs r ≤ unsigned_abs (to_z w128 (of_z w128 (pos 0 -ℤ to_z w128 (of_z w128 n)))) → unsigned_abs r < 2 ^ 127
+negated_small n r h b = let k = rw (negated n h) at b in omega (arith, ints, k, h)
 
 pub kept_natural : (d : ℕ) → d < 2 ^ 127 → to_z w128 d ≡ pos d
 kept_natural d h = omega (arith, ints)
@@ -73,3 +80,13 @@ module _ (n a b : ℤ) (fn : FitsSigned w128 n) (fa : FitsSigned w64 a) (fb : Fi
 
   pub whole_step_small : unsigned_abs (to_z w128 (of_z w128 (to_z w128 (of_z w128 n) +ℤ to_z w128 (of_z w128 (to_z w128 (of_z w128 (to_z w64 (of_z w64 a))) *ℤ to_z w128 (of_z w128 (to_z w64 (of_z w64 b)))))))) < 2 ^ 127
   whole_step_small = rw whole_step_is total_below
+
+-- a total by the values of its parts
+pub total_by : (n a b n' a' b' r total : ℤ) → n' ≡ n → a' ≡ a → b' ≡ b → unsigned_abs (a' *ℤ b') < 2 ^ 127 → r ≡ n' +ℤ a' *ℤ b' → unsigned_abs r < 2 ^ 127 → total ≡ r → (unsigned_abs (a *ℤ b) < 2 ^ 127) × (unsigned_abs (n +ℤ a *ℤ b) < 2 ^ 127) × (total ≡ n +ℤ a *ℤ b)
+total_by n a b n' a' b' r total en ea eb small er bound et =
+    let product : a' *ℤ b' ≡ a *ℤ b = ap₂ (λ (x y : ℤ). x *ℤ y) ea eb in
+    let e : r ≡ n +ℤ a *ℤ b = er ∙ ap₂ (λ (x y : ℤ). x +ℤ y) en product in (
+      subst (λ (z : ℤ). unsigned_abs z < 2 ^ 127) product small,
+      subst (λ (z : ℤ). unsigned_abs z < 2 ^ 127) e bound,
+      et ∙ e,
+    )

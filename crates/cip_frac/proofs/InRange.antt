@@ -17,8 +17,9 @@ raised-le : (g : ℕ) (a b : ℚ) → magnitude (raised g a b) ≤ unsigned_abs 
 raised-le g a b =
     rw (unsigned_abs-mul (numerator a) (pos (denominator b / g))) (mul-le-mul (let h : unsigned_abs (numerator a) ≤ unsigned_abs (numerator a) = omega arith in h) (div-le_self (denominator b) g))
 
-sum_size : (y z : ℤ) → unsigned_abs (y +ℤ z) ≤ unsigned_abs y + unsigned_abs z
-sum_size y z = omega (arith, ints)
+-- a sum of two integers is at most the sum of their sizes
+pub size_of_sum : (y z : ℤ) → magnitude (y +ℤ z) ≤ magnitude y + magnitude z
+size_of_sum y z = omega (arith, ints)
 
 -- a sum whose numerators and denominator over the product of the denominators are small
 pub sum_in_range : (a b : ℚ) → unsigned_abs (numerator a) * denominator b < 2 ^ 126 → unsigned_abs (numerator b) * denominator a < 2 ^ 126 → denominator a * denominator b < 2 ^ 126 → sum_overflows a b ≡ false
@@ -26,7 +27,7 @@ sum_in_range a b p q r =
     let g : ℕ = gcd (denominator a) (denominator b) in
     let left : magnitude (raised g a b) ≤ unsigned_abs (numerator a) * denominator b = raised-le g a b in
     let right : magnitude (raised g b a) ≤ unsigned_abs (numerator b) * denominator a = raised-le g b a in
-    let total : magnitude (raised g a b +ℤ raised g b a) ≤ magnitude (raised g a b) + magnitude (raised g b a) = sum_size (raised g a b) (raised g b a) in
+    let total : magnitude (raised g a b +ℤ raised g b a) ≤ magnitude (raised g a b) + magnitude (raised g b a) = size_of_sum (raised g a b) (raised g b a) in
     let bottom : denominator a / g * denominator b ≤ denominator a * denominator b = mul-le-mul (div-le_self (denominator a) g) (let h : denominator b ≤ denominator b = omega arith in h) in
     sum_in a b (record {
       left = omega (arith, left, p);

@@ -1,5 +1,5 @@
 -- What chains of sums and products come to, where no operation overflows.
-use Rattle.std.proofs.Common.{◌≡◌, List, [], ◌∷◌, Result, Ok, Err, IfOk, Bool, true, false, cond, refl, sym}
+use Rattle.std.proofs.Common.{◌≡◌, List, [], ◌∷◌, Result, Ok, Err, IfOk, IsErr, Bool, true, false, cond, refl, sym, ap}
 use Rattle.cip_rational.specs.Rational.{ℚ, ◌+ℚ◌, ◌*ℚ◌}
 use Rattle.cip_rational.proofs.Rational.Ring.{+ℚ_assoc, +ℚ-zero}
 use Rattle.cip_rational.specs.Range.{sum_overflows, product_overflows}
@@ -10,6 +10,12 @@ use Rattle.cip_frac.specs.Outcomes.{sum_outcome, product_outcome, and_then, prod
 ok_value : (q : ℚ) (overflows : Bool) (wide : Wide) → IfOk (cond overflows (Err wide) (Ok q)) (λ v. v ≡ q)
 ok_value q true wide = tt
 ok_value q false wide = refl
+
+pub outcome_ok : (q v : ℚ) (overflows : Bool) (wide : Wide) → overflows ≡ false → v ≡ q → cond overflows (Err wide) (Ok q) ≡ Ok v
+outcome_ok q v overflows wide e f = rw e (ap Ok (sym f))
+
+pub outcome_err : (q : ℚ) (overflows : Bool) (wide : Wide) → overflows ≡ true → IsErr (cond overflows (Err wide) (Ok q))
+outcome_err q overflows wide e = rw e refl
 
 -- what comes after an outcome, by the value that it may have
 pub then_value : (r : Result ℚ Wide) (next : ℚ → Result ℚ Wide) (p q : ℚ) → IfOk r (λ v. v ≡ p) → IfOk (next p) (λ v. v ≡ q) → IfOk (and_then r next) (λ v. v ≡ q)

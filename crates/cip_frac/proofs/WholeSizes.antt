@@ -3,7 +3,7 @@
 --     within_sum, within_product, within_added, within_dot
 use Rattle.std.proofs.Common.{◌≡◌, ℕ, ◌+◌, ◌*◌, suc, ◌≤◌, false, List, [], ◌∷◌, length, ℤ, pos, ◌+ℤ◌, ◌*ℤ◌, Result, Ok, Err, refl, sym, ap₂, ◌∙◌, arith, lit≤, subst}
 use Rattle.std.specs.List.{AllByRecursion}
-use Rattle.std.proofs.lemmas.Int.{unsigned_abs-mul, ints}
+use Rattle.std.proofs.lemmas.Int.{unsigned_abs-mul}
 use Rattle.std.proofs.Math.Nat.{mul-le-mul}
 use Rattle.cip_rational.specs.Rational.{ℚ, ◌+ℚ◌, ◌*ℚ◌, integer, denominator, zeroℚ}
 use Rattle.cip_rational.proofs.Rational.Lowest.{numerator-integer, denominator-integer}
@@ -15,6 +15,7 @@ use Rattle.cip_rational.proofs.Range.InRange.{least_common, sum_in, fits_product
 use Rattle.cip_rational.proofs.Integers.{gcd_one, times_one}
 use Rattle.cip_frac.specs.declared.operations.Wide.{Wide}
 use Rattle.cip_frac.specs.Outcomes.{sum_outcome, and_then, product_added, dot_from}
+use Rattle.cip_frac.proofs.InRange.{size_of_sum}
 
 -- q is a whole number of size at most n
 pub record IsWithin (n : ℕ) (q : ℚ) : Type 0 where
@@ -27,10 +28,6 @@ zero_within n = record { number = pos 0; is_number = sym integer-zero; within = 
 
 pub more_within : (m n : ℕ) (q : ℚ) → m ≤ n → IsWithin m q → IsWithin n q
 more_within m n q l h = record { number = h.number; is_number = h.is_number; within = omega (arith, h.within, l) }
-
--- the sum of two integers is at most the sum of their sizes
-sum_size : (y z : ℤ) → magnitude (y +ℤ z) ≤ magnitude y + magnitude z
-sum_size y z = omega (arith, ints)
 
 ones_gcd : gcd 1 1 ≡ 1
 ones_gcd = gcd_unique 1 1 1 (gcd_one 1)
@@ -60,7 +57,7 @@ pub within_sum : (m n : ℕ) (a b : ℚ) → IsWithin m a → IsWithin n b → m
 within_sum m n a b s t h =
     let y = s.number in
     let z = t.number in
-    let k : magnitude (y +ℤ z) ≤ magnitude y + magnitude z = sum_size y z in
+    let k : magnitude (y +ℤ z) ≤ magnitude y + magnitude z = size_of_sum y z in
     let p : magnitude y ≤ largest = omega (arith, s.within, h) in
     let q : magnitude z ≤ largest = omega (arith, t.within, h) in
     let r : magnitude (y +ℤ z) ≤ largest = omega (arith, s.within, t.within, h, k) in (

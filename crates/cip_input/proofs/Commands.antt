@@ -1,7 +1,7 @@
 -- What the command takes of words, and the job of words that it takes.
 use Rattle.std.specs.Prelude.{◌≡◌, Bool, true, false, not, ◌&&◌, ℕ, List, [], ◌∷◌, Option, None, Some, Result, Ok, Err, MatchResult, IfOk, refl, option_and_then}
 use Rattle.std.proofs.Common.{sym, ap, ap₂, ◌∙◌, subst, inl, inr}
-use Rattle.clap.specs.Words.{App, app_of, with_subcommand, HasKind, HasMatchesOf, IsAmong, Kinds, fault_of, kind_of, is_simple, is_simple_and_free, subcommand_of, subcommand_rows_of}
+use Rattle.clap.specs.Words.{App, app_of, with_subcommand, HasKind, HasMatchesOf, IsAmong, Kinds, fault_of, kind_of, is_simple, is_simple_and_free, subcommand_of, subcommand_rows_of, AddsSubcommand, Shape}
 use Rattle.clap.specs.declared.builder.command.Command.{Command}
 use Rattle.clap.specs.declared.error.Error.{Error}
 use Rattle.clap.specs.declared.error.kind.ErrorKind.{ErrorKind}
@@ -9,7 +9,7 @@ use Rattle.clap.specs.declared.error.kind.ErrorKind.TheVariants.{OutOfMemory}
 use Rattle.clap.specs.declared.parser.matches.ArgMatches.{ArgMatches}
 use Rattle.clap.proofs.OnLiterals.{clap_on_literals}
 use Rattle.cip_input.proofs.Numbers.{asks_for_some}
-use Rattle.cip_input.specs.Jobs.{Job, IsAddedAs, AsksForSome, cip_command, job_at, job_of, unless_faulty}
+use Rattle.cip_input.specs.Jobs.{Job, AsksForSome, cip_command, job_at, job_of, unless_faulty}
 use Rattle.cip_input.specs.WordsRead.{WordsCause, meant}
 use Rattle.cip_input.specs.declared.words.Job.{Job as Wanted}
 use Rattle.cip_input.specs.declared.words.WordsFault.{WordsFault}
@@ -23,6 +23,11 @@ is_free = refl
 pub is_plain : is_simple cip_command ≡ true
 unfolding clap_on_literals cip_command
 is_plain = refl
+
+-- a command that is a subcommand of this shape wherever it is added as one
+abbrev pub IsAddedAs : Shape → Command → Type 0
+IsAddedAs shape command =
+    (old new : Command) → AddsSubcommand old command new → app_of new ≡ with_subcommand (app_of old) shape
 
 -- a plain command is added as its shape says
 third_false : (a b c rest : Bool) → (a && (b && (not c && rest))) ≡ true → c ≡ false

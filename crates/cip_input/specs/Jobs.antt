@@ -4,15 +4,14 @@
 --     job_of words      the job of the words, where they are accepted
 --     job_for plugins (job_of words)      the same where a search begins with plugins of these names
 use lib.Chars.{codes}
-use Rattle.std.specs.Prelude.{◌≡◌, ⊤, ℕ, ◌≤◌, ◌==◌, nat_le, Bool, true, false, not, ◌&&◌, ◌||◌, ◌^◌, ◌-◌, List, [], ◌∷◌}
+use Rattle.std.specs.Prelude.{⊤, ℕ, ◌≤◌, ◌==◌, nat_le, Bool, true, false, not, ◌&&◌, ◌||◌, ◌^◌, ◌-◌, List, [], ◌∷◌}
 use Rattle.std.specs.Prelude.{Option, None, Some}
 use Rattle.std.specs.Prelude.{option_map, option_and_then, if◌then◌else◌}
 use Rattle.std.specs.List.{list_all, list_any, slice_split}
 use Rattle.std.specs.Str.{bytes_eq}
 use Rattle.std.specs.Str.Parse.{digits_value}
 use Rattle.clap.specs.Words.{App, Kinds, Row, Rule, Text, fault_of, first_of, new_app, new_rule, subcommand_of}
-use Rattle.clap.specs.Words.{AddsSubcommand, Shape, app_of, with_rule, with_subcommand}
-use Rattle.clap.specs.declared.builder.command.Command.{Command}
+use Rattle.clap.specs.Words.{with_rule, with_subcommand}
 use Rattle.clap.specs.Simple.{on_top}
 use Rattle.clap.specs.ValueTests.{is_unsigned_in}
 use Rattle.cip_rational.specs.Rational.{ℚ, zeroℚ, le_test}
@@ -125,11 +124,6 @@ self_command = with_rule (with_rule (with_rule (new_app (codes "self")) seed_rul
 -- the program's name is not one of the words
 abbrev pub bare_command : App
 bare_command = on_top (λ top. record top { no_binary_name = true }) (new_app (codes "cip"))
-
--- a command that is a subcommand of this shape wherever it is added as one
-abbrev pub IsAddedAs : Shape → Command → Type 0
-IsAddedAs shape command =
-    (old new : Command) → AddsSubcommand old command new → app_of new ≡ with_subcommand (app_of old) shape
 
 unfoldable pub cip_command : App
 cip_command =

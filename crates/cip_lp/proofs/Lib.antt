@@ -9,6 +9,7 @@ pub mod LineLaws
 pub mod LpAnswers
 pub mod PieceLaws
 pub mod ReadLaws
+pub mod StrayLaws
 pub mod TakenLaws
 pub mod ValueLaws
 pub mod WordLaws

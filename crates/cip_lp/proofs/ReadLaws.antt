@@ -216,10 +216,6 @@ bound_token old token own e = ap (λ (t : Kept). bound_read (where_of old) (plac
 pub bound_by : (old : Statements) (token : Token) (stage : Stage) → old.place.stage ≡ stage → bound_read (where_of old) (place_at old.place.stage old.place) token ≡ bound_read (where_of old) (place_at stage old.place) token
 bound_by old token stage e = ap (λ (s : Stage). bound_read (where_of old) (place_at s old.place) token) e
 
--- a token by its section
-pub read_by : (old : Statements) (token : Token) (part : LpPart) → old.part ≡ part → read_in (part_shown old.part) (where_of old) token ≡ read_in (part_shown part) (where_of old) token
-read_by old token part e = ap (λ (p : LpPart). read_in (part_shown p) (where_of old) token) e
-
 -- ---- more of tokens by their kind, their section and their stage
 
 pub both_true : (a b : Bool) → true ≡ a → true ≡ b → true ≡ (a && b)

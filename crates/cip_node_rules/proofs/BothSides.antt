@@ -148,7 +148,7 @@ floor_near value size h =
 
 -- ---- the rules
 
-two_of_open : (integral : List Bool) (box : List Sides) (column : ℕ) → is_open_at integral box column ≡ true → two_wholes_between (sides_at box column).low (sides_at box column).high ≡ true
+pub two_of_open : (integral : List Bool) (box : List Sides) (column : ℕ) → is_open_at integral box column ≡ true → two_wholes_between (sides_at box column).low (sides_at box column).high ≡ true
 two_of_open integral box column e = (and_parts (is_whole_at integral column) (two_wholes_between (sides_at box column).low (sides_at box column).high) e).1
 
 at_fraction : (integral : List Bool) (box : List Sides) (point : List ℚ) (column : ℕ) (at : ℤ) (n : ℕ) → 2 ^ 100 ≤ n → AreNear n (sides_at box column) → IsAtFraction integral box point column at → LeavesBoth (sides_at box column) (n + 1) at

@@ -2,3 +2,4 @@ pub mod BothSides
 pub mod Entries
 pub mod OpenChoices
 pub mod Places
+pub mod SplitSteps

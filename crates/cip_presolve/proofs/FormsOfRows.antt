@@ -6,11 +6,18 @@ use Rattle.cip_rational.specs.Rational.{ℚ, zeroℚ}
 use Rattle.cip_problem.specs.Program.{Term, Sides, Row, Program}
 use Rattle.cip_problem.specs.RowTerms.{AreTerms}
 use Rattle.cip_presolve.specs.Forms.{Form}
-use Rattle.cip_presolve.specs.Equalities.{equality_form}
+use Rattle.cip_presolve.specs.Equalities.{equality_form, IsEquality}
 use Rattle.cip_search.proofs.Equalities.{first_follows, first_holds, second_follows, second_holds}
 use Rattle.cip_presolve.specs.RowReading.{only_value}
 use Rattle.cip_presolve.proofs.Recosted.{both_sides}
-use Rattle.cip_presolve.specs.ColumnForms.{HasTwoTerms, GivesForm, RowGives}
+use Rattle.cip_presolve.specs.ColumnForms.{GivesForm, RowGives}
+
+-- a row has these two terms alone, and is an equality
+pub record HasTwoTerms (row : Row) (first second : Term) (value : ℚ) : Type 0 where
+  pub terms : row.terms ≡ first ∷ second ∷ []
+  pub equality : IsEquality row value
+  pub first_nonzero : ¬ (first.coefficient ≡ zeroℚ)
+  pub second_nonzero : ¬ (second.coefficient ≡ zeroℚ)
 
 nonzero_both : (terms : List Term) (first second : Term) → terms ≡ first ∷ second ∷ [] → AreTerms terms → (¬ (first.coefficient ≡ zeroℚ)) × (¬ (second.coefficient ≡ zeroℚ))
 nonzero_both terms first second e h =

@@ -19,7 +19,7 @@ use Rattle.cip_search.proofs.Replacing.{sides_replaced}
 use Rattle.cip_presolve.specs.SingleRows.{single_sides}
 use Rattle.cip_presolve.proofs.Enclosing.{past_below}
 use Rattle.cip_presolve.proofs.Singled.{met_inside, inward_onward}
-use Rattle.cip_presolve.specs.Rests.{product_at, IsRestBelow, IsRestAbove, AreRests, IsDifference, Implies}
+use Rattle.cip_presolve.specs.Rests.{product_at, IsRestBelow, IsRestAbove, AreRests, IsDifference}
 use Rattle.cip_presolve.specs.RowReading.{Encloses}
 use Rattle.cip_search.proofs.Inside.{all_hold}
 use Rattle.cip_search.proofs.Pairing.{exact_self}
@@ -45,6 +45,14 @@ high_product box row at rest (Some high) x r d w h =
 
 term_at_is : (terms : List Term) (at : ℕ) (term : Term) → slice_get terms at ≡ Some term → slice_index_or terms at no_term ≡ term
 term_at_is terms at term g = get_or_from_slice_get terms at term no_term g
+
+-- a row implies sides for the column of the term at a place: each point of the box that satisfies it, with a whole
+-- value where the column is whole, has its value between them
+abbrev pub Implies : List Sides → Row → ℕ → Bool → Sides → Type 0
+Implies box row at whole sides =
+    (point : List ℚ) → IsInBox box point → IsSatisfied row point
+    → (whole ≡ true → IsWhole (value_at point (column_at row.terms at)))
+    → Between sides.low sides.high (value_at point (column_at row.terms at))
 
 pub implied_by : (box : List Sides) (row made : Row) (at : ℕ) (whole : Bool) (above below low high : Option ℚ) (term : Term) (sides : Sides) → slice_get row.terms at ≡ Some term → ¬ (term.coefficient ≡ zeroℚ) → IfSome above (IsRestAbove box row.terms at) → IfSome below (IsRestBelow box row.terms at) → IfSome low (IsDifference row.low above) → IfSome high (IsDifference row.high below) → made.low ≡ low → made.high ≡ high → sides ≡ single_sides whole made term → Implies box row at whole sides
 implied_by box row made at whole above below low high term sides g nonzero ra rb dl dh el eh e x w h whole_if =

@@ -18,6 +18,7 @@ pub mod MayLeave
 pub mod Merged
 pub mod Moved
 pub mod MovedRows
+pub mod PartsRead
 pub mod PassedOn
 pub mod Placed
 pub mod Planned

@@ -1,8 +1,6 @@
 -- Rows with equal terms.
-use Rattle.std.proofs.Common.{◌≡◌, ◌≢◌, ℕ, zero, suc, ◌+◌, ◌<◌, ◌≤◌, true, List, [], ◌∷◌, length, take, Option, Some, slice_get, refl, sym, ap, ◌∙◌, subst, arith, add-one}
+use Rattle.std.proofs.Common.{◌≡◌, ◌≢◌, ℕ, zero, suc, ◌≤◌, true, List, [], ◌∷◌, length, take, Option, Some, slice_get, refl, sym, ap, ◌∙◌, subst, arith}
 use Rattle.std.specs.Prelude.{slice_set}
-use Rattle.std.proofs.lemmas.Option.{none-some, same_Some, slice_get_read}
-use Rattle.std.proofs.Math.ListN.{get_or}
 use Rattle.cip_rational.specs.Rational.{ℚ}
 use Rattle.cip_problem.specs.Program.{Term, Sides, Row, Program, no_row}
 use Rattle.cip_problem.specs.Activity.{activity, StandsBelow}
@@ -19,9 +17,6 @@ use Rattle.cip_presolve.proofs.Enclosing.{past_below}
 use Rattle.cip_presolve.specs.RowsMet.{sides_of}
 use Rattle.cip_presolve.proofs.Free.{take_whole}
 
-pub same_term : (one other : Term) → one.column ≡ other.column → one.coefficient ≡ other.coefficient → one ≡ other
-same_term one other e k = ap (λ n. record { column = n; coefficient = one.coefficient }) e ∙ ap (λ q. record { column = other.column; coefficient = q }) k
-
 -- the first terms are the same
 pub record SameTo (ones others : List Term) (n : ℕ) : Type 0 where
   pub long : length ones ≡ length others
@@ -29,20 +24,6 @@ pub record SameTo (ones others : List Term) (n : ℕ) : Type 0 where
 
 pub none_same : (ones others : List Term) → length ones ≡ length others → SameTo ones others 0
 none_same ones others e = record { long = e; same = refl }
-
-take_more : (ones others : List Term) (n : ℕ) (one other : Term) → take n ones ≡ take n others → slice_get ones n ≡ Some one → slice_get others n ≡ Some other → one ≡ other → take (suc n) ones ≡ take (suc n) others
-take_more [] others n one other h g k e = absurd (none-some one g)
-take_more (t ∷ ts) [] n one other h g k e = absurd (none-some other k)
-take_more (t ∷ ts) (u ∷ us) zero one other h g k e = ap (λ v. v ∷ []) (same_Some t one g ∙ e ∙ sym (same_Some u other k))
-take_more (t ∷ ts) (u ∷ us) (suc n) one other h g k e =
-    let first : t ≡ u = cc in
-    let rest : take n ts ≡ take n us = cc in
-    ap (λ v. v ∷ take (suc n) ts) first ∙ ap (λ vs. u ∷ vs) (take_more ts us n one other rest g k e)
-
-pub one_same : (ones others : List Term) (n : ℕ) (one other : Term) → SameTo ones others n → n < length ones → one ≡ get_or ones n one → other ≡ get_or others n other → one ≡ other → SameTo ones others (n + 1)
-one_same ones others n one other s below g k e =
-    let long = s.long in
-    record { long = s.long; same = rw add-one (take_more ones others n one other s.same (slice_get_read ones (length ones) n one refl below g) (slice_get_read others (length others) n other refl (omega (arith, below, long)) k) e) }
 
 pub all_same : (ones others : List Term) (n : ℕ) → SameTo ones others n → length ones ≤ n → ones ≡ others
 all_same ones others n s e = let long = s.long in sym (take_whole ones n e) ∙ s.same ∙ take_whole others n (omega (arith, e, long))

@@ -6,14 +6,15 @@ use Rattle.cip_rational.specs.Rational.{ℚ, zeroℚ, negate, ◌≤ℚ◌, ◌<
 use Rattle.cip_rational.proofs.Rational.Order.{le_of_not_lt}
 use Rattle.cip_rational.proofs.Rational.Monotone.{negate_mono}
 use Rattle.cip_rational.proofs.Rational.Whole.{IsWhole-integer}
+use Rattle.cip_problem.specs.Choices.{choice_at, is_open}
 use Rattle.cip_problem.specs.Program.{Sides, Program}
 use Rattle.cip_problem.specs.Activity.{value_at}
-use Rattle.cip_problem.specs.Box.{Between, sides_at}
+use Rattle.cip_problem.specs.Box.{Between, sides_at, sides_inside}
 use Rattle.cip_problem.specs.Cuts.{rounded_low, rounded_high}
 use Rattle.cip_problem.proofs.Rounding.{sides_rounded}
 use Rattle.cip_search.specs.Moving.{fixed_sides, CanTake}
 use Rattle.cip_presolve.specs.FreeColumns.{turned}
-use Rattle.cip_presolve.specs.Moves.{MayTake, least_value, greatest_value, CanBe, MovesTo}
+use Rattle.cip_presolve.specs.Moves.{least_value, greatest_value, CanBe, MovesTo}
 
 -- ---- the value
 
@@ -42,6 +43,11 @@ greatest_whole true None value e w = absurd (none-some value e)
 greatest_whole true (Some high) value e w = subst IsWhole (same_Some (integer (floor high)) value e) (IsWhole-integer (floor high))
 
 -- ---- where a column goes
+
+-- a column that isn't semi-continuous may take sides: they lie inside its own
+pub record MayTake (program : Program) (column : ℕ) (sides : Sides) : Type 0 where
+  pub plain : is_open (choice_at program.choices column) ≡ false
+  pub inside : sides_inside sides (sides_at program.bounds column) ≡ true
 
 module _ (program : Program) (column : ℕ) (whole : Bool) (value : ℚ) (free : List Bool) (inside : column < length program.bounds) (is : slice_get program.integral column ≡ Some whole) (take : MayTake program column (fixed_sides value)) (f : slice_get free column ≡ Some true) where
   whole_if : (slice_get program.integral column ≡ Some true) → whole ≡ true

@@ -15,7 +15,7 @@ use Rattle.cip_search.proofs.Moving.{sides_set}
 use Rattle.cip_presolve.specs.DraftParts.{IsDraft}
 use Rattle.cip_presolve.specs.ColumnsOut.{IsIn, MayAllGo, SourcesStay}
 use Rattle.cip_presolve.specs.FreeColumns.{RowsFree}
-use Rattle.cip_presolve.specs.Moves.{MovesTo, target_at, Follows, AreTargets, IsEntry, AreEntries, IsPlan, IsPlanned, with_target, IsTaken}
+use Rattle.cip_presolve.specs.Moves.{MovesTo, target_at, Follows, AreTargets, IsEntry, AreEntries, IsPlan, IsPlanned, IsTaken}
 use Rattle.cip_presolve.proofs.ImpliedSides.{columns_same}
 
 -- ---- one entry more
@@ -170,6 +170,11 @@ few_plan rising program forms plan p d = omega (arith, p.is.long, d.few)
 pub ruleset planning = (few_forms)
 
 -- ---- a plan is taken
+
+-- a column's sides are its target, where it has one
+abbrev pub with_target : Program → ℕ → Option ℚ → Program
+with_target program column None = program
+with_target program column (Some value) = with_sides program column (fixed_sides value)
 
 pub record TakenTo (plan : List (Option ℚ)) (old new : Program) (count : ℕ) : Type 0 where
   pub same : new ≡ record old { bounds = new.bounds }

@@ -1,13 +1,13 @@
 -- What comes back is a point's values at their places, and those of the forms there.
-use Rattle.std.proofs.Common.{◌≡◌, Bool, List, Option, None, Some, length, sym, ap, ◌∙◌, subst}
-use Rattle.std.specs.Prelude.{map, is_none, MatchOption}
+use Rattle.std.proofs.Common.{◌≡◌, Bool, List, Option, length, sym, ap, ◌∙◌, subst}
+use Rattle.std.specs.Prelude.{map, is_none}
 use Rattle.cip_rational.specs.Rational.{ℚ}
 use Rattle.cip_presolve.specs.Forms.{Form, placed, filled}
 use Rattle.cip_presolve.specs.WholeParts.{with_wholes}
 use Rattle.cip_search.proofs.Spreading.{length-placed}
 use Rattle.cip_presolve.specs.Leaf.{at_wholes}
 use Rattle.cip_presolve.specs.Places.{whole_and_left}
-use Rattle.cip_presolve.specs.StepsBack.{StepsTaken, whole_point, leaf_back, OverflowsBack, ComesBackAs, LeafFitsBack, HasOverflow, WholesFit}
+use Rattle.cip_presolve.specs.StepsBack.{StepsTaken, whole_point, leaf_back, OverflowsBack, LeafFitsBack, HasOverflow, WholesFit, point_back, FitsBack}
 use Rattle.cip_presolve.specs.FilledPoints.{IsFilled}
 use Rattle.cip_presolve.proofs.Placed.{left_placed, wholes_placed}
 
@@ -20,15 +20,15 @@ long_placed forms left point at l e = sym (ap (λ (vs : List ℚ). length vs) (i
 pub wide_back : (steps : StepsTaken) (left : List Bool) (point at : List ℚ) → left ≡ map is_none steps.forms → at ≡ with_wholes left point → HasOverflow steps.forms at → OverflowsBack steps point
 wide_back steps left point at l e h = subst (λ (vs : List ℚ). HasOverflow steps.forms vs) (is_placed steps.forms left point at l e) h
 
+-- values are those that a point comes back as, and none of them overflows
+pub record ComesBackAs (steps : StepsTaken) (point values : List ℚ) : Type 0 where
+  pub are : values ≡ point_back steps point
+  pub fits : FitsBack steps point
+
 pub filled_back : (steps : StepsTaken) (left : List Bool) (point at values : List ℚ) → left ≡ map is_none steps.forms → at ≡ with_wholes left point → IsFilled steps.forms at values → ComesBackAs steps point values
 filled_back steps left point at values l e h =
     let k : IsFilled steps.forms (placed steps.forms point) values = subst (λ (vs : List ℚ). IsFilled steps.forms vs values) (is_placed steps.forms left point at l e) h in
     record { are = k.are; fits = k.fit }
-
--- what was found, under weaker facts
-pub found_back : {X : Type 0} (o : Option X) (A B : Type 0) (P Q : X → Type 0) → (A → B) → ((x : X) → P x → Q x) → MatchOption o A P → MatchOption o B Q
-found_back None A B P Q f g h = f h
-found_back (Some x) A B P Q f g h = g x h
 
 pub ruleset coming_back = (long_placed, wide_back, filled_back)
 

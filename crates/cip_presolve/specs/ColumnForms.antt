@@ -1,15 +1,14 @@
 -- Columns whose value is an affine form of another's wherever a row holds, and rows in which the form stands in the
 -- column's place.
-use Rattle.std.specs.Prelude.{◌≡◌, ◌≢◌, ℕ, ◌<◌, false, List, [], ◌∷◌, Some, length, slice_get, refl}
+use Rattle.std.specs.Prelude.{◌≡◌, ◌≢◌, ℕ, ◌<◌, false, List, Some, length, slice_get, refl}
 use Rattle.std.specs.Coded.{Coded, code_by, coded×, coded_ℕ}
-use Rattle.cip_rational.specs.Rational.{ℚ, ◌+ℚ◌, ◌*ℚ◌, negate, zeroℚ, coded_ℚ}
-use Rattle.cip_problem.specs.Program.{Term, Row, Program}
+use Rattle.cip_rational.specs.Rational.{ℚ, ◌+ℚ◌, ◌*ℚ◌, negate, coded_ℚ}
+use Rattle.cip_problem.specs.Program.{Row, Program}
 use Rattle.cip_problem.specs.Activity.{activity, value_at, StandsBelow}
 use Rattle.cip_problem.specs.Choices.{choice_at, is_open}
 use Rattle.cip_problem.specs.Points.{IsSatisfied}
 use Rattle.cip_presolve.specs.Forms.{Form, form_value}
 use Rattle.cip_presolve.specs.RowSteps.{side_less}
-use Rattle.cip_presolve.specs.Equalities.{IsEquality}
 
 -- constant, factor and source
 abbrev pub form_code : Coded Form
@@ -17,13 +16,6 @@ form_code =
     code_by (ℚ × (ℚ × ℕ)) (coded× coded_ℚ (coded× coded_ℚ coded_ℕ))
     (λ f. (f.constant, (f.factor, f.source)))
     (λ p. record { constant = p.0; factor = p.1.0; source = p.1.1 }) (λ _. refl)
-
--- a row has these two terms alone, and is an equality
-pub record HasTwoTerms (row : Row) (first second : Term) (value : ℚ) : Type 0 where
-  pub terms : row.terms ≡ first ∷ second ∷ []
-  pub equality : IsEquality row value
-  pub first_nonzero : ¬ (first.coefficient ≡ zeroℚ)
-  pub second_nonzero : ¬ (second.coefficient ≡ zeroℚ)
 
 -- a row holds exactly where a column has the value of a form
 pub record GivesForm (row : Row) (column : ℕ) (form : Form) : Type 0 where

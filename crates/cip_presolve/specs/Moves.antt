@@ -1,13 +1,11 @@
 -- Columns that go where they cost least, with those that follow them by their forms: for each column the value that it
 -- goes to, if it moves.
-use Rattle.std.specs.Prelude.{◌≡◌, ◌⊎◌, ℕ, ◌<◌, Bool, true, false, List, Option, None, Some, length, slice_get, slice_index_or, if◌then◌else◌}
+use Rattle.std.specs.Prelude.{◌≡◌, ◌⊎◌, ℕ, ◌<◌, Bool, true, List, Option, None, Some, length, slice_get, slice_index_or, if◌then◌else◌}
 use Rattle.cip_rational.specs.Rational.{ℚ, ◌+ℚ◌, ◌*ℚ◌, zeroℚ, ◌≤ℚ◌, IsWhole}
-use Rattle.cip_problem.specs.Program.{Sides, Program}
+use Rattle.cip_problem.specs.Program.{Program}
 use Rattle.cip_problem.specs.Activity.{value_at}
-use Rattle.cip_problem.specs.Box.{Between, sides_at, sides_inside}
-use Rattle.cip_problem.specs.Choices.{choice_at, is_open}
+use Rattle.cip_problem.specs.Box.{Between, sides_at}
 use Rattle.cip_problem.specs.Cuts.{rounded_low, rounded_high}
-use Rattle.cip_search.specs.NarrowedPrograms.{with_sides}
 use Rattle.cip_search.specs.Forms.{Form}
 use Rattle.cip_search.specs.Moving.{fixed_sides, CanTake}
 use Rattle.cip_presolve.specs.ColumnsOut.{IsIn}
@@ -19,11 +17,6 @@ least_value whole low = if whole then rounded_low low else low
 
 abbrev pub greatest_value : Bool → Option ℚ → Option ℚ
 greatest_value whole high = if whole then rounded_high high else high
-
--- a column that isn't semi-continuous may take sides: they lie inside its own
-pub record MayTake (program : Program) (column : ℕ) (sides : Sides) : Type 0 where
-  pub plain : is_open (choice_at program.choices column) ≡ false
-  pub inside : sides_inside sides (sides_at program.bounds column) ≡ true
 
 -- a value that a column may have by itself
 pub record CanBe (program : Program) (column : ℕ) (value : ℚ) : Type 0 where
@@ -88,11 +81,6 @@ pub record IsPlanned (rising : Bool) (program : Program) (forms : List (Option F
   pub free : List Bool
   pub rows : RowsFree rising free forms program.rows
   pub is : IsPlan rising free program forms plan
-
--- a column's sides are its target, where it has one
-abbrev pub with_target : Program → ℕ → Option ℚ → Program
-with_target program column None = program
-with_target program column (Some value) = with_sides program column (fixed_sides value)
 
 -- the columns that move have their values as both sides, and nothing else is changed
 pub record IsTaken (plan : List (Option ℚ)) (program changed : Program) : Type 0 where

@@ -1,11 +1,10 @@
 -- A row without one of its terms, and what that says of the term's column.
-use Rattle.std.specs.Prelude.{◌≡◌, ℕ, true, List, Option, Some, IfSome, Bool}
-use Rattle.cip_rational.specs.Rational.{ℚ, ◌+ℚ◌, ◌-ℚ◌, ◌*ℚ◌, negate, ◌≤ℚ◌, IsWhole}
-use Rattle.cip_problem.specs.Program.{Term, Sides, Row}
+use Rattle.std.specs.Prelude.{◌≡◌, ℕ, List, Option, Some, IfSome}
+use Rattle.cip_rational.specs.Rational.{ℚ, ◌+ℚ◌, ◌-ℚ◌, ◌*ℚ◌, negate, ◌≤ℚ◌}
+use Rattle.cip_problem.specs.Program.{Term, Sides}
 use Rattle.cip_problem.specs.Activity.{activity, value_at}
-use Rattle.cip_problem.specs.Box.{Between, IsInBox}
+use Rattle.cip_problem.specs.Box.{IsInBox}
 use Rattle.cip_problem.specs.RowTerms.{column_at, coefficient_at}
-use Rattle.cip_problem.specs.Points.{IsSatisfied}
 use Rattle.cip_presolve.specs.RowSums.{least_side}
 
 -- the least product of a coefficient and a value between two sides, and the greatest one: each at one of the sides
@@ -44,11 +43,3 @@ pub record IsDifference (side rest : Option ℚ) (difference : ℚ) : Type 0 whe
   pub is_side : side ≡ Some minuend
   pub is_rest : rest ≡ Some subtrahend
   pub value : difference ≡ minuend -ℚ subtrahend
-
--- a row implies sides for the column of the term at a place: each point of the box that satisfies it, with a whole
--- value where the column is whole, has its value between them
-abbrev pub Implies : List Sides → Row → ℕ → Bool → Sides → Type 0
-Implies box row at whole sides =
-    (point : List ℚ) → IsInBox box point → IsSatisfied row point
-    → (whole ≡ true → IsWhole (value_at point (column_at row.terms at)))
-    → Between sides.low sides.high (value_at point (column_at row.terms at))

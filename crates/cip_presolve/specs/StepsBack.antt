@@ -84,8 +84,3 @@ FitsBack steps point = AllFit steps.forms (placed steps.forms point)
 -- no value of a whole column overflows where whole values come back
 abbrev pub LeafFitsBack : StepsTaken → List ℚ → Type 0
 LeafFitsBack steps wholes = WholesFit steps.forms steps.whole (placed steps.forms (whole_point steps wholes))
-
--- values are those that a point comes back as, and none of them overflows
-pub record ComesBackAs (steps : StepsTaken) (point values : List ℚ) : Type 0 where
-  pub are : values ≡ point_back steps point
-  pub fits : FitsBack steps point

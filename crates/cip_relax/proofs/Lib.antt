@@ -1,3 +1,4 @@
+pub mod Gathered
 pub mod Lists
 pub mod Naming
 pub mod Ready

@@ -16,11 +16,12 @@ use Rattle.cip_plugin.specs.Wishing.{ends, seat_fault}
 use Rattle.cip_plugin.proofs.Running.{Runs-append}
 use Rattle.cip_roster.specs.KeptRankings.{Room}
 use Rattle.cip_roster.specs.Turns.{IsSound, StandsAt}
-use Rattle.cip_roster.specs.Closed.{Back, all_end, back, backs, lives_there, shelf_backs}
+use Rattle.cip_roster.specs.Closed.{Back, all_end, back, backs, shelf_backs}
 use Rattle.cip_roster.specs.Moved.{numbered, unnumbered}
 use Rattle.cip_roster.specs.Shelves.{shown}
 use Rattle.cip_roster.proofs.Calm.{all_at}
 use Rattle.cip_roster.proofs.Sounding.{AreOf, run_elsewhere}
+use Rattle.cip_roster.proofs.Wishes.{lives_there}
 
 -- the last calls of some plugins and of one more
 pub all_end_more : (id : ℕ) (xs : List Seat) (x : Seat)

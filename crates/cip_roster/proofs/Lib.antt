@@ -1,3 +1,4 @@
+pub mod Asked
 pub mod Beginning
 pub mod Calm
 pub mod Coming

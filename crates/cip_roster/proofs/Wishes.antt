@@ -12,7 +12,6 @@ use Rattle.cip_plugin.specs.Steps.{Turns, Takes, Runs}
 use Rattle.cip_plugin.specs.Wishing.{Granted, begins, ends, fault_of, is_enabled, place_fault, seat_fault}
 use Rattle.cip_plugin.proofs.Counting.{count_set}
 use Rattle.cip_plugin.proofs.Running.{Runs-append}
-use Rattle.cip_roster.specs.Closed.{lives_there}
 use Rattle.cip_roster.specs.KeptRankings.{Room}
 use Rattle.cip_roster.specs.Turns.{IsLiveAt, IsSound, StandsAt}
 use Rattle.cip_roster.proofs.Keeping.{at_place}
@@ -135,6 +134,11 @@ live_room state id room sound live =
     let one : cond {A = ℕ} (is_live live.seat) 1 0 ≡ 1 = ap (λ (b : Bool). cond b 1 0) live.lives in
     let lasts = sound.lasts in
     omega arith
+
+-- whether the plugin of a number is live
+abbrev pub lives_there : Option Seat → Bool
+lives_there None = false
+lives_there (Some seat) = is_live seat
 
 -- a plugin that is live where it is looked up
 there_by : (state : State) (id : ℕ) (o : Option Seat) → slice_get state.seats id ≡ o → true ≡ lives_there o

@@ -1,5 +1,5 @@
 -- How a roster ends.
-use Rattle.std.specs.Prelude.{◌≡◌, ℕ, ◌+◌, List, [], ◌∷◌, ◌++◌, Option, None, Some, Bool, false, All, if◌then◌else◌}
+use Rattle.std.specs.Prelude.{◌≡◌, ℕ, ◌+◌, List, [], ◌∷◌, ◌++◌, Option, None, Some, false, All, if◌then◌else◌}
 use Rattle.cip_plugin.specs.Who.{Who}
 use Rattle.cip_plugin.specs.Seats.{Seat, State, is_live}
 use Rattle.cip_plugin.specs.Steps.{Step, Runs}
@@ -24,11 +24,6 @@ abbrev pub shelf_backs : List (Option Who) → List Back
 shelf_backs [] = []
 shelf_backs (None ∷ places) = shelf_backs places
 shelf_backs (Some who ∷ places) = record { id = None; who = who } ∷ shelf_backs places
-
--- whether the plugin of a number is live
-abbrev pub lives_there : Option Seat → Bool
-lives_there None = false
-lives_there (Some seat) = is_live seat
 
 -- the two last calls of each live plugin, by number
 abbrev pub all_end : ℕ → List Seat → List Step

@@ -34,6 +34,15 @@ All-right P (x ∷ xs) ys h = All-right P xs ys (λ k d l. h (suc k) d (omega (a
 
 -- ---- one after another
 
+-- nothing was let go yet
+pub none_released : (slots : Slots) → AreReleased slots slots []
+none_released slots = record {
+  live = λ k s e f d. f;
+  left = λ k s e. (All-nil _, (s.below, e));
+  waiting = omega arith;
+  others = λ test a b. refl;
+}
+
 pub one_released : (old new : Slots) (node : OpenNode) → IsReleased old new node.place → AreSoundSlots new → StandsAs Open old node → AreReleased old new (node ∷ [])
 one_released old new node r kept stands = record {
   live = λ place slot d e f. r.live place slot (λ same. d 0 node (omega arith) (sym same)) e f;
@@ -84,6 +93,11 @@ next_released old now new cost nodes at node l e h k =
 -- the node alone, by what its test said
 pub dearer_one : (cost : ℚ) (node : OpenNode) (old new : Slots) → is_below cost node ≡ false → AreReleased old new (node ∷ []) → AreReleased old new (dearer cost (node ∷ []))
 dearer_one cost node old new e h = subst (λ b. AreReleased old new (cond (not b) (node ∷ []) [])) (sym e) h
+
+pub dearer_none : (cost : ℚ) (node : OpenNode) (slots : Slots) → is_below cost node ≡ true
+    → AreReleased slots slots (dearer cost (node ∷ []))
+dearer_none cost node slots e = subst (λ b. AreReleased slots slots (cond (not b) (node ∷ []) [])) (sym e)
+    (none_released slots)
 
 pub open_is_idle : (slots : Slots) (node : OpenNode) → AreSoundSlots slots → StandsAs Open slots node → IsIdle slots node.place
 open_is_idle slots node kept s = live_is_idle slots node.place s.slot kept s.found (open_not_ended s.slot.stage s.stage_is)

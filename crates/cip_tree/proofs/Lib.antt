@@ -7,6 +7,7 @@ pub mod Links
 pub mod Orders
 pub mod Parted
 pub mod Paths
+pub mod Placing
 pub mod Queues
 pub mod Restaged
 pub mod Rooms

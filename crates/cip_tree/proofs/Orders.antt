@@ -410,3 +410,9 @@ least_shown region slots nodes (Some bound) h = record {
 -- trees of equal parts are equal
 pub nodes_equal : (root : Node) (integral : List Bool) (a b p r : List Node) (t : List (Option Base)) (ids : ℕ) (k l : List Entry) (w : Region) → a ≡ b → p ≡ r → k ≡ l → let x : Nodes = record { root = root; integral = integral; open_ = a; parked = p; taken = t; ids = ids; log = k; work = w } in let y : Nodes = record { root = root; integral = integral; open_ = b; parked = r; taken = t; ids = ids; log = l; work = w } in x ≡ y
 nodes_equal root integral a b p r t ids k l w e f g = cc
+
+pub order_same : (old new : Slots) (q more p aside : List OpenNode) (ids work : ℕ) → new ≡ old → more ≡ q → aside ≡ p
+    → IsInOrder old q p ids work → IsInOrder new more aside ids work
+order_same old new q more p aside ids work e f g o =
+    subst (λ s. IsInOrder s more aside ids work) (sym e)
+    (subst (λ l. IsInOrder old l aside ids work) (sym f) (subst (λ l. IsInOrder old q l ids work) (sym g) o))

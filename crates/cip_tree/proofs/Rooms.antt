@@ -67,3 +67,22 @@ room_root nodes spare parked_spare log_spare one parked log = record {
   parked = omega (arith, one, parked);
   log = omega (arith, one, log);
 }
+
+pub room_some : (work spare : ℕ) → work + 1 ≤ spare → 0 < spare
+room_some work spare a = omega (arith, a)
+
+pub room_entry : (nodes work capacity len : ℕ) → nodes + work + 2 ≤ capacity - len → len < capacity
+room_entry nodes work capacity len a = omega (arith, a)
+
+-- there is more room for as many nodes
+pub room_grown : (nodes more work spare left parked_spare parked_left log_spare log_left : ℕ)
+    → HasRoom nodes work spare parked_spare log_spare → more ≡ nodes → spare ≤ left → parked_spare ≤ parked_left
+    → log_spare ≤ log_left → HasRoom more work left parked_left log_left
+room_grown nodes more work spare left parked_spare parked_left log_spare log_left r same a b d = record {
+  queue = omega (arith, r.queue, a);
+  parked = omega (arith, r.parked, same, b);
+  log = omega (arith, r.log, same, d);
+}
+
+pub room_one : (capacity len : ℕ) → len ≡ 0 → 1 ≤ capacity → 1 ≤ capacity - len
+room_one capacity len none room = omega (arith, none, room)

@@ -1,6 +1,7 @@
 -- The halves of a node that a split is told to give.
 use Rattle.std.proofs.Common.{◌≡◌, ℕ, ℤ, pos, ◌+ℤ◌, true, false, Some, Result, Ok, Err, MatchResult, refl, sym, ap, ◌∙◌, subst}
-use Rattle.std.specs.Prelude.{slice_get}
+use Rattle.std.specs.Prelude.{slice_get, IsErrAnd}
+use Rattle.std.proofs.lemmas.Result.{err_from_is_err_and}
 use Rattle.cip_rational.specs.Rational.{integer}
 use Rattle.cip_problem.specs.Program.{Sides, Plain, Open}
 use Rattle.cip_problem.specs.Box.{sides_at}
@@ -52,3 +53,8 @@ module _ (tree : Nodes) (node : TakenNode) (column : ℕ) (at : ℤ) (wholes : A
             (ap (λ c. let t : Change = record { column = column; sides = left_sides c false; made = Some false } in t) at_root)
             (ap (λ c. let t : Change = record { column = column; sides = left_sides c true; made = Some true } in t) at_root);
       }
+
+-- what the exit of a `?` returns
+pub fault_told : {X E : Type 0} (r : Result X E) (P : X → Type 0) (Q G : E → Type 0) → IsErrAnd r G
+    → ((y : E) → G y → Q y) → MatchResult r P Q
+fault_told r P Q G e told = let p = err_from_is_err_and r e in subst (λ x. MatchResult x P Q) (sym p.1) (told p.0 p.2)

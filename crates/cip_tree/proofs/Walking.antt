@@ -4,7 +4,7 @@ use Rattle.std.specs.Prelude.{Result, Ok, Err, IsErr, IfOk}
 use Rattle.std.proofs.lemmas.Bool.{cases_lt}
 use Rattle.std.proofs.lemmas.Option.{none-some, same_Some, slice_get-get_or}
 use Rattle.std.proofs.lemmas.List.{map-append, reverse-append, take_more, take-append-drop, length-take, get_or-take, length_push, get_or_append_left, get_or_push}
-use Rattle.std.proofs.lemmas.List.Elements.{All-push, All-take}
+use Rattle.std.proofs.lemmas.List.Elements.{All-nil, All-push, All-take}
 use Rattle.cip_rational.specs.Rational.{ℚ}
 use Rattle.cip_problem.specs.Box.{IsInBox}
 use Rattle.cip_domain.specs.Changes.{Region, Change, tightened, narrowed}
@@ -129,6 +129,30 @@ tightening_keeps Empty old new column side value e = subst (KeepsMarks old) (sym
 pub walked_marks : (root : Region) (slots : Slots) (ids : ℕ) (old new : Way) → new.stops ≡ old.stops → AreHeld old.domain old.stops → KeepsMarks old.domain new.domain → IsWalked root slots ids old → IsWalked root slots ids new
 walked_marks root slots ids old new e held keeps w =
     walked_kept root slots ids old new e (λ mark l. keeps.same mark (omega (arith, l))) (λ k d l. keeps.same _ (held k d l)) w
+
+-- marks that were held are held where marks are kept
+pub held_longer : (old new : Domain) (stops : List Stop) → AreHeld old stops → KeepsMarks old new → AreHeld new stops
+held_longer old new stops h keeps = λ k d l. omega (arith, h k d l, keeps.grows)
+
+-- a stop at the end of the way, where the region stands
+pub way_longer : (old new : Domain) (stops : List Stop) (last : Stop) → AreRising stops → AreHeld old stops
+    → KeepsMarks old new → last.mark ≡ length new.before
+    → AreRising (stops ++ last ∷ []) × AreHeld new (stops ++ last ∷ [])
+way_longer old new stops last rising held keeps e = (
+  rising_longer stops last rising (λ k d l. omega (arith, held k d l, keeps.grows, e)),
+  All-push (λ (stop : Stop). stop.mark ≤ length new.before) stops last (held_longer old new stops held keeps)
+      (omega (arith, e)),
+)
+
+-- no stop, and one at the root
+pub none_rise : (domain : Domain) → AreRising [] × AreHeld domain []
+none_rise domain = (λ first second other a b. absurd (omega (arith, b)), All-nil _)
+
+pub one_rises : (domain : Domain) (stop : Stop) → stop.mark ≡ 0 → AreRising (stop ∷ []) × AreHeld domain (stop ∷ [])
+one_rises domain stop e = (
+  rising_longer [] stop (none_rise domain).0 (All-nil _),
+  All-push (λ (s : Stop). s.mark ≤ length domain.before) [] stop (All-nil _) (omega (arith, e)),
+)
 
 -- ---- other slots
 

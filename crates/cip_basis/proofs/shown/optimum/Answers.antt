@@ -31,3 +31,6 @@ returns-in_default-tested-clause-room c = grind (arith, common_steps)
 
 pub returns-in_default-clause-room : goal.returns-in_default-clause-room
 returns-in_default-clause-room c = grind (arith, common_steps)
+
+pub least-requires-clause-room : goal.least-requires-clause-room
+least-requires-clause-room c = c.requires.room

@@ -34,3 +34,6 @@ returns-in-Err-clause-room c = grind (arith, common_steps)
 
 pub returns-in-Err-clause-shown : goal.returns-in-Err-clause-shown
 returns-in-Err-clause-shown c = grind (arith, common_steps)
+
+pub shown_by-requires-in-Ok-None-shown_by-clause-room : goal.shown_by-requires-in-Ok-None-shown_by-clause-room
+shown_by-requires-in-Ok-None-shown_by-clause-room c = omega (arith, c.requires.room, c.shown_by.ensures.room)

@@ -1,5 +1,6 @@
 use Rattle.std.proofs.lemmas.Grind.{common_steps}
 use Rattle.std.proofs.Common.{length, false, get_or, arith}
+use Rattle.cip_cert.proofs.Allowed.{low_answer, high_answer}
 use Rattle.cip_cert.specs.Lent.{lent_of, multiples_of}
 use Rattle.cip_cert.proofs.Meaning.{low_on_ok, high_on_ok}
 use Rattle.cip_cert.proofs.calls.reduction.Goals as goal
@@ -59,3 +60,15 @@ returns-in-High-clause-bounds c = grind (arith, common_steps)
 
 pub returns-in-Low-clause-bounds : goal.returns-in-Low-clause-bounds
 returns-in-Low-clause-bounds c = grind (arith, common_steps)
+
+pub returns-in-High-clause-value : goal.returns-in-High-clause-value
+returns-in-High-clause-value c =
+    high_answer (lent_of c.args.rows.now) (get_or c.args.rows.now.whole.now c.args.column false) c.args.bounds.now
+    (length c.args.scratch.now.row.entries) c.args.column c.args.value (multiples_of c.args.combo.now)
+    c.high_reduced_row.result c.high_reduced_row.ensures.steps
+
+pub returns-in-Low-clause-value : goal.returns-in-Low-clause-value
+returns-in-Low-clause-value c =
+    low_answer (lent_of c.args.rows.now) (get_or c.args.rows.now.whole.now c.args.column false) c.args.bounds.now
+    (length c.args.scratch.now.row.entries) c.args.column c.args.value (multiples_of c.args.combo.now)
+    c.low_reduced_row.result c.low_reduced_row.ensures.steps

@@ -1,5 +1,7 @@
 use Rattle.std.proofs.lemmas.Grind.{common_steps}
 use Rattle.std.proofs.Common.{refl, arith}
+use Rattle.cip_cert.proofs.NamedRows.{own_named, none_named}
+use Rattle.cip_cert.specs.Lent.{lent_of}
 use Rattle.cip_cert.proofs.entries.named_row.Goals as goal
 
 pub kept_row-requires-clause-rising : goal.kept_row-requires-clause-rising
@@ -22,3 +24,13 @@ overflow_cast-number c = grind (arith, common_steps)
 
 pub get-requires : goal.get-requires
 get-requires c = grind (arith, common_steps)
+
+pub returns-in-Some : goal.returns-in-Some
+returns-in-Some c =
+    own_named (lent_of c.args.rows.now) c.args.bounds.now c.args.entry c.in-Own.number c.args.name c.in-Some.row.now
+    c.in-Own.is c.in-Some.ensures.lookup.3.0 c.in-Some.ensures.lookup.1 c.requires.own
+
+pub returns-in-None : goal.returns-in-None
+returns-in-None c =
+    none_named (lent_of c.args.rows.now) c.args.bounds.now c.args.entry c.in-Own.number c.args.name c.in-Own.is
+    c.in-None.ensures.lookup.3

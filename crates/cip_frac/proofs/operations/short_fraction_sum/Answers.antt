@@ -66,7 +66,15 @@ returns c =
     (sum_fits c.args.left c.args.right c.in-Some.a c.in-Some-short_terms.c _ _ _ _ _ c.in-Some.ensures c.in-Some-short_terms.ensures ka kc c.denominators_gcd-g.ensures c.short_part_of-over.ensures c.short_part_of-under.ensures c.cross_sum-total.result c.cross_sum-total.ensures, c.of_lowest-2.ensures ∙ rest_is c.args.left c.args.right c.in-Some.a c.in-Some-short_terms.c _ _ _ _ _ c.in-Some.ensures c.in-Some-short_terms.ensures ka kc c.denominators_gcd-g.ensures c.short_part_of-over.ensures c.short_part_of-under.ensures c.cross_sum-total.result c.cross_sum-total.ensures _ _ c.unsigned_abs.ensures.value c.gcd-rest.ensures _ _ c.signed_part_of-numerator.ensures c.part_of-last.ensures)
 
 pub overflow_mul-under : goal.overflow_mul-under
-overflow_mul-under c = grind (arith, common_steps)
+overflow_mul-under c =
+    let ka : word c.in-Some.a ≡ c.in-Some.a = search rules in
+    let kc : word c.in-Some-short_terms.c ≡ c.in-Some-short_terms.c = search rules in
+    let small = (rest_lowest c.args.left c.args.right c.in-Some.a c.in-Some-short_terms.c _ _ _ _ _
+    c.in-Some.ensures c.in-Some-short_terms.ensures ka kc c.denominators_gcd-g.ensures
+    c.short_part_of-over.ensures c.short_part_of-under.ensures c.cross_sum-total.result c.cross_sum-total.ensures
+    _ _ c.unsigned_abs.ensures.value c.gcd-rest.ensures _ _ c.signed_part_of-numerator.ensures
+    c.part_of-last.ensures).under_small in
+    omega (arith, small)
 
 pub overflow_cast-under : goal.overflow_cast-under
 overflow_cast-under c = omega arith

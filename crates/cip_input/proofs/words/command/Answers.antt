@@ -4,8 +4,8 @@ use Rattle.std.specs.Prelude.{IfOk}
 use Rattle.std.proofs.lemmas.Result.{IfOk-weaker}
 use Rattle.clap.specs.Words.{App, Shape, with_subcommand}
 use Rattle.clap.specs.Simple.{app_of_fields, on_top}
-use Rattle.cip_input.specs.Jobs.{IsAddedAs, solve_command, check_command, self_command, cip_command}
-use Rattle.cip_input.proofs.Commands.{added_as}
+use Rattle.cip_input.specs.Jobs.{solve_command, check_command, self_command, cip_command}
+use Rattle.cip_input.proofs.Commands.{added_as, IsAddedAs}
 use Rattle.cip_input.proofs.words.command.Goals as goal
 
 pub returns : goal.returns

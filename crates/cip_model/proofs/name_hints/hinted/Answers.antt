@@ -1,5 +1,6 @@
 use Rattle.std.proofs.lemmas.Grind.{common_steps}
-use Rattle.std.proofs.Common.{arith}
+use Rattle.std.proofs.Common.{arith, ◌∙◌, Some, ap, sym}
+use Rattle.cip_model.proofs.NamePlaces.{same}
 use Rattle.cip_model.proofs.name_hints.hinted.Goals as goal
 
 pub bounds-hints-place_of : goal.bounds-hints-place_of
@@ -34,3 +35,7 @@ returns-then-count-eq0 c = grind (arith, common_steps)
 
 pub loop-look-preserved-then-hint-marked : goal.loop-look-preserved-then-hint-marked
 loop-look-preserved-then-hint-marked c = grind (arith, common_steps)
+
+pub returns-then-eq : goal.returns-then-eq
+returns-then-eq c =
+    c.piece.ensures ∙ ap Some (same c.piece.result.now c.args.name.now (sym c.eq.ensures ∙ c.if-eq.true))

@@ -1,9 +1,11 @@
 use Rattle.std.proofs.lemmas.Grind.{common_steps}
-use Rattle.std.proofs.Common.{◌≡◌, Bool, List, true, false, get_or, refl, sym, subst, arith}
+use Rattle.std.proofs.Common.{◌≡◌, Bool, List, true, false, get_or, refl, sym, subst, arith, ℕ, ◌<◌, length, ◌∙◌, ap}
 use Rattle.std.specs.Bool.{MatchBool, IsTrue}
 use Rattle.cip_rational.specs.Rational.{ℚ, zeroℚ, IsWhole}
 use Rattle.cip_problem.specs.Cuts.{CanRound, CanRoundAt}
 use Rattle.cip_problem.proofs.Zips.{zip_from, zip_at}
+use borrow.Author.Count.{below_more}
+use Rattle.std.proofs.lemmas.List.{get_or_default}
 use Rattle.cip_model.proofs.whole_costs.are_costs_whole.Goals as goal
 
 pub loop-at-init : goal.loop-at-init
@@ -47,3 +49,21 @@ offset_bounds-costs-at c = grind (arith, common_steps)
 
 pub bounds-whole-at : goal.bounds-whole-at
 bounds-whole-at c = grind (arith, common_steps)
+
+pub loop-at-preserved : goal.loop-at-preserved
+loop-at-preserved c =
+    let whole = c.whole-whole.result.now in
+    let costs = c.costs-costs.result.now in
+    let at = c.loop-at.at in
+    let costed : at < length costs =
+    omega (
+      arith,
+      c.loop-at-test.true,
+      ap length c.whole-whole.ensures.whole,
+      ap length c.costs-costs.ensures.costs,
+      c.costs-costs.ensures.formed.integral,
+    ) in
+    below_more (λ (k : ℕ). CanRoundAt (get_or whole k false) (get_or costs k zeroℚ)) at c.loop-at.invariant
+    (subst (CanRoundAt (get_or whole at false))
+    (c.index-costs-at.is ∙ get_or_default costs at c.index-costs-at.result zeroℚ costed)
+    c.if-not-can_round.ensures)

@@ -1,10 +1,12 @@
 use Rattle.std.proofs.lemmas.Grind.{common_steps}
-use Rattle.std.proofs.Common.{true, false, arith}
-use Rattle.cip_problem.specs.Box.{no_sides}
+use Rattle.std.proofs.Common.{true, false, arith, ℕ, subst}
+use Rattle.cip_problem.specs.Box.{no_sides, sides_at}
 use Rattle.cip_problem.specs.Wholes.{HasWhole}
 use Rattle.cip_problem.specs.Program.{Sides}
 use Rattle.std.proofs.Common.{◌≡◌, Bool}
 use Rattle.cip_problem.proofs.Zips.{zip_from}
+use borrow.Author.Count.{below_more}
+use Rattle.cip_node_rules.specs.OpenColumns.{is_whole_at}
 use Rattle.cip_node_rules.proofs.columns.lacking_column.Goals as goal
 
 pub returns : goal.returns
@@ -13,7 +15,10 @@ returns c =
     (λ k l. c.loop-column.invariant k (omega (arith, l)))
 
 pub loop-column-preserved : goal.loop-column-preserved
-loop-column-preserved c = grind (arith, common_steps)
+loop-column-preserved c =
+    let column = c.loop-column.column in
+    below_more (λ (k : ℕ). is_whole_at c.args.whole.now k ≡ true → HasWhole (sides_at c.args.bounds.now k)) column
+    c.loop-column.invariant (λ e. subst HasWhole c.sides.ensures (c.if-lacks_whole.ensures e))
 
 pub sides-requires : goal.sides-requires
 sides-requires c = grind (arith, common_steps)

@@ -1,6 +1,7 @@
 use Rattle.std.proofs.lemmas.Grind.{common_steps}
 use Rattle.std.proofs.Common.{◌≡◌, ◌∙◌, ap, arith}
-use Rattle.std.proofs.lemmas.Int.{ints}
+use Rattle.std.specs.Int.{w128}
+use Rattle.std.proofs.lemmas.Int.{to_z-of_z}
 use Rattle.cip_rational.specs.Rational.{numerator, floor}
 use Rattle.cip_rational.proofs.Rational.Lowest.{numerator-integer}
 use Rattle.cip_node_rules.proofs.splits.last_whole.Goals as goal
@@ -8,7 +9,7 @@ use Rattle.cip_node_rules.proofs.splits.last_whole.Goals as goal
 pub returns-clause-value : goal.returns-clause-value
 returns-clause-value c =
     let e : c.numerator.result ≡ floor c.args.high = c.numerator.ensures.value ∙ ap numerator c.rounded_down.ensures ∙ numerator-integer _ in
-    omega (arith, ints, e)
+    to_z-of_z w128 c.numerator.result (record { sfits = c.numerator.type_inv }) ∙ e
 
 pub returns-clause-bounded : goal.returns-clause-bounded
 returns-clause-bounded c = grind (arith, common_steps)

@@ -1,6 +1,7 @@
+use Rattle.std.proofs.lemmas.Result.{IfOk-from_err}
 use Rattle.std.proofs.lemmas.Grind.{common_steps}
 use Rattle.std.proofs.Common.{◌<◌, length, rules, arith}
-use Rattle.cip_presolve.proofs.CopiedParts.{names_skip, names_take, all_names}
+use Rattle.cip_presolve.proofs.CopiedParts.{names_skip, names_take, all_names, new_name}
 use Rattle.cip_presolve.proofs.copies.names_left.Goals as goal
 
 pub loop-at-preserved-then-gone-at : goal.loop-at-preserved-then-gone-at
@@ -25,3 +26,11 @@ loop-at-init c = grind (arith, common_steps)
 
 pub same-left : goal.same-left
 same-left c = grind (arith, common_steps)
+
+pub add_copy-requires : goal.add_copy-requires
+add_copy-requires c =
+    new_name c.args.gone.now c.args.names.now c.loop-at.left c.loop-at.at c.name.result.now c.loop-at.invariant
+    c.stand_once.ensures c.name.ensures
+
+pub returns-in_err-add_copy : goal.returns-in_err-add_copy
+returns-in_err-add_copy c = IfOk-from_err c.from_residual.result _ c.from_residual.ensures.0

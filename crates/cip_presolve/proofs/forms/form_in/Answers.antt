@@ -2,8 +2,7 @@ use Rattle.std.proofs.lemmas.Grind.{common_steps}
 use Rattle.std.proofs.Common.{◌≡◌, ◌∷◌, [], IfSome, sym, ap, ◌∙◌, subst, arith}
 use Rattle.cip_presolve.specs.Equalities.{equality_form}
 use Rattle.cip_problem.specs.Program.{Term}
-use Rattle.cip_presolve.specs.ColumnForms.{HasTwoTerms}
-use Rattle.cip_presolve.proofs.FormsOfRows.{two_items, two_found_by, first_given, second_given}
+use Rattle.cip_presolve.proofs.FormsOfRows.{two_items, two_found_by, first_given, second_given, HasTwoTerms}
 use Rattle.cip_presolve.proofs.forms.form_in.Goals as goal
 
 pub returns-then-first-column : goal.returns-then-first-column

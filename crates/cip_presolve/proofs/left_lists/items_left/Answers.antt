@@ -1,3 +1,4 @@
+use Rattle.std.proofs.lemmas.Result.{IfOk-from_err}
 use Rattle.std.proofs.lemmas.Grind.{common_steps}
 use Rattle.std.proofs.Common.{◌<◌, ◌≤◌, min, length, arith}
 use Rattle.cip_presolve.specs.EntriesLeft.{entries_left}
@@ -30,3 +31,6 @@ offset_bounds-items-at g c = grind (arith, common_steps)
 
 pub bounds-gone-at : goal.bounds-gone-at
 bounds-gone-at g c = grind (arith, common_steps)
+
+pub returns-in_err-push : goal.returns-in_err-push
+returns-in_err-push g c = IfOk-from_err c.from_residual.result _ c.from_residual.ensures.0

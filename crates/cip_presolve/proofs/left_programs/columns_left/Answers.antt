@@ -1,10 +1,11 @@
 use Rattle.std.proofs.lemmas.Grind.{common_steps}
-use Rattle.std.proofs.Common.{◌≡◌, rules, ℕ, Bool, List, length, sym, ap, ◌∙◌, arith}
-use Rattle.cip_problem.specs.Program.{Row, Program}
+use Rattle.std.proofs.Common.{◌≡◌, ℕ, Bool, List, length, sym, ap, ◌∙◌, arith}
+use Rattle.cip_problem.specs.Program.{Row, Sides, Choice, Program}
 use Rattle.cip_presolve.specs.LeftProgram.{dropped_rows, left_columns}
 use Rattle.cip_rational.specs.Rational.{ℚ}
 use Rattle.cip_presolve.specs.EntriesLeft.{entries_left}
 use Rattle.cip_presolve.proofs.Leftovers.{length_map}
+use Rattle.cip_presolve.proofs.PartsRead.{same_program}
 use Rattle.cip_presolve.proofs.left_programs.columns_left.Goals as goal
 
 pub returns : goal.returns
@@ -16,20 +17,13 @@ returns c =
     let rows : c.new.result.items ≡ p.rows = c.new.ensures.items in
     let costs : c.in-Ok.costs.items ≡ p.costs = c.in-Ok.ensures ∙ ap (λ (qs : List ℚ). entries_left c.args.gone.now qs) c.costs.ensures in
     let constant : c.constant.result ≡ p.constant = c.constant.ensures in
-    let integral : c.in-Ok-items_left.whole.items ≡ p.integral = search rules in
-    let bounds : c.in-Ok-bounds_left.bounds ≡ p.bounds = search rules in
-    let choices : c.in-Ok-choices_left.choices ≡ p.choices = search rules in
-    λ i. record {
-      column_names = column_names i;
-      row_names = row_names i;
-      rows = rows i;
-      costs = costs i;
-      constant = constant i;
-      maximized = c.sense.ensures i;
-      integral = integral i;
-      bounds = bounds i;
-      choices = choices i;
-    }
+    let integral : c.in-Ok-items_left.whole.items ≡ p.integral = c.in-Ok-items_left.ensures
+    ∙ ap (λ (bs : List Bool). entries_left c.args.gone.now bs) c.whole.ensures in
+    let bounds : c.in-Ok-bounds_left.bounds ≡ p.bounds = c.in-Ok-bounds_left.ensures
+    ∙ ap (λ (ss : List Sides). entries_left c.args.gone.now ss) (c.as_slice.ensures ∙ c.bounds.ensures.bounds) in
+    let choices : c.in-Ok-choices_left.choices ≡ p.choices = c.in-Ok-choices_left.ensures
+    ∙ ap (λ (cs : List Choice). entries_left c.args.gone.now cs) (c.as_slice-2.ensures ∙ c.choices.ensures) in
+    same_program _ p column_names row_names rows costs constant c.sense.ensures integral bounds choices
 
 pub names_left-requires : goal.names_left-requires
 names_left-requires c = c.requires.column_names ∙ sym (ap (λ (ns : List (List ℕ)). length ns) c.column_names.ensures.names)

@@ -1,3 +1,4 @@
+use Rattle.cip_presolve.proofs.PartsRead.{all_counted}
 use Rattle.std.proofs.lemmas.Grind.{common_steps}
 use Rattle.std.proofs.Common.{◌+◌, ◌++◌, ◌∷◌, [], ◌-◌, ◌<◌, ap, sym, ◌∙◌, append_assoc, arith}
 use Rattle.cip_presolve.specs.PresolvedPrograms.{counted}
@@ -17,3 +18,8 @@ overflow_cast-column c = grind (arith, common_steps)
 
 pub loop-column-init : goal.loop-column-init
 loop-column-init c = grind (arith, common_steps)
+
+pub returns : goal.returns
+returns c =
+    all_counted c.loop-column.numbers.items _ c.loop-column.column c.args.columns c.loop-column-test.false
+    c.loop-column.invariant

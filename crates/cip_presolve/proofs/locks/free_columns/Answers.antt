@@ -1,6 +1,6 @@
 use Rattle.std.proofs.lemmas.Grind.{common_steps}
 use Rattle.cip_presolve.proofs.Free.{row_locked, row_spent, row_stands}
-use Rattle.std.proofs.Common.{◌≡◌, length, rules, sym, ◌∙◌, arith}
+use Rattle.std.proofs.Common.{◌≡◌, length, sym, ◌∙◌, arith}
 use Rattle.cip_presolve.proofs.RowsSpent.{some_spent}
 use Rattle.cip_presolve.proofs.locks.free_columns.Goals as goal
 
@@ -16,7 +16,8 @@ loop-row-preserved-then-is_some c =
 
 pub lock_terms-requires : goal.lock_terms-requires
 lock_terms-requires c =
-    let long : length c.in_ok-free.free.items ≡ c.args.columns = search rules in
+    let long : length c.in_ok-free.free.items ≡ c.args.columns = omega
+    (arith, c.in_ok-free.ensures.len, c.in_ok-free.free.ok.0) in
     row_stands c.args.rising c.args.columns c.in_ok-free.free.items c.loop-row.free.items c.args.forms.now c.args.rows.now c.loop-row.row-index c.row-item.result c.terms.result.now
     c.loop-row.invariant long c.requires c.loop-row-test.true c.row-item.is c.terms.ensures.terms
 

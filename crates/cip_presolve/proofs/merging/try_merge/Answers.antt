@@ -73,7 +73,8 @@ pub row_of_terms-requires : goal.row_of_terms-requires
 row_of_terms-requires c = grind (arith, common_steps)
 
 pub set_row-requires-2-clause-stands : goal.set_row-requires-2-clause-stands
-set_row-requires-2-clause-stands c = grind (arith, common_steps)
+set_row-requires-2-clause-stands c =
+    λ k d h. absurd (omega (arith, h, ap (λ (r : Row). length r.terms) c.empty.ensures))
 
 pub set_row-requires-clause-inside : goal.set_row-requires-clause-inside
 set_row-requires-clause-inside c = omega arith

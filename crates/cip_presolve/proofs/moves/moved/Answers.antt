@@ -6,8 +6,8 @@ use Rattle.cip_problem.specs.Program.{Sides}
 use Rattle.cip_problem.specs.Box.{sides_at}
 use Rattle.cip_search.specs.Moving.{fixed_sides}
 use Rattle.cip_presolve.specs.FreeColumns.{turned}
-use Rattle.cip_presolve.specs.Moves.{MayTake, least_value, greatest_value}
-use Rattle.cip_presolve.proofs.Moved.{moves_is}
+use Rattle.cip_presolve.specs.Moves.{least_value, greatest_value}
+use Rattle.cip_presolve.proofs.Moved.{moves_is, MayTake}
 use Rattle.cip_presolve.proofs.moves.moved.Goals as goal
 
 pub returns : goal.returns

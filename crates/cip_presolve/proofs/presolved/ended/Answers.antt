@@ -28,3 +28,6 @@ returns-in-Err-clause-right c = grind (arith, common_steps)
 
 pub compacted-requires-clause-step : goal.compacted-requires-clause-step
 compacted-requires-clause-step c = grind (arith, common_steps)
+
+pub returns-in-Ok-clause-exact : goal.returns-in-Ok-clause-exact
+returns-in-Ok-clause-exact c = c.in-Ok.ensures.exact

@@ -1,7 +1,7 @@
 use Rattle.std.proofs.lemmas.Grind.{common_steps}
-use Rattle.std.proofs.Common.{◌∙◌, arith}
+use Rattle.std.proofs.Common.{◌∙◌, arith, refl}
 use Rattle.cip_presolve.proofs.rounds.settle.Goals as goal
-use Rattle.cip_search.proofs.Pairing.{exact_after}
+use Rattle.cip_search.proofs.Pairing.{exact_after, exact_self}
 
 pub loop-preserved : goal.loop-preserved
 loop-preserved c = record {
@@ -68,3 +68,6 @@ merge_rows-requires c = grind (arith, common_steps)
 
 pub returns-clause-end : goal.returns-clause-end
 returns-clause-end c = grind (arith, common_steps)
+
+pub loop-init : goal.loop-init
+loop-init c = record { step = exact_self c.args.draft.now; rows = refl }

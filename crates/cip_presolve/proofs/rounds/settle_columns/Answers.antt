@@ -1,7 +1,7 @@
 use Rattle.std.proofs.lemmas.Grind.{common_steps}
-use Rattle.std.proofs.Common.{◌∙◌, arith}
+use Rattle.std.proofs.Common.{◌∙◌, arith, refl}
 use Rattle.cip_presolve.proofs.rounds.settle_columns.Goals as goal
-use Rattle.cip_search.proofs.Pairing.{exact_after}
+use Rattle.cip_search.proofs.Pairing.{exact_after, exact_self}
 
 pub returns-in-NoPoint-clause-step : goal.returns-in-NoPoint-clause-step
 returns-in-NoPoint-clause-step c =
@@ -34,3 +34,6 @@ returns-clause-step c = grind (arith, common_steps)
 
 pub returns-clause-end : goal.returns-clause-end
 returns-clause-end c = grind (arith, common_steps)
+
+pub loop-column-init : goal.loop-column-init
+loop-column-init c = record { step = exact_self c.args.draft.now; rows = refl; columns = refl }

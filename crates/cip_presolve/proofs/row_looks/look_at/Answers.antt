@@ -1,7 +1,7 @@
 use Rattle.std.proofs.lemmas.Grind.{common_steps}
 use Rattle.std.proofs.Common.{arith}
 use Rattle.cip_presolve.proofs.row_looks.look_at.Goals as goal
-use Rattle.cip_search.proofs.Pairing.{exact_after}
+use Rattle.cip_search.proofs.Pairing.{exact_after, exact_self}
 
 pub returns-in-Ok-Kept-clause-step : goal.returns-in-Ok-Kept-clause-step
 returns-in-Ok-Kept-clause-step c = exact_after _ _ _ c.reduce_row.ensures.step c.imply.ensures.step
@@ -50,3 +50,6 @@ returns-in-Err-clause-end c = grind (arith, common_steps)
 
 pub returns-then-number-count-clause-end : goal.returns-then-number-count-clause-end
 returns-then-number-count-clause-end c = grind (arith, common_steps)
+
+pub returns-then-number-count-clause-step : goal.returns-then-number-count-clause-step
+returns-then-number-count-clause-step c = exact_self c.args.draft.now

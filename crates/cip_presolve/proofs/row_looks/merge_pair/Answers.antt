@@ -1,3 +1,4 @@
+use Rattle.cip_search.proofs.Pairing.{exact_self}
 use Rattle.std.proofs.lemmas.Grind.{common_steps}
 use Rattle.std.proofs.Common.{arith}
 use Rattle.cip_presolve.proofs.row_looks.merge_pair.Goals as goal
@@ -61,3 +62,6 @@ returns-then-not-alike-clause-end c = grind (arith, common_steps)
 
 pub returns-then-not-alike-clause-rows : goal.returns-then-not-alike-clause-rows
 returns-then-not-alike-clause-rows c = grind (arith, common_steps)
+
+pub returns-then-not-alike-clause-step : goal.returns-then-not-alike-clause-step
+returns-then-not-alike-clause-step c = exact_self c.args.draft.now

@@ -1,3 +1,4 @@
+use Rattle.cip_presolve.proofs.SourceSides.{still_substitute}
 use Rattle.std.proofs.lemmas.Grind.{common_steps}
 use Rattle.std.proofs.Common.{◌≡◌, ◌∙◌, ◌<◌, false, length, sym, ap, subst, List, arith}
 use Rattle.cip_problem.specs.Choices.{choice_at, is_open}
@@ -74,3 +75,8 @@ returns-then-is_inside-clause-end c = grind (arith, common_steps)
 
 pub source_sides-requires-clause-substitute : goal.source_sides-requires-clause-substitute
 source_sides-requires-clause-substitute c = grind (arith, common_steps)
+
+pub returns-clause-substitute : goal.returns-clause-substitute
+returns-clause-substitute c =
+    still_substitute c.args.draft.now c.set_sides.new.self c.form.inside.source c.args.column c.args.form.now
+    c.in-Some.sides c.requires.substitute c.set_sides.ensures

@@ -4,9 +4,9 @@ use Rattle.std.specs.Prelude.{map, is_none}
 use Rattle.cip_rational.specs.Rational.{ℚ}
 use Rattle.cip_presolve.specs.Forms.{Form}
 use Rattle.cip_presolve.specs.WholeParts.{with_wholes}
-use Rattle.cip_presolve.specs.StepsBack.{StepsTaken, HasOverflow, ComesBackAs}
+use Rattle.cip_presolve.specs.StepsBack.{StepsTaken, HasOverflow}
 use Rattle.cip_presolve.specs.FilledPoints.{IsFilled}
-use Rattle.cip_presolve.proofs.PointsBack.{wide_back, filled_back, long_placed}
+use Rattle.cip_presolve.proofs.PointsBack.{wide_back, filled_back, long_placed, ComesBackAs}
 use Rattle.cip_presolve.proofs.steps.postsolve.Goals as goal
 
 pub returns-in-Some-clause-point : goal.returns-in-Some-clause-point

@@ -1,3 +1,4 @@
+use Rattle.cip_presolve.proofs.Chained.{open_ends}
 use Rattle.std.proofs.lemmas.Grind.{common_steps}
 use Rattle.std.proofs.Common.{◌∙◌, refl, sym, ap, subst, arith}
 use Rattle.cip_search.proofs.Pairing.{exact_self, exact_after}
@@ -43,7 +44,8 @@ pub returns-in-NoPoint-clause-rows : goal.returns-in-NoPoint-clause-rows
 returns-in-NoPoint-clause-rows c = grind (arith, common_steps)
 
 pub returns-in_default-take_sides-clause-end : goal.returns-in_default-take_sides-clause-end
-returns-in_default-take_sides-clause-end c = grind (arith, common_steps)
+returns-in_default-take_sides-clause-end c =
+    open_ends c.take_sides.new.draft c.open_after.result c.open_after.ensures
 
 pub returns-in_default-take_sides-clause-rows : goal.returns-in_default-take_sides-clause-rows
 returns-in_default-take_sides-clause-rows c = grind (arith, common_steps)
@@ -61,11 +63,17 @@ pub loop-at-init : goal.loop-at-init
 loop-at-init c = record { step = exact_self c.args.draft.now; found = c.requires; rows = refl }
 
 pub loop-at-preserved : goal.loop-at-preserved
-loop-at-preserved c = record {
-  step = exact_after _ _ _ c.loop-at.invariant.step c.try_replace.ensures.step;
-  found = grind (arith, common_steps, found_still);
-  rows = c.try_replace.ensures.rows ∙ c.loop-at.invariant.rows;
-}
+loop-at-preserved c =
+    record {
+      step = exact_after _ _ _ c.loop-at.invariant.step c.try_replace.ensures.step;
+      found = found_still c.loop-at.draft c.try_replace.new.draft c.args.found.now c.loop-at.invariant.found
+          c.try_replace.ensures.rows
+          (subst (λ n. RowGives c.try_replace.new.draft c.args.found.now.row n c.args.found.now.form)
+          (ap (λ (s : Substitution). s.column) c.found.view_is) c.try_replace.ensures.gives)
+          (subst (λ n. IsSubstitute c.try_replace.new.draft n c.args.found.now.form)
+          (ap (λ (s : Substitution). s.column) c.found.view_is) c.try_replace.ensures.substitute);
+      rows = c.try_replace.ensures.rows ∙ c.loop-at.invariant.rows;
+    }
 
 pub try_replace-requires-clause-gives : goal.try_replace-requires-clause-gives
 try_replace-requires-clause-gives c = grind (arith, common_steps)
@@ -90,3 +98,6 @@ overflow_cast-row c = grind (arith, common_steps)
 
 pub loop-at-preserved-in_default : goal.loop-at-preserved-in_default
 loop-at-preserved-in_default c = grind (arith, common_steps)
+
+pub returns-in_err-row_moved-clause-rows : goal.returns-in_err-row_moved-clause-rows
+returns-in_err-row_moved-clause-rows c = c.try_replace.ensures.rows ∙ c.loop-at.invariant.rows

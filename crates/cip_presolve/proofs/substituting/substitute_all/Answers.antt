@@ -1,7 +1,7 @@
 use Rattle.std.proofs.lemmas.Grind.{common_steps}
-use Rattle.std.proofs.Common.{◌∙◌, arith}
+use Rattle.std.proofs.Common.{◌∙◌, arith, refl}
 use Rattle.cip_presolve.proofs.substituting.substitute_all.Goals as goal
-use Rattle.cip_search.proofs.Pairing.{exact_after}
+use Rattle.cip_search.proofs.Pairing.{exact_after, exact_self}
 
 pub loop-row-preserved : goal.loop-row-preserved
 loop-row-preserved c = record {
@@ -44,3 +44,6 @@ found_by-requires c = grind (arith, common_steps)
 
 pub loop-row-preserved-then-is_used : goal.loop-row-preserved-then-is_used
 loop-row-preserved-then-is_used c = grind (arith, common_steps)
+
+pub loop-row-init : goal.loop-row-init
+loop-row-init c = record { step = exact_self c.args.draft.now; rows = refl }

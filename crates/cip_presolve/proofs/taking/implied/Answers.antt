@@ -3,9 +3,9 @@ use Rattle.std.proofs.Common.{◌≡◌, true, false, List, Some, IfSome, slice_
 use Rattle.cip_problem.specs.Program.{Term, Sides}
 use Rattle.cip_problem.specs.Box.{sides_at}
 use Rattle.cip_problem.specs.Choices.{met, choice_at, is_open}
-use Rattle.cip_presolve.specs.Rests.{IsDifference, AreRests, Implies}
+use Rattle.cip_presolve.specs.Rests.{IsDifference, AreRests}
 use Rattle.cip_presolve.specs.Taken.{IsImplied}
-use Rattle.cip_presolve.proofs.ImpliedSides.{implied_all, found_by, term_inside}
+use Rattle.cip_presolve.proofs.ImpliedSides.{implied_all, found_by, term_inside, Implies}
 use Rattle.cip_problem.specs.Activity.{StandsBelow}
 use Rattle.cip_presolve.specs.RowReading.{Encloses}
 use Rattle.cip_presolve.proofs.taking.implied.Goals as goal

@@ -1,3 +1,4 @@
+use Rattle.std.proofs.lemmas.Result.{IfOk-from_err}
 use Rattle.std.proofs.lemmas.Grind.{common_steps}
 use Rattle.std.proofs.Common.{◌<◌, length, rules, sym, arith}
 use Rattle.cip_presolve.proofs.FilledPoints.{one_overflows, next_one, all_filled}
@@ -28,3 +29,6 @@ bounds-forms-column c = grind (arith, common_steps)
 
 pub offset_bounds-forms-column : goal.offset_bounds-forms-column
 offset_bounds-forms-column c = grind (arith, common_steps)
+
+pub returns-in_err-push-in-Ok : goal.returns-in_err-push-in-Ok
+returns-in_err-push-in-Ok c = IfOk-from_err c.from_residual.result _ c.from_residual.ensures.0

@@ -1,3 +1,4 @@
+use Rattle.std.proofs.lemmas.Result.{IfOk-from_err}
 use Rattle.std.proofs.lemmas.Grind.{common_steps}
 use Rattle.std.proofs.Common.{◌<◌, ◌≤◌, ◌++◌, sym, ap, ◌∙◌, subst, true≢false, arith}
 use Rattle.std.specs.Prelude.{IsOk}
@@ -44,3 +45,6 @@ unreachable-requires c =
 
 pub unreachable-unreachable : goal.unreachable-unreachable
 unreachable-unreachable c = grind (arith, common_steps)
+
+pub returns-in_err-push-in-Ok : goal.returns-in_err-push-in-Ok
+returns-in_err-push-in-Ok c = IfOk-from_err c.from_residual.result _ c.from_residual.ensures.0

@@ -10,4 +10,5 @@ pub returns-in-None : goal.returns-in-None
 returns-in-None c = grind (arith, common_steps)
 
 pub returns-in-Some : goal.returns-in-Some
-returns-in-Some c = reached c.args.lp.now c.in_ok-first.first c.in_ok-first.last c.in-Some.found c.in_ok-first.ensures c.in-Some.is
+returns-in-Some c =
+    reached c.args.lp.now c.in_ok-first.first c.in_ok-first.last c.in-Some.found c.in_ok-first.ensures c.in-Some.is

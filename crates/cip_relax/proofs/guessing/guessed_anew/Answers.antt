@@ -40,13 +40,21 @@ pub weighed_or_rounded-requires-clause-ready : goal.weighed_or_rounded-requires-
 weighed_or_rounded-requires-clause-ready c = c.requires.ready
 
 pub weighed_or_rounded-requires-clause-room : goal.weighed_or_rounded-requires-clause-room
-weighed_or_rounded-requires-clause-room c = room_stays (length c.args.problem.now.bounds.now) (length c.args.scratch.now.row.entries) (length c.show_anew.new.scratch.row.entries) c.show_anew.ensures.room c.requires.room
+weighed_or_rounded-requires-clause-room c =
+    room_stays (length c.args.problem.now.bounds.now) (length c.args.scratch.now.row.entries)
+    (length c.show_anew.new.scratch.row.entries) c.show_anew.ensures.room c.requires.room
 
 pub returns-in-Ok-Beside-clause-room : goal.returns-in-Ok-Beside-clause-room
-returns-in-Ok-Beside-clause-room c = same_room (length c.args.scratch.now.row.entries) (length c.show_anew.new.scratch.row.entries) (length c.weighed_or_rounded.new.scratch.row.entries) c.weighed_or_rounded.ensures.room c.show_anew.ensures.room
+returns-in-Ok-Beside-clause-room c =
+    same_room (length c.args.scratch.now.row.entries) (length c.show_anew.new.scratch.row.entries)
+    (length c.weighed_or_rounded.new.scratch.row.entries) c.weighed_or_rounded.ensures.room c.show_anew.ensures.room
 
 pub returns-in-Ok-Shown-clause-room : goal.returns-in-Ok-Shown-clause-room
-returns-in-Ok-Shown-clause-room c = same_room (length c.args.scratch.now.row.entries) (length c.show_anew.new.scratch.row.entries) (length c.weighed_or_rounded.new.scratch.row.entries) c.weighed_or_rounded.ensures.room c.show_anew.ensures.room
+returns-in-Ok-Shown-clause-room c =
+    same_room (length c.args.scratch.now.row.entries) (length c.show_anew.new.scratch.row.entries)
+    (length c.weighed_or_rounded.new.scratch.row.entries) c.weighed_or_rounded.ensures.room c.show_anew.ensures.room
 
 pub returns-in-Err-clause-room : goal.returns-in-Err-clause-room
-returns-in-Err-clause-room c = same_room (length c.args.scratch.now.row.entries) (length c.show_anew.new.scratch.row.entries) (length c.weighed_or_rounded.new.scratch.row.entries) c.weighed_or_rounded.ensures.room c.show_anew.ensures.room
+returns-in-Err-clause-room c =
+    same_room (length c.args.scratch.now.row.entries) (length c.show_anew.new.scratch.row.entries)
+    (length c.weighed_or_rounded.new.scratch.row.entries) c.weighed_or_rounded.ensures.room c.show_anew.ensures.room

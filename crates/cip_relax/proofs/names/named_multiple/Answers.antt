@@ -18,8 +18,10 @@ get-requires c = grind (arith, common_steps)
 
 pub returns-in-Some : goal.returns-in-Some
 returns-in-Some c =
-    named_behind c.args.own c.args.ids.now c.args.multiple c.in-Own.number (Some c.in-Some.id.now) c.in-Own.is c.if-place-own.false
-    (slice_get_read c.args.ids.now (length c.args.ids.now) (c.in-Own.number - c.args.own) c.in-Some.id.now refl c.in-Some.ensures.lookup.3.0 c.in-Some.ensures.lookup.1)
+    named_behind c.args.own c.args.ids.now c.args.multiple c.in-Own.number (Some c.in-Some.id.now) c.in-Own.is
+    c.if-place-own.false
+    (slice_get_read c.args.ids.now (length c.args.ids.now) (c.in-Own.number - c.args.own) c.in-Some.id.now refl
+    c.in-Some.ensures.lookup.3.0 c.in-Some.ensures.lookup.1)
 
 pub returns-in-None : goal.returns-in-None
 returns-in-None c =

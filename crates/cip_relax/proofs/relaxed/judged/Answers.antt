@@ -27,16 +27,22 @@ returns-clause-room c = grind (arith, common_steps)
 
 pub returns-in-Optimal-clause-relaxed : goal.returns-in-Optimal-clause-relaxed
 returns-in-Optimal-clause-relaxed c =
-    optimum_refused c.args.program.now (lent_of c.args.rows.now) c.args.bounds.now (length c.args.scratch.now.row.entries)
-    c.rows-own.result.now c.args.ids.now c.args.found c.in-Optimal.combo c.name_combo.new.combo c.in-Err.fault c.unsolved.result
-    c.rows-own.ensures.rows c.requires.ids c.requires.solved c.name_combo.ensures.rows c.name_combo.ensures.lows c.name_combo.ensures.highs
+    optimum_refused c.args.program.now (lent_of c.args.rows.now) c.args.bounds.now
+    (length c.args.scratch.now.row.entries)
+    c.rows-own.result.now c.args.ids.now c.args.found c.in-Optimal.combo c.name_combo.new.combo c.in-Err.fault
+    c.unsolved.result
+    c.rows-own.ensures.rows c.requires.ids c.requires.solved c.name_combo.ensures.rows c.name_combo.ensures.lows
+    c.name_combo.ensures.highs
     c.in-Optimal.point c.in-Optimal.cost c.in-Optimal.is c.in-Err.ensures.bound c.unsolved.ensures
 
 pub returns-in-Infeasible-clause-relaxed : goal.returns-in-Infeasible-clause-relaxed
 returns-in-Infeasible-clause-relaxed c =
-    emptiness_refused c.args.program.now (lent_of c.args.rows.now) c.args.bounds.now (length c.args.scratch.now.row.entries)
-    c.rows-own.result.now c.args.ids.now c.args.found c.in-Infeasible.combo c.name_combo-in-Infeasible.new.combo c.in-Err-empties.fault c.unsolved-in-Err-empties.result
-    c.rows-own.ensures.rows c.requires.ids c.requires.solved c.name_combo-in-Infeasible.ensures.rows c.name_combo-in-Infeasible.ensures.lows c.name_combo-in-Infeasible.ensures.highs
+    emptiness_refused c.args.program.now (lent_of c.args.rows.now) c.args.bounds.now
+    (length c.args.scratch.now.row.entries)
+    c.rows-own.result.now c.args.ids.now c.args.found c.in-Infeasible.combo c.name_combo-in-Infeasible.new.combo
+    c.in-Err-empties.fault c.unsolved-in-Err-empties.result
+    c.rows-own.ensures.rows c.requires.ids c.requires.solved c.name_combo-in-Infeasible.ensures.rows
+    c.name_combo-in-Infeasible.ensures.lows c.name_combo-in-Infeasible.ensures.highs
     c.in-Infeasible.is c.in-Err-empties.ensures.steps c.unsolved-in-Err-empties.ensures
 
 pub returns-in-Optimal-clause-room : goal.returns-in-Optimal-clause-room
@@ -68,5 +74,6 @@ empties-requires-clause-room c = c.requires.room
 
 pub returns-in-Ok-clause-relaxed : goal.returns-in-Ok-clause-relaxed
 returns-in-Ok-clause-relaxed c =
-    optimum_accepted c.args.program.now (lent_of c.args.rows.now) c.args.bounds.now c.args.found c.in-Optimal.combo c.in-Optimal.point c.in-Optimal.cost c.in-Ok.bound
+    optimum_accepted c.args.program.now (lent_of c.args.rows.now) c.args.bounds.now c.args.found c.in-Optimal.combo
+    c.in-Optimal.point c.in-Optimal.cost c.in-Ok.bound
     c.requires.solved c.in-Optimal.is c.in-Ok.ensures.bound

@@ -1,3 +1,4 @@
+use Rattle.std.proofs.lemmas.Result.{IfOk-from_err}
 use Rattle.std.proofs.lemmas.Grind.{common_steps}
 use Rattle.std.proofs.Common.{ℕ, List, ◌≤◌, ◌∙◌, ap, length, subst, sym, arith}
 use Rattle.std.specs.List.Sorted.{IsPermutation, IsSorted}
@@ -43,3 +44,10 @@ returns-clause-sorted g c =
 
 pub overflow_cast-id : goal.overflow_cast-id
 overflow_cast-id g c = grind (arith, common_steps)
+
+pub returns-in_err-push-in-Some-clause-permutation : goal.returns-in_err-push-in-Some-clause-permutation
+returns-in_err-push-in-Some-clause-permutation g c =
+    IfOk-from_err c.from_residual.result _ c.from_residual.ensures.0
+
+pub returns-in_err-push-in-Some-clause-sorted : goal.returns-in_err-push-in-Some-clause-sorted
+returns-in_err-push-in-Some-clause-sorted g c = IfOk-from_err c.from_residual.result _ c.from_residual.ensures.0

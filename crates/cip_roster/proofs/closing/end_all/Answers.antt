@@ -3,10 +3,9 @@ use Rattle.std.specs.Prelude.{slice_get}
 use Rattle.std.proofs.Common.{◌≡◌, [], Bool, true, false, arith, cond, refl, subst, sym}
 use Rattle.cip_plugin.specs.Steps.{Runs}
 use Rattle.cip_plugin.specs.Wishing.{ends}
-use Rattle.cip_roster.specs.Closed.{lives_there}
 use Rattle.cip_roster.proofs.Ending.{closed_there, ended_all, ended_gone, ended_none, ended_one, gone_there}
 use Rattle.cip_roster.proofs.Sounding.{sound_ended}
-use Rattle.cip_roster.proofs.Wishes.{live_plays, live_room}
+use Rattle.cip_roster.proofs.Wishes.{live_plays, live_room, lives_there}
 use Rattle.cip_roster.proofs.closing.end_all.Goals as goal
 use Rattle.cip_roster.proofs.closing.end_all.Goals.{in-Ok, in-Err}
 

@@ -1,4 +1,5 @@
-use Rattle.std.proofs.Common.{sym, ◌∙◌, arith}
+use Rattle.cip_roster.proofs.Asked.{hearing_can}
+use Rattle.std.proofs.Common.{sym, ◌∙◌, arith, refl}
 use Rattle.cip_plugin.specs.Calls.{OnEvent}
 use Rattle.cip_roster.proofs.Delivery.{ran_turn, ran_same}
 use Rattle.cip_roster.proofs.OneEvent.{told_passed, told_wishes}
@@ -63,3 +64,9 @@ returns-then-not-is_to_hear-clause-sound g c = c.requires.sound
 
 pub returns-then-not-is_to_hear-clause-err : goal.returns-then-not-is_to_hear-clause-err
 returns-then-not-is_to_hear-clause-err g c = tt
+
+pub turn-given-requires-clause-ready : goal.turn-given-requires-clause-ready
+turn-given-requires-clause-ready g c =
+    hearing_can c.args.event c.args.id (g.R.Seated.state c.args.roster.now)
+    (g.R.Seated.state c.reserve_turns.new.self) _ refl
+    (sym c.if-not-is_to_hear.ensures) c.reserve_turns.ensures.state

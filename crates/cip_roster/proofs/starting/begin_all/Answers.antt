@@ -1,3 +1,4 @@
+use Rattle.cip_roster.proofs.Asked.{fresh_at}
 use Rattle.std.proofs.lemmas.Grind.{common_steps}
 use Rattle.std.proofs.Common.{ℕ, add-one, arith, subst, sym, ◌∙◌}
 use Rattle.cip_roster.proofs.Beginning.{BegunSoFar, begun_all, begun_more}
@@ -42,3 +43,9 @@ returns-clause-seats g c = grind (arith, common_steps)
 
 pub overflow_cast-id : goal.overflow_cast-id
 overflow_cast-id g c = grind (arith, common_steps)
+
+pub begin-requires-clause-at : goal.begin-requires-clause-at
+begin-requires-clause-at g c =
+    fresh_at c.loop-id.id (g.R.Seated.state c.args.roster.now) (g.R.Seated.state c.loop-id.roster)
+    c.loop-id.invariant.so_far
+    c.requires.fresh (omega (arith, c.loop-id-test.true, c.count-id-end.ensures))

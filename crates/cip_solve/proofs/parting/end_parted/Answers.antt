@@ -1,17 +1,13 @@
 use Rattle.std.proofs.lemmas.Grind.{common_steps}
-use Rattle.std.proofs.lemmas.Int.{to_z-of_z, fits_signed_from_abs}
-use Rattle.std.proofs.Common.{◌≡◌, ℤ, ◌<◌, ◌≤◌, ◌^◌, unsigned_abs, ap, subst, sym, arith, to_z, of_z}
-use Rattle.std.specs.Int.{w128}
+use Rattle.std.proofs.Common.{ap, subst, sym, arith}
 use Rattle.cip_problem.specs.Log.{Split}
 use Rattle.cip_calls.specs.CoreStates.{CoreState}
 use Rattle.cip_calls.specs.Steps.{HasLeft}
+use Rattle.cip_calls.proofs.SplitParts.{near_itself}
 use Rattle.cip_node.specs.declared.ends.NodeEnd.TheVariants as by
 use Rattle.cip_solve.specs.NodesDone.{HasParted}
 use Rattle.cip_solve.proofs.Closing.{parted_here}
 use Rattle.cip_solve.proofs.parting.end_parted.Goals as goal
-
-near_kept : (place : ℤ) → unsigned_abs place ≤ 2 ^ 100 → to_z w128 (of_z w128 place) ≡ place
-near_kept place near = to_z-of_z w128 place (fits_signed_from_abs w128 place (omega (arith, near)))
 
 pub split-parted-requires-clause-at_work : goal.split-parted-requires-clause-at_work
 split-parted-requires-clause-at_work c = record { up = c.requires.up.0; region = c.requires.open_.0.full.region }
@@ -23,7 +19,7 @@ returns-in-Ok-clause-ended c =
     let node = c.args.node in
     let end = by.Split c.in-Ok.halves.0 c.in-Ok.halves.1 in
     let place = c.args.split.at in
-    let at = near_kept place c.requires.place.named.near in
+    let at = near_itself place c.requires.place.named.near in
     let left = subst (λ a. HasLeft core new node (Split c.args.split.col a c.in-Ok.halves.0 c.in-Ok.halves.1)) at c.in-Ok.ensures.split in
     subst (λ (k : CoreState). HasParted core k node c.args.found.mark end) (sym c.split-parted.ensures.frame)
     (parted_here core new.tree node c.args.found c.args.split.col c.args.split.at c.in-Ok.halves.0 c.in-Ok.halves.1 c.requires.open_.1
@@ -43,7 +39,7 @@ split-parted-requires-clause-place c =
     let inside = subst (λ n. c.args.split.col < n) (sym c.is_sound.ensures.reduced.integral) c.requires.place.named.inside in
     let region = c.requires.open_.0.full.region in
     let placed = c.requires.place.place in
-    (c.requires.up.1, inside, rw (near_kept c.args.split.at c.requires.place.named.near) (rw region at placed))
+    (c.requires.up.1, inside, rw (near_itself c.args.split.at c.requires.place.named.near) (rw region at placed))
 
 pub split-parted-requires-clause-given : goal.split-parted-requires-clause-given
 split-parted-requires-clause-given c = c.requires.up.2

@@ -1,9 +1,10 @@
 use Rattle.std.proofs.lemmas.Grind.{common_steps}
-use Rattle.std.proofs.Common.{◌≡◌, ◌∷◌, [], false, sym, ◌∙◌, arith, refl}
-use Rattle.cip_tree.specs.Slots.{AreSoundSlots}
+use Rattle.std.proofs.Common.{◌≡◌, ◌∷◌, [], false, sym, ◌∙◌, subst, arith, refl}
+use Rattle.slab.specs.Slab.{Slab}
+use Rattle.cip_tree.specs.Slots.{Slot, AreSoundSlots}
 use Rattle.cip_tree.specs.Queue.{is_below}
 use Rattle.cip_tree.specs.Freed.{dearer, AreReleased}
-use Rattle.cip_tree.proofs.Freeing.{one_released, dearer_one, open_is_idle, next_stands, next_released}
+use Rattle.cip_tree.proofs.Freeing.{none_released, one_released, dearer_one, dearer_none, open_is_idle, next_stands, next_released}
 use Rattle.cip_tree.proofs.closed.release_from.Goals as goal
 use Rattle.cip_tree.proofs.closed.release_from.Goals.{then-not-stays, else-not-stays}
 
@@ -18,13 +19,20 @@ loop-node-preserved c =
     let stands = next_stands c.args.kept.now.slots c.loop-node.kept.slots c.args.cost c.args.nodes.now c.loop-node.node-index node c.loop-node-test.true c.node-item.is c.requires.waiting c.requires.once c.loop-node.invariant.slots in
     let step : AreReleased c.loop-node.kept.slots c.if-not-stays.kept.slots (dearer c.args.cost (node ∷ [])) × (AreSoundSlots c.if-not-stays.kept.slots × (c.if-not-stays.kept.capacity ≡ c.loop-node.kept.capacity)) =
     elim c.if-not-stays.branch [
-      | then-not-stays w ↦ rw (w.kept-is) (
-        (let dear : is_below c.args.cost node ≡ false = sym c.stays.ensures ∙ w.if-not-stays.true in
-            dearer_one c.args.cost node c.loop-node.kept.slots w.release.new.kept.slots dear
-            (one_released c.loop-node.kept.slots w.release.new.kept.slots node w.release.ensures.slots w.release.ensures.kept stands)),
-        (w.release.ensures.kept, w.release.ensures.capacity),
-      )
-      | else-not-stays w ↦ rw (w.kept-is) (grind (arith, common_steps), (c.loop-node.invariant.kept, refl))
+      | then-not-stays w ↦ subst (λ (k : Slab Slot). AreReleased c.loop-node.kept.slots k.slots
+          (dearer c.args.cost (node ∷ [])) × (AreSoundSlots k.slots × (k.capacity ≡ c.loop-node.kept.capacity)))
+          (sym w.kept-is) (
+            (let dear : is_below c.args.cost node ≡ false = sym c.stays.ensures ∙ w.if-not-stays.true in
+                dearer_one c.args.cost node c.loop-node.kept.slots w.release.new.kept.slots dear
+                (one_released c.loop-node.kept.slots w.release.new.kept.slots node w.release.ensures.slots w.release.ensures.kept stands)),
+            (w.release.ensures.kept, w.release.ensures.capacity),
+          )
+      | else-not-stays w ↦ subst (λ (k : Slab Slot). AreReleased c.loop-node.kept.slots k.slots
+          (dearer c.args.cost (node ∷ [])) × (AreSoundSlots k.slots × (k.capacity ≡ c.loop-node.kept.capacity)))
+          (sym w.kept-is) (
+            dearer_none c.args.cost node c.loop-node.kept.slots (sym c.stays.ensures ∙ w.if-not-stays.false),
+            (c.loop-node.invariant.kept, refl),
+          )
     ] in
     record {
       slots = next_released c.args.kept.now.slots c.loop-node.kept.slots c.if-not-stays.kept.slots c.args.cost c.args.nodes.now c.loop-node.node-index node c.loop-node-test.true c.node-item.is c.loop-node.invariant.slots step.0;
@@ -40,3 +48,6 @@ offset_bounds-nodes-node-index c = grind (arith, common_steps)
 
 pub returns-clause-capacity : goal.returns-clause-capacity
 returns-clause-capacity c = grind (arith, common_steps)
+
+pub loop-node-init : goal.loop-node-init
+loop-node-init c = record { slots = none_released c.args.kept.now.slots; kept = c.requires.kept; capacity = refl }

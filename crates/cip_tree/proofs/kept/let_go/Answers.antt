@@ -2,7 +2,7 @@ use Rattle.std.proofs.lemmas.Grind.{common_steps}
 use Rattle.std.proofs.Common.{◌≡◌, Some, None, sym, ap, ◌∙◌, arith}
 use Rattle.std.proofs.lemmas.Option.{same_Some}
 use Rattle.cip_tree.specs.Slots.{Slot}
-use Rattle.cip_tree.proofs.Keeping.{root_kept, child_kept, child_released, child_next, parent_used}
+use Rattle.cip_tree.proofs.Keeping.{root_kept, root_released, child_kept, child_released, child_next, parent_used}
 use Rattle.cip_tree.specs.Slots.{IsKeptBut}
 use Rattle.std.proofs.Common.{subst, IfSome, cond}
 use Rattle.cip_tree.specs.Slots.{IsUnused, IsUsed, IsLowered}
@@ -86,3 +86,13 @@ returns-in_default-clause-next c = grind (arith, common_steps)
 
 pub remove-gone-requires : goal.remove-gone-requires
 remove-gone-requires c = grind (arith, common_steps)
+
+pub returns-in_default-clause-slots : goal.returns-in_default-clause-slots
+returns-in_default-clause-slots c =
+    let empty : c.remove-gone.result.below ≡ 0 = sym
+    (ap (λ (s : Slot). s.below) (same_Some _ _ (sym c.requires.idle.found ∙ c.remove-gone.ensures.value)))
+    ∙ c.requires.idle.none_below in
+    root_released c.args.kept.now.slots c.remove-gone.new.self.slots c.args.place c.remove-gone.result c.requires.kept
+    c.remove-gone.ensures.value empty
+    (sym (ap (λ (s : Slot). s.origin) c.gone.view_is) ∙ c.in_default.is) c.remove-gone.ensures.updates.changed
+    c.remove-gone.ensures.updates.others

@@ -2,6 +2,7 @@ use Rattle.std.proofs.lemmas.Grind.{common_steps}
 use Rattle.std.proofs.Common.{◌∙◌, subst, IfSome, arith}
 use Rattle.cip_tree.specs.Slots.{IsUnused}
 use Rattle.cip_tree.proofs.Keeping.{released_more}
+use Rattle.std.proofs.lemmas.Option.{none-some}
 use Rattle.cip_tree.proofs.kept.release.Goals as goal
 
 pub loop-next-preserved : goal.loop-next-preserved
@@ -31,3 +32,11 @@ let_go-next-requires-clause-idle c = grind (arith, common_steps)
 
 pub returns-clause-capacity : goal.returns-clause-capacity
 returns-clause-capacity c = grind (arith, common_steps)
+
+pub let_go-next-requires-clause-kept : goal.let_go-next-requires-clause-kept
+let_go-next-requires-clause-kept c = record {
+  parents = c.requires.kept.parents;
+  counts = c.requires.kept.counts;
+  apart = c.requires.kept.apart;
+  used = λ k s e f i. c.requires.kept.used k s e f (none-some k);
+}

@@ -1,5 +1,6 @@
 use Rattle.std.proofs.lemmas.Grind.{common_steps}
 use Rattle.std.proofs.Common.{arith}
+use Rattle.std.proofs.lemmas.Result.{IfOk-from_err}
 use Rattle.cip_tree.proofs.trees.make_room.Goals as goal
 
 pub returns-clause-queue : goal.returns-clause-queue
@@ -79,3 +80,7 @@ returns-in_err-reserve-clause-parked c = grind (arith, common_steps)
 
 pub returns-in_err-reserve-clause-queue : goal.returns-in_err-reserve-clause-queue
 returns-in_err-reserve-clause-queue c = grind (arith, common_steps)
+
+pub returns-in_err-reserve-3-clause-room : goal.returns-in_err-reserve-3-clause-room
+returns-in_err-reserve-3-clause-room c = IfOk-from_err c.from_residual-in_err-reserve-3.result _
+    c.from_residual-in_err-reserve-3.ensures.0

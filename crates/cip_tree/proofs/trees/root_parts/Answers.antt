@@ -1,12 +1,23 @@
 use Rattle.std.proofs.lemmas.Grind.{common_steps}
-use Rattle.std.proofs.Common.{arith}
+use Rattle.std.proofs.Common.{Some, ap, ◌∙◌, arith}
+use Rattle.cip_tree.specs.Slots.{slot_at}
+use Rattle.cip_tree.proofs.Rooms.{room_one}
 use Rattle.cip_tree.proofs.trees.root_parts.Goals as goal
 
 pub returns-clause-started : goal.returns-clause-started
-returns-clause-started c = grind (arith, common_steps)
+returns-clause-started c = record {
+  kept = c.in-Ok-insert.ensures.updates.changed ∙ ap Some c.new_kept.ensures;
+  others = λ k d. c.in-Ok-insert.ensures.updates.others k d ∙ ap (λ s. slot_at s k) c.new-kept.ensures.empty;
+  queue = c.in-Ok-new.ensures;
+  parked = c.in-Ok-with_capacity.ensures.items;
+  parked_room = room_one _ _ c.in-Ok-with_capacity.ensures.len c.in-Ok-with_capacity.ensures.capacity;
+  log = c.in-Ok-with_capacity-2.ensures.items;
+  log_room = room_one _ _ c.in-Ok-with_capacity-2.ensures.len c.in-Ok-with_capacity-2.ensures.capacity;
+  work = c.in-Ok-copied.ensures;
+}
 
 pub returns-clause-whole : goal.returns-clause-whole
-returns-clause-whole c = grind (arith, common_steps)
+returns-clause-whole c = c.in-Ok.ensures.items_if_clones_equal (λ x y e. e)
 
 pub same-queue : goal.same-queue
 same-queue c = grind (arith, common_steps)

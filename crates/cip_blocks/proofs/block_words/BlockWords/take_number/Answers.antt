@@ -52,16 +52,20 @@ returns-in_default-2-clause-same c = grind (arith, common_steps)
 
 pub returns-clause-taken : goal.returns-clause-taken
 returns-clause-taken c =
-    number_taken c.block_words_have_tests.ensures (program_of c.args.self.now) (state_of c.args.self.now) c.args.word.now c.in-Some.number c.in-Some.ensures c.if-number-gt0.true
-    c.len.result c.index.result.now (c.len.ensures ∙ c.args.self.now.begun.ok.0) c.if-at-len.false c.index.ensures c.if-index.false
+    number_taken c.block_words_have_tests.ensures (program_of c.args.self.now) (state_of c.args.self.now)
+    c.args.word.now c.in-Some.number c.in-Some.ensures c.if-number-gt0.true
+    c.len.result c.index.result.now (c.len.ensures ∙ c.args.self.now.begun.ok.0) c.if-at-len.false c.index.ensures
+    c.if-index.false
 
 pub returns-then-at-len-clause-taken : goal.returns-then-at-len-clause-taken
 returns-then-at-len-clause-taken c =
     elim c.then-at-len.branch [
       | then-at-len-via-then-at-len w ↦
-          number_past c.block_words_have_tests.ensures (program_of c.args.self.now) (state_of c.args.self.now) c.args.word.now c.in-Some.number c.in-Some.ensures c.if-number-gt0.true
+          number_past c.block_words_have_tests.ensures (program_of c.args.self.now) (state_of c.args.self.now)
+          c.args.word.now c.in-Some.number c.in-Some.ensures c.if-number-gt0.true
           c.len.result (c.len.ensures ∙ c.args.self.now.begun.ok.0) w.if-at-len.true
       | then-at-len-via-else-at-len+then-index w ↦
-          number_begun c.block_words_have_tests.ensures (program_of c.args.self.now) (state_of c.args.self.now) c.args.word.now c.in-Some.number c.in-Some.ensures c.if-number-gt0.true
+          number_begun c.block_words_have_tests.ensures (program_of c.args.self.now) (state_of c.args.self.now)
+          c.args.word.now c.in-Some.number c.in-Some.ensures c.if-number-gt0.true
           w.index.result.now w.index.ensures w.if-index.true
     ]

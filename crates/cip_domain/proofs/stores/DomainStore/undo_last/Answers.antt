@@ -5,7 +5,7 @@ use Rattle.cip_problem.specs.Box.{sides_at}
 use Rattle.cip_domain.specs.Changes.{with_column}
 use Rattle.cip_domain.specs.Domain.{Domain}
 use Rattle.cip_domain.specs.Trail.{undone, sides_back, choice_back}
-use Rattle.cip_domain.proofs.Trails.{length-regions_before, regions_before-push, stands_back}
+use Rattle.cip_domain.proofs.Trails.{length-regions_before, regions_before-push, stands_back, last_within}
 use Rattle.cip_domain.proofs.stores.DomainStore.undo_last.Goals as goal
 
 pub returns-in-Some-clause-regions : goal.returns-in-Some-clause-regions
@@ -59,3 +59,13 @@ returns-in_default-clause-room c = absurd (omega (
 
 pub returns-in-Some-clause-room : goal.returns-in-Some-clause-room
 returns-in-Some-clause-room c = grind (arith, common_steps)
+
+pub set-requires : goal.set-requires
+set-requires c =
+    last_within c.self.inside.region.box c.self.inside.trail.items c.pop.new.self.items c.in-Some.saved
+    c.in-Some.ensures.items c.self.invariant
+
+pub sides-requires : goal.sides-requires
+sides-requires c =
+    last_within c.self.inside.region.box c.self.inside.trail.items c.pop.new.self.items c.in-Some.saved
+    c.in-Some.ensures.items c.self.invariant

@@ -1,7 +1,9 @@
 use Rattle.std.proofs.Common.{refl}
 use Rattle.cip_text_rules.specs.LpTokens.{Number, Infinite}
 use Rattle.cip_lp.specs.declared.places.Stage.TheVariants.{BoundDue, BoundSign, LimitSign}
-use Rattle.cip_lp.proofs.ReadLaws.{taken_as, bound_by, bound_front_by}
+use Rattle.cip_lp.proofs.ReadLaws.{taken_as, bound_by, bound_front_by, misplaced}
+use Rattle.cip_lp.specs.LpStages.{where_of}
+use Rattle.cip_lp.proofs.StrayLaws.{bound_number_stray, bound_infinite_stray}
 use Rattle.cip_lp.proofs.statements.Statements.bound_limit.Goals as goal
 
 pub returns-in-Start : goal.returns-in-Start
@@ -37,4 +39,16 @@ returns-in-BoundSign c = record {
   infinite = taken_as c.args.self.now c.last_limit-in-BoundSign.new.self c.last_limit-in-BoundSign.result _ _
       (bound_by c.args.self.now (Infinite c.args.text.now) BoundSign c.in-BoundSign.is)
       c.last_limit-in-BoundSign.ensures;
+}
+
+pub returns-in_default : goal.returns-in_default
+returns-in_default c = record {
+  number = misplaced c.args.self.now _ _ (where_of c.args.self.now)
+      (bound_number_stray (where_of c.args.self.now) c.args.self.now.place.stage c.args.self.now.place c.args.text.now
+      c.in_default.not-Start c.in_default.not-BoundDue c.in_default.not-BoundSign c.in_default.not-LimitSign
+      c.in_default.not-BoundedName);
+  infinite = misplaced c.args.self.now _ _ (where_of c.args.self.now)
+      (bound_infinite_stray (where_of c.args.self.now) c.args.self.now.place.stage c.args.self.now.place c.args.text.now
+      c.in_default.not-Start c.in_default.not-BoundDue c.in_default.not-BoundSign c.in_default.not-LimitSign
+      c.in_default.not-BoundedName);
 }

@@ -4,11 +4,12 @@ use Rattle.cip_text_rules.specs.LpTokens.{Name}
 use Rattle.cip_lp.specs.LpKinds.{relation_shown}
 use Rattle.cip_lp.specs.LpStages.{where_of}
 use Rattle.cip_lp.specs.declared.places.Stage.TheVariants.{LimitDue}
-use Rattle.cip_lp.proofs.ReadLaws.{said, first_failed, both_done, bound_by, bound_front_by, bound_quiet}
+use Rattle.cip_lp.proofs.ReadLaws.{said, first_failed, both_done, bound_by, bound_front_by, bound_quiet, misplaced}
 use Rattle.cip_text_rules.specs.LpFacts.{facts_with}
 use Rattle.cip_text_rules.specs.LpWords.{Relation as RelationRead}
 use Rattle.cip_text_rules.specs.LpGrammar.{bound_set}
 use Rattle.cip_lp.specs.LpLimits.{limit_shown}
+use Rattle.cip_lp.proofs.StrayLaws.{bound_name_stray}
 use Rattle.cip_lp.proofs.statements.Statements.bound_name.Goals as goal
 
 pub returns-in_ok-set_name-in-Start : goal.returns-in_ok-set_name-in-Start
@@ -36,3 +37,9 @@ returns-in_ok-set_name-in-LimitDue c =
     c.flipped-relation.ensures)
     (ap (λ (m : List ℕ). at (where_of c.args.self.now) (BoundedNamed m (relation_shown place.relation)))
     c.in_ok-set_name-in-LimitDue.ensures)
+
+pub returns-in_default : goal.returns-in_default
+returns-in_default c =
+    misplaced c.args.self.now _ _ (where_of c.args.self.now)
+    (bound_name_stray (where_of c.args.self.now) c.args.self.now.place.stage c.args.self.now.place c.args.name.now
+    c.in_default.not-Start c.in_default.not-LimitDue c.in_default.not-BoundedName)

@@ -7,6 +7,7 @@ use Rattle.cip_lp.proofs.ReadLaws.{misplaced, moved, yes, no, bound_by, refused}
 use Rattle.cip_text_rules.specs.LpWords.{Relation as RelationRead}
 use Rattle.cip_text_rules.specs.LpGrammar.{is_wrong}
 use Rattle.cip_lp.specs.LpLimits.{limit_shown}
+use Rattle.cip_lp.proofs.StrayLaws.{bound_relation_stray}
 use Rattle.cip_lp.proofs.statements.Statements.bound_relation.Goals as goal
 
 pub returns-else-is_wrong : goal.returns-else-is_wrong
@@ -39,3 +40,9 @@ pub returns-in-BoundName : goal.returns-in-BoundName
 returns-in-BoundName c =
     moved c.args.self.now _ _ _ (bound_by c.args.self.now (Relates (relation_shown c.args.relation)) BoundName
     c.in-BoundName.is) refl refl
+
+pub returns-in_default : goal.returns-in_default
+returns-in_default c =
+    misplaced c.args.self.now _ _ (where_of c.args.self.now)
+    (bound_relation_stray (where_of c.args.self.now) c.args.self.now.place.stage c.args.self.now.place
+    (relation_shown c.args.relation) c.in_default.not-BoundName c.in_default.not-LimitRead c.in_default.not-BoundedName)

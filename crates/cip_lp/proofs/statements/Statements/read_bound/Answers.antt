@@ -2,9 +2,11 @@ use Rattle.std.proofs.Common.{refl, ap, ◌∙◌, List, ℕ, None}
 use Rattle.cip_text_rules.specs.LpPlaces.{SetsBoth}
 use Rattle.cip_text_rules.specs.LpTokens.{Sign, Free}
 use Rattle.cip_lp.specs.declared.places.Stage.TheVariants.{BoundName, BoundDue}
-use Rattle.cip_lp.proofs.ReadLaws.{done, read_as, taken_as, bound_token, bound_by, bound_front_by}
+use Rattle.cip_lp.proofs.ReadLaws.{done, read_as, taken_as, bound_token, bound_by, bound_front_by, misplaced}
 use Rattle.cip_lp.specs.declared.line_tokens.Token.TheVariants.{Relates as RelatesToken, Number as NumberToken, Name as NameToken, Sign as SignToken, Free as FreeToken, Infinite as InfiniteToken}
 use Rattle.cip_text_rules.specs.LpFacts.{facts_with}
+use Rattle.cip_lp.specs.LpStages.{where_of}
+use Rattle.cip_lp.proofs.StrayLaws.{bound_sign_stray, bound_free_stray}
 use Rattle.cip_lp.proofs.statements.Statements.read_bound.Goals as goal
 
 pub returns-in-BoundName : goal.returns-in-BoundName
@@ -49,3 +51,17 @@ pub returns-in-Name : goal.returns-in-Name
 returns-in-Name c =
     read_as c.bound_name.result c.args.self.now c.bound_name.new.self _ _
     (bound_token c.args.self.now c.args.token (NameToken c.in-Name.name) c.in-Name.is) c.bound_name.ensures
+
+pub returns-in_default-stage : goal.returns-in_default-stage
+returns-in_default-stage c =
+    misplaced c.args.self.now _ _ (where_of c.args.self.now)
+    (bound_token c.args.self.now c.args.token (SignToken c.in-Sign.minus) c.in-Sign.is
+    ∙ bound_sign_stray (where_of c.args.self.now) c.args.self.now.place.stage c.args.self.now.place c.in-Sign.minus
+    c.in_default-stage.not-Start c.in_default-stage.not-BoundDue c.in_default-stage.not-BoundedName)
+
+pub returns-in_default-stage-2 : goal.returns-in_default-stage-2
+returns-in_default-stage-2 c =
+    misplaced c.args.self.now _ _ (where_of c.args.self.now)
+    (bound_token c.args.self.now c.args.token FreeToken c.in-Free.is
+    ∙ bound_free_stray (where_of c.args.self.now) c.args.self.now.place.stage c.args.self.now.place
+    c.in_default-stage-2.not-BoundName)

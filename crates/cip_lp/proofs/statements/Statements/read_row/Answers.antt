@@ -1,10 +1,12 @@
 use Rattle.std.proofs.Common.{refl, ◌∙◌, subst, List, ℕ, Some}
 use Rattle.cip_text_rules.specs.LpPlaces.{Begins}
 use Rattle.cip_text_rules.specs.LpTokens.{Colon}
-use Rattle.cip_lp.proofs.ReadLaws.{said, read_as, taken_as, row_by, row_token}
+use Rattle.cip_lp.proofs.ReadLaws.{said, read_as, taken_as, row_by, row_token, misplaced}
 use Rattle.cip_lp.specs.LpEvents.{IsTaken}
 use Rattle.cip_lp.specs.declared.line_tokens.Token.TheVariants.{Colon as ColonToken, Relates as RelatesToken, Number as NumberToken, Name as NameToken, Sign as SignToken}
 use Rattle.cip_lp.specs.declared.places.Stage.TheVariants.{FirstName as FirstNameStage}
+use Rattle.cip_lp.specs.LpStages.{where_of}
+use Rattle.cip_lp.proofs.StrayLaws.{row_colon_stray}
 use Rattle.cip_lp.proofs.statements.Statements.read_row.Goals as goal
 
 pub returns-in-Name : goal.returns-in-Name
@@ -37,3 +39,10 @@ returns-in_ok-kind-in-FirstName c =
     said c.args.self.now _ _ (Begins (Some c.args.self.now.place.name.items)) _ c.in_ok-kind-in-FirstName.kind
     (row_token c.args.self.now c.args.token ColonToken c.in-Colon.is ∙ row_by c.args.self.now Colon FirstNameStage
     c.in-FirstName.is) begins refl
+
+pub returns-in_default-stage : goal.returns-in_default-stage
+returns-in_default-stage c =
+    misplaced c.args.self.now _ _ (where_of c.args.self.now)
+    (row_token c.args.self.now c.args.token ColonToken c.in-Colon.is
+    ∙ row_colon_stray (where_of c.args.self.now) c.args.self.now.place.stage c.args.self.now.place
+    c.in_default-stage.not-FirstName)

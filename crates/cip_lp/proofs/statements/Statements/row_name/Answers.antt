@@ -1,9 +1,10 @@
 use Rattle.cip_text_rules.specs.LpTokens.{Name}
 use Rattle.cip_lp.specs.LpStages.{first_of, where_of}
 use Rattle.cip_lp.specs.declared.places.Stage.TheVariants.{Start, Labelled, FirstSign, FirstNumber, SecondStart, SecondSign, TermSign, TermNumber}
-use Rattle.cip_lp.proofs.ReadLaws.{read_as, row_term, row_second, row_by, second_by, second_kept}
+use Rattle.cip_lp.proofs.ReadLaws.{read_as, row_term, row_second, row_by, second_by, second_kept, misplaced}
 use Rattle.std.proofs.Common.{refl, ap, List, ℕ}
 use Rattle.cip_text_rules.specs.LpPlaces.{at, SecondName as SecondNamed}
+use Rattle.cip_lp.proofs.StrayLaws.{row_name_stray}
 use Rattle.cip_lp.proofs.statements.Statements.row_name.Goals as goal
 
 pub returns-in-SecondSign : goal.returns-in-SecondSign
@@ -63,3 +64,11 @@ returns-then-is_zero c =
     second_kept c.args.self.now _ c.args.name.now c.in-SecondNumber.is c.if-is_zero.ensures refl
     (ap (λ (n : List ℕ). at (where_of c.args.self.now) (SecondNamed (first_of place) place.amount n))
     c.in_ok-set_name-in-SecondNumber.ensures)
+
+pub returns-in_default : goal.returns-in_default
+returns-in_default c =
+    misplaced c.args.self.now _ _ (where_of c.args.self.now)
+    (row_name_stray (where_of c.args.self.now) c.args.self.now.place.stage c.args.self.now.place c.args.name.now
+    c.in_default.not-Start c.in_default.not-Labelled c.in_default.not-FirstSign c.in_default.not-FirstNumber
+    c.in_default.not-SecondStart c.in_default.not-SecondSign c.in_default.not-SecondNumber c.in_default.not-TermSign
+    c.in_default.not-TermNumber)

@@ -3,7 +3,8 @@ use Rattle.cip_text_rules.specs.LpPlaces.{Amount, Begins, at, FirstNumber as Fir
 use Rattle.cip_text_rules.specs.LpTokens.{Number}
 use Rattle.cip_lp.specs.LpStages.{where_of}
 use Rattle.cip_lp.specs.declared.places.Stage.TheVariants.{Start, Labelled, FirstSign, SecondStart, SecondSign, TermSign, LastDue, LastSign}
-use Rattle.cip_lp.proofs.ReadLaws.{said, read_as, taken_as, numberless, row_by}
+use Rattle.cip_lp.proofs.ReadLaws.{said, read_as, taken_as, numberless, row_by, misplaced}
+use Rattle.cip_lp.proofs.StrayLaws.{row_number_stray}
 use Rattle.cip_lp.proofs.statements.Statements.row_number.Goals as goal
 
 pub returns-in-Labelled : goal.returns-in-Labelled
@@ -53,3 +54,10 @@ returns-in_ok-kind-in-Ok c =
     (row_by c.args.self.now (Number c.args.text.now) Start c.in-Start.is ∙ c.in-Ok.ensures.some _ _)
     c.in_ok-kind-in-Ok.ensures
     (ap (λ (a : Amount). at (where_of c.args.self.now) (FirstNumbered a)) c.in-Ok.ensures.is)
+
+pub returns-in_default : goal.returns-in_default
+returns-in_default c =
+    misplaced c.args.self.now _ _ (where_of c.args.self.now)
+    (row_number_stray (where_of c.args.self.now) c.args.self.now.place.stage c.args.self.now.place c.args.text.now
+    c.in_default.not-Start c.in_default.not-Labelled c.in_default.not-FirstSign c.in_default.not-SecondStart
+    c.in_default.not-SecondSign c.in_default.not-TermSign c.in_default.not-LastDue c.in_default.not-LastSign)

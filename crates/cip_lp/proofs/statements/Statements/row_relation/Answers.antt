@@ -5,6 +5,7 @@ use Rattle.cip_lp.specs.LpStages.{where_of, first_of}
 use Rattle.cip_lp.specs.declared.places.Stage.TheVariants.{FirstNumber, SecondNumber, AfterTerm}
 use Rattle.cip_lp.proofs.ReadLaws.{misplaced, moved, row_by, yes, no, both_true}
 use Rattle.cip_text_rules.specs.LpPlaces.{goes_on}
+use Rattle.cip_lp.proofs.StrayLaws.{row_relation_stray}
 use Rattle.cip_lp.proofs.statements.Statements.row_relation.Goals as goal
 
 pub returns-else-not-agree : goal.returns-else-not-agree
@@ -26,3 +27,10 @@ returns-then-not-agree-2 c =
     misplaced c.args.self.now _ _ (where_of c.args.self.now)
     (row_by c.args.self.now (Relates (relation_shown c.args.relation)) AfterTerm c.in-AfterTerm.is ∙ no _ _ _
     (c.if-not-agree-2.ensures ∙ ap goes (sym c.if-self.true)))
+
+pub returns-in_default : goal.returns-in_default
+returns-in_default c =
+    misplaced c.args.self.now _ _ (where_of c.args.self.now)
+    (row_relation_stray (where_of c.args.self.now) c.args.self.now.place.stage c.args.self.now.place
+    (relation_shown c.args.relation) c.in_default.not-FirstNumber c.in_default.not-SecondNumber
+    c.in_default.not-AfterTerm)

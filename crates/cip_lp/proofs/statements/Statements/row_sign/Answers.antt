@@ -2,7 +2,9 @@ use Rattle.std.proofs.Common.{refl, None}
 use Rattle.cip_text_rules.specs.LpPlaces.{Begins}
 use Rattle.cip_text_rules.specs.LpTokens.{Sign}
 use Rattle.cip_lp.specs.declared.places.Stage.TheVariants.{Start, Labelled, SecondStart, AfterTerm, LastDue}
-use Rattle.cip_lp.proofs.ReadLaws.{said, taken_as, row_by}
+use Rattle.cip_lp.proofs.ReadLaws.{said, taken_as, row_by, misplaced}
+use Rattle.cip_lp.specs.LpStages.{where_of}
+use Rattle.cip_lp.proofs.StrayLaws.{row_sign_stray}
 use Rattle.cip_lp.proofs.statements.Statements.row_sign.Goals as goal
 
 pub returns-in-LastDue : goal.returns-in-LastDue
@@ -30,3 +32,10 @@ returns-in_ok-kind-in-Start c =
     said c.args.self.now _ _ (Begins None) _ c.in_ok-kind-in-Start.kind
     (row_by c.args.self.now (Sign c.args.minus) Start c.in-Start.is)
     c.in_ok-kind-in-Start.ensures refl
+
+pub returns-in_default : goal.returns-in_default
+returns-in_default c =
+    misplaced c.args.self.now _ _ (where_of c.args.self.now)
+    (row_sign_stray (where_of c.args.self.now) c.args.self.now.place.stage c.args.self.now.place c.args.minus
+    c.in_default.not-Start c.in_default.not-Labelled c.in_default.not-SecondStart c.in_default.not-AfterTerm
+    c.in_default.not-LastDue)

@@ -7,6 +7,7 @@ use Rattle.cip_lp.specs.declared.places.Stage.TheVariants.{SecondName, TermNumbe
 use Rattle.cip_lp.proofs.ReadLaws.{read_as, taken_as, row_settled, cost_settled, row_waits, row_stops, moved, yes}
 use Rattle.cip_lp.specs.LpStages.{where_of}
 use Rattle.cip_lp.specs.declared.statements.Statements.{Statements}
+use Rattle.cip_lp.proofs.StrayLaws.{cost_settles_none, row_settles_none}
 use Rattle.cip_lp.proofs.statements.Statements.settle.Goals as goal
 
 pub returns-in_ok-kind-in-FirstName : goal.returns-in_ok-kind-in-FirstName
@@ -53,3 +54,20 @@ returns-in_ok-end_row-in-SecondNumber c =
     (ap (λ (s : Statements). s.place.amount.value) c.end_row.view_is) c.in-Constraints.is c.in-SecondNumber.is
     c.if-goes_on_with.ensures c.in_ok-end_row-in-SecondNumber.ensures.draft
     c.in_ok-end_row-in-SecondNumber.ensures.same
+
+pub returns-in_default-stage : goal.returns-in_default-stage
+returns-in_default-stage c =
+    moved c.args.self.now _ _ (where_of c.args.self.now)
+    (cost_settled c.args.self.now (token_shown c.args.token) c.args.self.now.place.stage c.in-Minimize.is refl
+    ∙ cost_settles_none (where_of c.args.self.now) c.args.self.now.place.stage c.args.self.now.place
+    (token_shown c.args.token)
+    c.in_default-stage.not-FirstName c.in_default-stage.not-TermNumber) refl refl
+
+pub returns-in_default-stage-2 : goal.returns-in_default-stage-2
+returns-in_default-stage-2 c =
+    moved c.args.self.now _ _ (where_of c.args.self.now)
+    (row_settled c.args.self.now (token_shown c.args.token) c.args.self.now.place.stage c.in-Constraints.is refl
+    ∙ row_settles_none (where_of c.args.self.now) c.args.self.now.place.stage c.args.self.now.place
+    (token_shown c.args.token)
+    c.in_default-stage-2.not-FirstName c.in_default-stage-2.not-SecondNumber c.in_default-stage-2.not-SecondName) refl
+    refl

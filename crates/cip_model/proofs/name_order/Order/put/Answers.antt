@@ -41,3 +41,6 @@ returns-in_ok-insert-in-Some-clause-err c = grind (arith, common_steps)
 
 pub returns-in_ok-insert-in-None-clause-err : goal.returns-in_ok-insert-in-None-clause-err
 returns-in_ok-insert-in-None-clause-err c = grind (arith, common_steps)
+
+pub returns-in_err-insert-in-None-clause-err : goal.returns-in_err-insert-in-None-clause-err
+returns-in_err-insert-in-None-clause-err c = grind (arith, common_steps)

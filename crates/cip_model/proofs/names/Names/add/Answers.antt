@@ -1,10 +1,13 @@
 use Rattle.std.proofs.lemmas.Grind.{common_steps}
-use Rattle.std.proofs.Common.{◌≡◌, ◌+◌, ◌++◌, ◌∷◌, [], ℕ, List, None, length, ap, ◌∙◌, arith}
+use Rattle.std.proofs.Common.{◌≡◌, ◌+◌, ◌++◌, ◌∷◌, [], ℕ, List, None, length, ap, ◌∙◌, arith, Some, take, refl, sym, ap₂, subst}
 use Rattle.cip_problem.specs.Names.{number_of}
-use Rattle.cip_model.specs.Keys.{names_of, pieces_from, AreRising}
+use Rattle.cip_model.specs.Keys.{names_of, pieces_from, number_in, AreOrdered, AreRising}
+use Rattle.cip_model.specs.declared.names.Names.TheInside.{Inside}
+use Rattle.std.proofs.lemmas.List.{take-append-le, take_all}
+use Rattle.std.specs.Prelude.{slice_get}
 use Rattle.cip_model.proofs.NamePlaces.{found_push, apart_after}
 use Rattle.cip_model.proofs.NamePieces.{length-pieces, pieces_after, rising_after}
-use Rattle.cip_model.proofs.names.Names.add.Goals.{After-push_reserved}
+use Rattle.cip_model.proofs.names.Names.add.Goals.{After-push_reserved, After-truncate}
 use Rattle.cip_model.proofs.names.Names.add.Goals as goal
 
 -- the pieces are the names and the new one, and the ends rise
@@ -57,17 +60,45 @@ invariant_of-self-2 c =
 pub returns-clause-ok : goal.returns-clause-ok
 returns-clause-ok c = rw (← c.self.view_is) (added (goal.at.returns-clause-ok c).After-push_reserved).0
 
+-- names whose bytes, ends and order are as they were
+same_ordered : (old new : Inside) → new.bytes.items ≡ old.bytes.items → new.ends.items ≡ old.ends.items → ((other : List ℕ) → number_in new.order other ≡ number_in old.order other) → AreOrdered old → AreOrdered new
+same_ordered old new eb ee eo h =
+    let names : names_of new ≡ names_of old = ap₂ (pieces_from 0) eb ee in
+    record {
+      rising = rw (eb, ee) h.rising;
+      found = λ name. eo name ∙ h.found name ∙ ap (λ ns. number_of ns name) (sym names);
+      apart = λ number name.
+          subst
+          (λ (ns : List (List ℕ)). slice_get ns number ≡ Some name → number_of ns name ≡ Some number) (sym names)
+          (h.apart number name);
+    }
+
+restored : (n : ℕ) (old more all : List ℕ) → n ≡ length old → all ≡ old ++ more → take n all ≡ old
+restored n old more all en ea =
+    rw (en, ea) (take-append-le (length old) old more (omega arith) ∙ take_all (length old) old (omega arith))
+
+bytes_back : (c : After-truncate) → c.truncate.new.self.items ≡ c.self.inside.bytes.items
+bytes_back c =
+    c.truncate.ensures.items
+    ∙ restored c.len-start.result c.self.inside.bytes.items c.as_slice.result.now c.written.new.bytes.items
+    (omega (arith, c.len-start.ensures, c.self.inside.bytes.ok.0)) c.in-Ok.ensures.written.0
+
 pub invariant_of-self-in-Err : goal.invariant_of-self-in-Err
-invariant_of-self-in-Err c = grind (arith, common_steps)
+invariant_of-self-in-Err c =
+    same_ordered c.self.inside _ (bytes_back c) c.in-Ok.ensures.ends c.in-Err.ensures.err c.self.invariant
 
 pub returns-in-Err-clause-err : goal.returns-in-Err-clause-err
-returns-in-Err-clause-err c = grind (arith, common_steps)
+returns-in-Err-clause-err c =
+    ap₂ (pieces_from 0) (bytes_back c) c.in-Ok.ensures.ends ∙ c.self.view_is
 
 pub invariant_of-self : goal.invariant_of-self
-invariant_of-self c = grind (arith, common_steps)
+invariant_of-self c =
+    same_ordered c.self.inside _ c.in_default.ensures.written c.in_default.ensures.ends (λ other. refl)
+    c.self.invariant
 
 pub returns-in_default-clause-err : goal.returns-in_default-clause-err
-returns-in_default-clause-err c = grind (arith, common_steps)
+returns-in_default-clause-err c =
+    ap₂ (pieces_from 0) c.in_default.ensures.written c.in_default.ensures.ends ∙ c.self.view_is
 
 pub put-requires : goal.put-requires
 put-requires c = grind (arith, common_steps)

@@ -1,46 +1,50 @@
 use Rattle.std.proofs.lemmas.Grind.{common_steps}
-use Rattle.std.proofs.Common.{rules, subst, arith}
+use Rattle.std.proofs.Common.{subst, arith}
 use Rattle.cip_problem.specs.WellFormed.{IsWellFormed}
 use Rattle.cip_model.specs.declared.verdicts.Verdict.TheVariants.{Feasible, BreaksBound, BreaksWhole}
 use Rattle.cip_model.proofs.Meaning.Point.{verdict_is_right}
 use Rattle.cip_model.proofs.programs.Program.check.Goals as goal
 
+pub returns-in-Some-clause-verdict : goal.returns-in-Some-clause-verdict
+returns-in-Some-clause-verdict c = grind (arith, common_steps)
+
 pub returns-in-Some-clause-meaning : goal.returns-in-Some-clause-meaning
 returns-in-Some-clause-meaning c =
-    verdict_is_right c.args.self.now c.args.point.now (BreaksBound c.in-Some.col) (search rules) (subst IsWellFormed c.self.view_is c.self.invariant) c.requires
+    verdict_is_right c.args.self.now c.args.point.now (BreaksBound c.in-Some.col) (returns-in-Some-clause-verdict c)
+    (subst IsWellFormed c.self.view_is c.self.invariant) c.requires
+
+pub returns-in-Some-not_whole-clause-verdict : goal.returns-in-Some-not_whole-clause-verdict
+returns-in-Some-not_whole-clause-verdict c = grind (arith, common_steps)
 
 pub returns-in-Some-not_whole-clause-meaning : goal.returns-in-Some-not_whole-clause-meaning
 returns-in-Some-not_whole-clause-meaning c =
-    verdict_is_right c.args.self.now c.args.point.now (BreaksWhole c.in-Some-not_whole.col) (search rules) (subst IsWellFormed c.self.view_is c.self.invariant) c.requires
+    verdict_is_right c.args.self.now c.args.point.now (BreaksWhole c.in-Some-not_whole.col)
+    (returns-in-Some-not_whole-clause-verdict c) (subst IsWellFormed c.self.view_is c.self.invariant) c.requires
+
+pub returns-in-Some-broken_row-clause-verdict : goal.returns-in-Some-broken_row-clause-verdict
+returns-in-Some-broken_row-clause-verdict c = grind (arith, common_steps)
 
 pub returns-in-Some-broken_row-clause-meaning : goal.returns-in-Some-broken_row-clause-meaning
 returns-in-Some-broken_row-clause-meaning c =
-    verdict_is_right c.args.self.now c.args.point.now c.in-Some-broken_row.verdict (search rules) (subst IsWellFormed c.self.view_is c.self.invariant) c.requires
-
-pub returns-in-Ok-clause-meaning : goal.returns-in-Ok-clause-meaning
-returns-in-Ok-clause-meaning c =
-    verdict_is_right c.args.self.now c.args.point.now (Feasible c.in-Ok.cost) (search rules) (subst IsWellFormed c.self.view_is c.self.invariant) c.requires
-
-pub broken_row-requires-clause-stand : goal.broken_row-requires-clause-stand
-broken_row-requires-clause-stand c = grind (arith, common_steps)
+    verdict_is_right c.args.self.now c.args.point.now c.in-Some-broken_row.verdict
+    (returns-in-Some-broken_row-clause-verdict c) (subst IsWellFormed c.self.view_is c.self.invariant) c.requires
 
 pub returns-in-Ok-clause-verdict : goal.returns-in-Ok-clause-verdict
 returns-in-Ok-clause-verdict c = grind (arith, common_steps)
 
-pub returns-in-Some-broken_row-clause-verdict : goal.returns-in-Some-broken_row-clause-verdict
-returns-in-Some-broken_row-clause-verdict c = grind (arith, common_steps)
+pub returns-in-Ok-clause-meaning : goal.returns-in-Ok-clause-meaning
+returns-in-Ok-clause-meaning c =
+    verdict_is_right c.args.self.now c.args.point.now (Feasible c.in-Ok.cost) (returns-in-Ok-clause-verdict c)
+    (subst IsWellFormed c.self.view_is c.self.invariant) c.requires
+
+pub broken_row-requires-clause-stand : goal.broken_row-requires-clause-stand
+broken_row-requires-clause-stand c = grind (arith, common_steps)
 
 pub returns-in-Err-clause-verdict : goal.returns-in-Err-clause-verdict
 returns-in-Err-clause-verdict c = grind (arith, common_steps)
 
 pub cost-requires : goal.cost-requires
 cost-requires c = grind (arith, common_steps)
-
-pub returns-in-Some-not_whole-clause-verdict : goal.returns-in-Some-not_whole-clause-verdict
-returns-in-Some-not_whole-clause-verdict c = grind (arith, common_steps)
-
-pub returns-in-Some-clause-verdict : goal.returns-in-Some-clause-verdict
-returns-in-Some-clause-verdict c = grind (arith, common_steps)
 
 pub not_whole-requires-clause-same : goal.not_whole-requires-clause-same
 not_whole-requires-clause-same c = grind (arith, common_steps)

@@ -1,7 +1,7 @@
 use Rattle.std.proofs.lemmas.Grind.{common_steps}
-use Rattle.std.proofs.Common.{◌≡◌, ◌∙◌, true, false, Bool, List, rules, sym, ap, subst, arith}
+use Rattle.std.proofs.Common.{◌≡◌, ◌∙◌, true, false, true≢false, Bool, List, sym, ap, subst, arith}
 use Rattle.cip_problem.specs.Program.{Sides, Row}
-use Rattle.cip_rational.specs.Rational.{zeroℚ}
+use Rattle.cip_rational.specs.Rational.{ℚ, zeroℚ}
 use Rattle.cip_frac.specs.Outcomes.{dot_from}
 use Rattle.cip_model.specs.declared.verdicts.Verdict.TheVariants.{Feasible}
 use Rattle.cip_model.specs.Meaning.{VerdictHolds}
@@ -14,7 +14,7 @@ pub returns-then-not-keeps_bounds-clause-shown : goal.returns-then-not-keeps_bou
 returns-then-not-keeps_bounds-clause-shown c =
     let e : all_stay c.as_slice.result.now c.args.ray.now ≡ false = sym c.keeps_bounds.ensures
     ∙ c.if-not-keeps_bounds.true in (
-      λ h. absurd (cc),
+      λ h. absurd (true≢false (sym h)),
       λ h. absurd (bounds_broken c.args.self.now c.args.point.now c.args.ray.now c.as_slice.result.now
           (c.as_slice.ensures ∙ c.bounds.ensures.bounds) e h),
     )
@@ -23,7 +23,7 @@ pub returns-then-not-keeps_wholes-clause-shown : goal.returns-then-not-keeps_who
 returns-then-not-keeps_wholes-clause-shown c =
     let e : all_still c.whole.result.now c.args.ray.now ≡ false = sym c.keeps_wholes.ensures
     ∙ c.if-not-keeps_wholes.true in (
-      λ h. absurd (cc),
+      λ h. absurd (true≢false (sym h)),
       λ h. absurd (wholes_broken c.args.self.now c.args.point.now c.args.ray.now c.whole.result.now
           c.whole.ensures.whole e h),
     )
@@ -31,7 +31,7 @@ returns-then-not-keeps_wholes-clause-shown c =
 pub returns-then-not-keeps_rows-clause-shown : goal.returns-then-not-keeps_rows-clause-shown
 returns-then-not-keeps_rows-clause-shown c =
     let e : rows_stay c.rows.result.now c.args.ray.now ≡ false = sym c.keeps_rows.ensures ∙ c.if-not-keeps_rows.true in (
-      λ h. absurd (cc),
+      λ h. absurd (true≢false (sym h)),
       λ h. absurd (rows_broken c.args.self.now c.args.point.now c.args.ray.now c.rows.result.now
           c.rows.ensures.rows e h),
     )
@@ -50,10 +50,13 @@ returns-clause-shown c =
     (sym c.whole.ensures.whole) ∙ sym c.keeps_wholes.ensures ∙ c.if-not-keeps_wholes.false in
     let r : rows_stay program.rows ray ≡ true = ap (λ (rows : List Row). rows_stay rows ray)
     (sym c.rows.ensures.rows) ∙ sym c.keeps_rows.ensures ∙ c.if-not-keeps_rows.false in (
-      λ h. let f : cost_falls (dot_from zeroℚ program.costs ray) ≡ true = search rules in shown_by program
+      λ h. let f : cost_falls (dot_from zeroℚ program.costs ray) ≡ true =
+          ap (λ (costs : List ℚ). cost_falls (dot_from zeroℚ costs ray)) (sym c.costs.ensures.costs)
+          ∙ sym c.lowers_cost.ensures ∙ h in shown_by program
           c.args.point.now ray c.in-Feasible.field-0 c.costs.ensures.formed c.requires.ray v m b w r f,
       λ h. let f =
-          cost_kept program c.args.point.now ray c.costs.result.now c.costs.ensures.costs h in search rules,
+          cost_kept program c.args.point.now ray c.costs.result.now c.costs.ensures.costs h in
+          c.lowers_cost.ensures ∙ f,
     )
 
 pub returns-clause-falls : goal.returns-clause-falls

@@ -1,5 +1,6 @@
+use Rattle.std.proofs.Common.{refl, arith}
 use Rattle.std.proofs.lemmas.Grind.{common_steps}
-use Rattle.std.proofs.Common.{arith}
+use Rattle.cip_plugin.proofs.Objects.{lives_on}
 use Rattle.cip_plugin.proofs.boxed.AnyPluginTells.priority.Goals as goal
 
 pub widen-priority-in-EventHandler : goal.widen-priority-in-EventHandler
@@ -22,3 +23,24 @@ widen-priority-in-Propagator c = grind (arith, common_steps)
 
 pub widen-priority : goal.widen-priority
 widen-priority c = grind (arith, common_steps)
+
+pub priority-requires : goal.priority-requires
+priority-requires g c = λ k. (refl, lives_on k.0 _)
+
+pub priority-requires-in-Propagator : goal.priority-requires-in-Propagator
+priority-requires-in-Propagator g c = λ k. (refl, lives_on k.0 _)
+
+pub priority-requires-in-Pricer : goal.priority-requires-in-Pricer
+priority-requires-in-Pricer g c = λ k. (refl, lives_on k.0 _)
+
+pub priority-requires-in-Heuristic : goal.priority-requires-in-Heuristic
+priority-requires-in-Heuristic g c = λ k. (refl, lives_on k.0 _)
+
+pub priority-requires-in-BranchRule : goal.priority-requires-in-BranchRule
+priority-requires-in-BranchRule g c = λ k. (refl, lives_on k.0 _)
+
+pub priority-requires-in-EventHandler : goal.priority-requires-in-EventHandler
+priority-requires-in-EventHandler g c = λ k. (refl, lives_on k.0 _)
+
+pub priority-requires-in-ConsHandler : goal.priority-requires-in-ConsHandler
+priority-requires-in-ConsHandler g c = λ k. (refl, lives_on k.0 _)

@@ -1,7 +1,7 @@
+use Rattle.std.proofs.Common.{refl, rules, arith}
 use Rattle.std.proofs.lemmas.Grind.{common_steps}
-use Rattle.std.proofs.Common.{rules, arith}
+use Rattle.cip_plugin.proofs.Objects.{lives_on, heard_same}
 use Rattle.cip_plugin.proofs.Asked.{cons_handler_is_asked}
-use Rattle.cip_plugin.proofs.Objects.{heard_same}
 use Rattle.cip_plugin.proofs.called.BoxDynConsHandlerCalled.ask.Goals as goal
 
 pub returns-in-Ok : goal.returns-in-Ok
@@ -59,3 +59,12 @@ back_relent_following-self g c = grind (arith, common_steps)
 
 pub unreachable-unreachable : goal.unreachable-unreachable
 unreachable-unreachable g c = grind (arith, common_steps)
+
+pub enforce-requires : goal.enforce-requires
+enforce-requires g c = λ k. (refl, lives_on k.0 _)
+
+pub separate-requires : goal.separate-requires
+separate-requires g c = λ k. (refl, lives_on k.0 _)
+
+pub propagate-requires : goal.propagate-requires
+propagate-requires g c = λ k. (refl, lives_on k.0 _)

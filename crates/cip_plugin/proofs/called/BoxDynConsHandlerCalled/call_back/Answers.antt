@@ -1,6 +1,6 @@
+use Rattle.std.proofs.Common.{refl, rules, arith}
 use Rattle.std.proofs.lemmas.Grind.{common_steps}
-use Rattle.std.proofs.Common.{rules, arith}
-use Rattle.cip_plugin.proofs.Objects.{heard_same}
+use Rattle.cip_plugin.proofs.Objects.{lives_on, heard_same}
 use Rattle.cip_plugin.proofs.called.BoxDynConsHandlerCalled.call_back.Goals as goal
 
 pub returns-in-Init : goal.returns-in-Init
@@ -46,3 +46,15 @@ back_relent_following-self-in-InitSolve g c = grind (arith, common_steps)
 
 pub back_relent_following-self : goal.back_relent_following-self
 back_relent_following-self g c = grind (arith, common_steps)
+
+pub init-requires : goal.init-requires
+init-requires g c = λ k. (refl, lives_on k.0 _)
+
+pub init_solve-requires : goal.init_solve-requires
+init_solve-requires g c = λ k. (refl, lives_on k.0 _)
+
+pub exit-requires : goal.exit-requires
+exit-requires g c = λ k. (refl, lives_on k.0 _)
+
+pub exit_solve-requires : goal.exit_solve-requires
+exit_solve-requires g c = λ k. (refl, lives_on k.0 _)

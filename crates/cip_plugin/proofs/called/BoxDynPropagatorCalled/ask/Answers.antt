@@ -1,7 +1,7 @@
+use Rattle.std.proofs.Common.{refl, rules, arith}
 use Rattle.std.proofs.lemmas.Grind.{common_steps}
-use Rattle.std.proofs.Common.{rules, arith}
+use Rattle.cip_plugin.proofs.Objects.{lives_on, heard_same}
 use Rattle.cip_plugin.proofs.Asked.{propagator_is_asked}
-use Rattle.cip_plugin.proofs.Objects.{heard_same}
 use Rattle.cip_plugin.proofs.called.BoxDynPropagatorCalled.ask.Goals as goal
 
 pub returns-in-Ok : goal.returns-in-Ok
@@ -25,3 +25,6 @@ back_relent_following-self g c = grind (arith, common_steps)
 
 pub unreachable-unreachable : goal.unreachable-unreachable
 unreachable-unreachable g c = grind (arith, common_steps)
+
+pub propagate-requires : goal.propagate-requires
+propagate-requires g c = λ k. (refl, lives_on k.0 _)

@@ -1,5 +1,5 @@
 use Rattle.std.proofs.lemmas.Grind.{common_steps}
-use Rattle.std.proofs.Common.{◌≡◌, ◌∙◌, rules, subst, sym, arith}
+use Rattle.std.proofs.Common.{◌≡◌, ◌∙◌, subst, sym, arith}
 use Rattle.cip_presolve.specs.DraftParts.{IsDraft}
 use Rattle.cip_presolve.proofs.Drafted.{drafted, same_draft}
 use Rattle.cip_presolve.proofs.drafts.Draft.new.Goals as goal
@@ -8,8 +8,10 @@ pub invariant_of-result : goal.invariant_of-result
 invariant_of-result c =
     let program = c.args.program.now in
     let rows : c.in-Ok-copied_rows.rows.items ≡ program.rows = c.in-Ok-copied_rows.ensures ∙ c.rows.ensures.rows in
-    let same_costs : c.in-Ok-to_vec-2.costs.items ≡ c.costs.result.now = search rules in
-    let same_flags : c.in-Ok-to_vec.whole.items ≡ c.whole.result.now = search rules in
+    let same_costs : c.in-Ok-to_vec-2.costs.items ≡ c.costs.result.now =
+    c.in-Ok-to_vec-2.ensures.items_if_clones_equal (λ x y e. e) in
+    let same_flags : c.in-Ok-to_vec.whole.items ≡ c.whole.result.now = c.in-Ok-to_vec.ensures.items_if_clones_equal
+    (λ x y e. e) in
     let same =
     same_draft program c.in-Ok-copied_rows.rows.items c.in-Ok-to_vec-2.costs.items c.constant.result
     c.in-Ok-to_vec.whole.items c.in-Ok.bounds c.in-Ok-copied.choices rows (same_costs ∙ c.costs.ensures.costs)
@@ -21,8 +23,10 @@ pub returns-in-Ok-copied_rows : goal.returns-in-Ok-copied_rows
 returns-in-Ok-copied_rows c =
     let program = c.args.program.now in
     let rows : c.in-Ok-copied_rows.rows.items ≡ program.rows = c.in-Ok-copied_rows.ensures ∙ c.rows.ensures.rows in
-    let same_costs : c.in-Ok-to_vec-2.costs.items ≡ c.costs.result.now = search rules in
-    let same_flags : c.in-Ok-to_vec.whole.items ≡ c.whole.result.now = search rules in
+    let same_costs : c.in-Ok-to_vec-2.costs.items ≡ c.costs.result.now =
+    c.in-Ok-to_vec-2.ensures.items_if_clones_equal (λ x y e. e) in
+    let same_flags : c.in-Ok-to_vec.whole.items ≡ c.whole.result.now = c.in-Ok-to_vec.ensures.items_if_clones_equal
+    (λ x y e. e) in
     let same =
     same_draft program c.in-Ok-copied_rows.rows.items c.in-Ok-to_vec-2.costs.items c.constant.result
     c.in-Ok-to_vec.whole.items c.in-Ok.bounds c.in-Ok-copied.choices rows (same_costs ∙ c.costs.ensures.costs)

@@ -1,5 +1,5 @@
 use Rattle.std.proofs.lemmas.Grind.{common_steps}
-use Rattle.std.proofs.Common.{◌≡◌, false, List, length, Some, slice_get, sym, ap, ◌∙◌, subst, arith}
+use Rattle.std.proofs.Common.{◌≡◌, false, List, length, Some, slice_get, sym, ap, ◌∙◌, subst, arith, ◌<◌}
 use Rattle.cip_problem.specs.Program.{Term, Sides}
 use Rattle.cip_problem.specs.Box.{sides_at}
 use Rattle.cip_problem.specs.Choices.{met, choice_at, is_open}
@@ -26,3 +26,19 @@ single_sides-requires c = grind (arith, common_steps)
 
 pub returns-then-is_semi : goal.returns-then-is_semi
 returns-then-is_semi c = grind (arith, common_steps)
+
+pub sides-requires : goal.sides-requires
+sides-requires c =
+    let column : c.term-2.inside.col ≡ c.in-Some.term.column = ap (λ (t : Term). t.column) c.term-2.view_is in
+    let below : c.in-Some.term.column < length c.args.self.now.bounds =
+    one_stands (length c.args.self.now.bounds) c.row-row.result.now.terms c.in-Some.term c.row-row.ensures.stands
+    c.in-Some.ensures.0 in
+    subst (λ n. n < length c.bounds.result.now) (sym column)
+    (subst (λ (box : List Sides). c.in-Some.term.column < length box) (sym c.bounds.ensures.bounds) below)
+
+pub is_whole-requires : goal.is_whole-requires
+is_whole-requires c =
+    let column : c.term.inside.col ≡ c.in-Some.term.column = ap (λ (t : Term). t.column) c.term.view_is in
+    subst (λ n. n < length c.args.self.now.bounds) (sym column)
+    (one_stands (length c.args.self.now.bounds) c.row-row.result.now.terms c.in-Some.term c.row-row.ensures.stands
+    c.in-Some.ensures.0)

@@ -1,12 +1,12 @@
 use Rattle.std.proofs.lemmas.Grind.{common_steps}
-use Rattle.std.proofs.Common.{Ok, subst, ◌≡◌, List, Some, length, refl, sym, ap, ◌∙◌, arith}
+use Rattle.std.proofs.Common.{Ok, subst, ◌≡◌, List, Some, length, refl, sym, ap, ◌∙◌, arith, true≢false}
 use Rattle.cip_frac.specs.Outcomes.{product_added}
 use Rattle.cip_problem.specs.Activity.{value_at}
 use Rattle.cip_problem.specs.Program.{Sides, Program}
 use Rattle.cip_problem.specs.Box.{sides_at}
 use Rattle.cip_presolve.specs.NarrowedPrograms.{with_cost}
 use Rattle.cip_presolve.specs.RowReading.{only_value}
-use Rattle.cip_presolve.proofs.Recosted.{recosted_by}
+use Rattle.cip_presolve.proofs.Recosted.{recosted_by, fractional_by}
 use Rattle.cip_presolve.proofs.drafts.Draft.try_fixed.Goals as goal
 use Rattle.cip_search.proofs.Pairing.{exact_self}
 
@@ -67,3 +67,11 @@ returns-then-is_zero-clause-end c = grind (arith, common_steps)
 
 pub returns-in_default-clause-end : goal.returns-in_default-clause-end
 returns-in_default-clause-end c = grind (arith, common_steps)
+
+pub returns-then-not-is_whole-clause-end : goal.returns-then-not-is_whole-clause-end
+returns-then-not-is_whole-clause-end c =
+    let only : Some c.in-Some.value ≡ only_value (sides_at c.args.self.now.bounds c.args.column) =
+    sym c.in-Some.is ∙ c.only_value.ensures ∙ ap only_value c.sides.ensures
+    ∙ ap (λ (box : List Sides). only_value (sides_at box c.args.column)) c.bounds.ensures.bounds in
+    fractional_by c.args.self.now c.args.column c.in-Some.value only c.if-is_whole.ensures
+    (λ w. true≢false (sym (c.is_whole-then-is_whole.ensures.1 w) ∙ c.if-not-is_whole.true))

@@ -1,3 +1,4 @@
+use Rattle.cip_search.proofs.Pairing.{exact_self}
 use Rattle.std.proofs.lemmas.Grind.{common_steps}
 use Rattle.std.proofs.Common.{List, subst, ap, ◌∙◌, arith}
 use Rattle.cip_problem.specs.Program.{Sides, Row}
@@ -27,3 +28,9 @@ returns-in-HoldsAlways-clause-end c = grind (arith, common_steps)
 
 pub set_row-requires-clause-stands : goal.set_row-requires-clause-stands
 set_row-requires-clause-stands c = grind (arith, common_steps)
+
+pub returns-in-HoldsNever-clause-step : goal.returns-in-HoldsNever-clause-step
+returns-in-HoldsNever-clause-step c = exact_self c.args.self.now
+
+pub returns-in-Unclear-clause-step : goal.returns-in-Unclear-clause-step
+returns-in-Unclear-clause-step c = exact_self c.args.self.now

@@ -43,13 +43,17 @@ pub returns-in_err-push-clause-bounds : goal.returns-in_err-push-clause-bounds
 returns-in_err-push-clause-bounds c = IfOk-from_err c.from_residual.result _ c.from_residual.ensures.0
 
 pub returns-in_err-push-2-clause-rows : goal.returns-in_err-push-2-clause-rows
-returns-in_err-push-2-clause-rows c = IfOk-from_err c.from_residual-in_err-push-2.result _ c.from_residual-in_err-push-2.ensures.0
+returns-in_err-push-2-clause-rows c =
+    IfOk-from_err c.from_residual-in_err-push-2.result _ c.from_residual-in_err-push-2.ensures.0
 
 pub returns-in_err-push-2-clause-ids : goal.returns-in_err-push-2-clause-ids
-returns-in_err-push-2-clause-ids c = IfOk-from_err c.from_residual-in_err-push-2.result _ c.from_residual-in_err-push-2.ensures.0
+returns-in_err-push-2-clause-ids c =
+    IfOk-from_err c.from_residual-in_err-push-2.result _ c.from_residual-in_err-push-2.ensures.0
 
 pub returns-in_err-push-2-clause-pool : goal.returns-in_err-push-2-clause-pool
-returns-in_err-push-2-clause-pool c = IfOk-from_err c.from_residual-in_err-push-2.result _ c.from_residual-in_err-push-2.ensures.0
+returns-in_err-push-2-clause-pool c =
+    IfOk-from_err c.from_residual-in_err-push-2.result _ c.from_residual-in_err-push-2.ensures.0
 
 pub returns-in_err-push-2-clause-bounds : goal.returns-in_err-push-2-clause-bounds
-returns-in_err-push-2-clause-bounds c = IfOk-from_err c.from_residual-in_err-push-2.result _ c.from_residual-in_err-push-2.ensures.0
+returns-in_err-push-2-clause-bounds c =
+    IfOk-from_err c.from_residual-in_err-push-2.result _ c.from_residual-in_err-push-2.ensures.0

@@ -9,4 +9,5 @@ pub returns-then-entries-columns : goal.returns-then-entries-columns
 returns-then-entries-columns c = grind (arith, common_steps)
 
 pub returns : goal.returns
-returns c = IfOk-weaker c.new.result _ _ (λ scratch h. ap length h ∙ length-replicate c.args.columns zeroℚ) c.new.ensures.row
+returns c =
+    IfOk-weaker c.new.result _ _ (λ scratch h. ap length h ∙ length-replicate c.args.columns zeroℚ) c.new.ensures.row

@@ -2,9 +2,8 @@ use Rattle.std.proofs.lemmas.Grind.{common_steps}
 use Rattle.std.proofs.Common.{Bool, None, Some, ap, cond, sym, ◌∙◌, arith}
 use Rattle.cip_plugin.specs.declared.faults.WishFault.TheVariants as faults
 use Rattle.cip_plugin.specs.Wishing.{seat_fault}
-use Rattle.cip_roster.specs.Closed.{lives_there}
 use Rattle.cip_roster.proofs.Sitting.{said_past, said_there}
-use Rattle.cip_roster.proofs.Wishes.{live_there}
+use Rattle.cip_roster.proofs.Wishes.{live_there, lives_there}
 use Rattle.cip_roster.proofs.single.RosterSteps.live.Goals as goal
 
 pub returns-in-None : goal.returns-in-None

@@ -1,7 +1,9 @@
+use Rattle.std.proofs.lemmas.Bool.{ltb-false}
+use Rattle.std.specs.Prelude.{is_some}
 use Rattle.std.proofs.lemmas.Grind.{common_steps}
-use Rattle.std.proofs.Common.{Bool, None, Some, ap, cond, ◌∙◌, arith}
+use Rattle.std.proofs.Common.{Bool, None, Some, ap, cond, ◌∙◌, arith, sym}
 use Rattle.cip_roster.specs.Turns.{ready_key}
-use Rattle.cip_roster.proofs.Sitting.{said_there}
+use Rattle.cip_roster.proofs.Sitting.{said_there, said_past}
 use Rattle.cip_roster.proofs.single.RosterSteps.ready_key.Goals as goal
 
 pub returns-in-Some : goal.returns-in-Some
@@ -30,3 +32,9 @@ key-requires g c = grind (arith, common_steps)
 
 pub is_ready-requires : goal.is_ready-requires
 is_ready-requires g c = grind (arith, common_steps)
+
+pub returns-in_default-2 : goal.returns-in_default-2
+returns-in_default-2 g c =
+    said_past _ (ready_key c.args.kind c.args.id) c.args.self.now.slots.items c.deref.result.now c.args.id
+    c.deref.ensures.value
+    (ltb-false _ _ (sym c.get.ensures.lookup.0 ∙ ap is_some c.in_default.is))

@@ -1,6 +1,7 @@
 use Rattle.cip_tree.specs.Nodes.{node_in}
-use Rattle.std.proofs.Common.{None, map, get_or, sym, ap, ◌∙◌, subst}
+use Rattle.std.proofs.Common.{◌≡◌, ◌∷◌, ◌++◌, [], None, map, get_or, sym, ap, ◌∙◌, subst}
 use Rattle.std.proofs.lemmas.List.{map-append}
+use Rattle.cip_problem.specs.Log.{Entry, Closed}
 use Rattle.cip_tree.specs.Entries.{entry_of}
 use Rattle.cip_tree.specs.Nodes.{filled_base, Nodes, TakenNode, base_at}
 use Rattle.cip_tree.specs.Inside.{bases}
@@ -45,11 +46,33 @@ pub returns-clause-taken : goal.returns-clause-taken
 returns-clause-taken c =
     let gone = released_gone c.self.inside.kept.slots c.release.new.kept.slots c.node.inside.place c.release.ensures.slots c.release.ensures.kept in
     let others = released_others c.self.inside.kept.slots c.release.new.kept.slots c.node.inside.place c.release.ensures.slots c.release.ensures.kept in
-    rw (← c.self.view_is, ← c.node.view_is) (record { gone = ap (filled_base c.self.inside.root.choices) gone; others = λ k d. ap (filled_base c.self.inside.root.choices) (others k d) })
+    let place : c.node.inside.place ≡ c.args.node.place = ap (λ (x : TakenNode). x.place) c.node.view_is in
+    record {
+      gone = subst (λ k. filled_base c.self.inside.root.choices (get_or (bases c.release.new.kept.slots) k None) ≡ None)
+          place (ap (filled_base c.self.inside.root.choices) gone);
+      others = λ k d. ap (filled_base c.self.inside.root.choices) (others k (λ e. d (e ∙ place)))
+          ∙ ap (λ (t : Nodes). base_at t k) c.self.view_is;
+    }
 
 pub returns-clause-rest : goal.returns-clause-rest
 returns-clause-rest c =
     let base = unfilled c.self.inside.root.choices (get_or (bases c.self.inside.kept.slots) c.node.inside.place None) c.requires.base (ap (λ (t : Nodes). base_at t c.node.inside.place) c.self.view_is ∙ ap (λ (x : TakenNode). base_at c.args.self.now x.place) c.node.view_is ∙ c.requires.found) in
     let log = ap (λ l. map entry_of l) c.push_reserved.ensures.items ∙ map-append entry_of c.self.inside.log.items _ in
-    rw (← c.self.view_is, ← c.node.view_is)
-    (nodes_equal _ _ _ _ _ _ _ _ _ _ _ (closed_open c.self.inside.root c.self.inside.kept.slots c.release.new.kept.slots c.node.inside.place c.self.inside.queue.nodes c.self.inside.parked.items c.self.inside.ids c.self.inside.in_work base.raw c.self.invariant.0 base.found c.release.ensures.slots c.release.ensures.kept) (closed_parked c.self.inside.root c.self.inside.kept.slots c.release.new.kept.slots c.node.inside.place c.self.inside.queue.nodes c.self.inside.parked.items c.self.inside.ids c.self.inside.in_work base.raw c.self.invariant.0 base.found c.release.ensures.slots c.release.ensures.kept) log)
+    nodes_equal _ _ _ _ _ _ _ _ _ _ _
+    (closed_open c.self.inside.root c.self.inside.kept.slots c.release.new.kept.slots c.node.inside.place
+    c.self.inside.queue.nodes c.self.inside.parked.items c.self.inside.ids c.self.inside.in_work base.raw
+    c.self.invariant.0 base.found c.release.ensures.slots c.release.ensures.kept)
+    (closed_parked c.self.inside.root c.self.inside.kept.slots c.release.new.kept.slots c.node.inside.place
+    c.self.inside.queue.nodes c.self.inside.parked.items c.self.inside.ids c.self.inside.in_work base.raw
+    c.self.invariant.0 base.found c.release.ensures.slots c.release.ensures.kept) log
+    ∙ ap (λ (t : Nodes). (let x : Nodes = record t {
+      taken = bases c.release.new.kept.slots;
+      log = t.log ++
+          (let e : Entry = record { node = c.node.inside.id; bound = c.node.inside.bound; end = Closed } in e) ∷ [];
+    }
+    in x)) c.self.view_is
+    ∙ ap (λ (n : TakenNode). (let x : Nodes = record c.args.self.now {
+      taken = bases c.release.new.kept.slots;
+      log = c.args.self.now.log ++
+          (let e : Entry = record { node = n.number; bound = n.bound; end = Closed } in e) ∷ [];
+    } in x)) c.node.view_is

@@ -1,11 +1,11 @@
 use Rattle.std.proofs.lemmas.Grind.{common_steps}
 use Rattle.cip_tree.specs.Nodes.{node_in}
-use Rattle.std.proofs.Common.{ap, subst, sym, filter, refl, ◌≤◌, ℕ, count_by, arith}
+use Rattle.std.proofs.Common.{ap, subst, sym, filter, refl, ◌≤◌, ℕ, count_by, All, arith}
 use Rattle.std.specs.List.Sorted.{IsPermutation}
 use Rattle.cip_tree.specs.Entries.{entries_of}
 use Rattle.cip_tree.specs.Nodes.{filled_base, Nodes}
 use Rattle.cip_tree.specs.Moves.{is_cheaper}
-use Rattle.cip_tree.specs.Inside.{nodes_at, is_at}
+use Rattle.cip_tree.specs.Inside.{nodes_at, is_at, StandsAs}
 use Rattle.cip_tree.specs.Freed.{dearer, AreReleased}
 use Rattle.cip_tree.proofs.Orders.{nodes_equal}
 use Rattle.cip_tree.proofs.Closing.{closed_nodes, none_closed, closed_length}
@@ -13,6 +13,7 @@ use Rattle.cip_tree.proofs.Freeing.{freed_order, freed_nodes, freed_parked, free
 use Rattle.cip_tree.proofs.Tracking.{tracked_freed}
 use Rattle.cip_tree.proofs.Rooms.{room_fewer}
 use Rattle.cip_tree.proofs.WalkedOn.{walked_freed}
+use Rattle.cip_tree.specs.declared.kept.Stage.TheVariants.{Open}
 use Rattle.cip_tree.proofs.trees.Tree.close_from.Goals as goal
 
 pub release_from-requires-clause-once : goal.release_from-requires-clause-once
@@ -51,7 +52,8 @@ returns-else-reaches-clause-nodes c =
     (none_closed c.args.cost c.self.inside.queue.nodes (c.reaches.ensures c.if-reaches.false)))
 
 pub release_from-requires-clause-waiting : goal.release_from-requires-clause-waiting
-release_from-requires-clause-waiting c = grind (arith, common_steps)
+release_from-requires-clause-waiting c = subst (All (StandsAs Open c.self.inside.kept.slots)) (sym c.as_slice.ensures)
+    c.self.invariant.0.waiting
 
 pub returns-else-reaches-clause-taken : goal.returns-else-reaches-clause-taken
 returns-else-reaches-clause-taken c = grind (arith, common_steps)

@@ -4,7 +4,7 @@ use Rattle.std.proofs.lemmas.List.{map-append}
 use Rattle.cip_problem.specs.Log.{Entry, Parked}
 use Rattle.cip_tree.specs.declared.queue.OpenNode.{OpenNode}
 use Rattle.cip_tree.specs.Entries.{entry_of}
-use Rattle.cip_tree.specs.Nodes.{filled_base, Nodes, TakenNode, base_at}
+use Rattle.cip_tree.specs.Nodes.{filled_base, Nodes, TakenNode, base_at, shown}
 use Rattle.cip_tree.specs.Inside.{bases, nodes_at, IsInOrder}
 use Rattle.cip_tree.proofs.Orders.{parked_is_not, taken_some, aside_order, aside_some, aside_open, aside_parked, aside_gone, aside_others, nodes_equal}
 use Rattle.cip_tree.specs.Tracked.{IsTracked}
@@ -43,7 +43,13 @@ returns-clause-taken c =
     let number = base.number ∙ c.requires.same ∙ sym (ap (λ (x : TakenNode). x.number) c.node.view_is) in
     let gone = aside_gone c.self.inside.root c.self.inside.kept.slots c.restage.new.kept.slots c.node.inside.place _ _ c.self.inside.queue.nodes c.self.inside.queue.nodes c.self.inside.parked.items c.self.inside.ids c.self.inside.in_work c.node.inside.id c.node.inside.bound base.raw c.self.invariant.0 base.found number c.restage.ensures.slots in
     let others = aside_others c.self.inside.root c.self.inside.kept.slots c.restage.new.kept.slots c.node.inside.place _ _ c.self.inside.queue.nodes c.self.inside.queue.nodes c.self.inside.parked.items c.self.inside.ids c.self.inside.in_work c.node.inside.id c.node.inside.bound base.raw c.self.invariant.0 base.found number c.restage.ensures.slots in
-    rw (← c.self.view_is, ← c.node.view_is) (record { gone = ap (filled_base c.self.inside.root.choices) gone; others = λ k d. ap (filled_base c.self.inside.root.choices) (others k d) })
+    let place : c.node.inside.place ≡ c.args.node.place = ap (λ (x : TakenNode). x.place) c.node.view_is in
+    record {
+      gone = subst (λ k. filled_base c.self.inside.root.choices (get_or (bases c.restage.new.kept.slots) k None) ≡ None)
+          place (ap (filled_base c.self.inside.root.choices) gone);
+      others = λ k d. ap (filled_base c.self.inside.root.choices) (others k (λ e. d (e ∙ place)))
+          ∙ ap (λ (t : Nodes). base_at t k) c.self.view_is;
+    }
 
 pub returns-clause-rest : goal.returns-clause-rest
 returns-clause-rest c =
@@ -55,8 +61,30 @@ returns-clause-rest c =
     let log = ap (λ l. map entry_of l) c.push_reserved-2.ensures.items ∙ map-append entry_of c.self.inside.log.items _ ∙ ap (λ b. map entry_of c.self.inside.log.items ++ (let x : Entry = record { node = c.node.inside.id; bound = b; end = Parked } in x) ∷ []) f in
     let parked = ap (nodes_at c.self.inside.root c.restage.new.kept.slots) items ∙ aside_parked c.self.inside.root c.self.inside.kept.slots c.restage.new.kept.slots c.node.inside.place _ _ c.self.inside.queue.nodes c.self.inside.queue.nodes c.self.inside.parked.items c.self.inside.ids c.self.inside.in_work c.node.inside.id c.node.inside.bound base.raw c.self.invariant.0 base.found number c.restage.ensures.slots
     ∙ ap (λ r. nodes_at c.self.inside.root c.self.inside.kept.slots c.self.inside.parked.items ++ (node_in r c.node.inside.id c.node.inside.bound) ∷ []) (after_base c.self.inside.root c.node.inside.notes.items (get_or (bases c.self.inside.kept.slots) c.node.inside.place None) base.raw base.found) in
-    rw (← c.self.view_is, ← c.node.view_is)
-    (nodes_equal _ _ _ _ _ _ _ _ _ _ _ (aside_open c.self.inside.root c.self.inside.kept.slots c.restage.new.kept.slots c.node.inside.place _ _ c.self.inside.queue.nodes c.self.inside.queue.nodes c.self.inside.parked.items c.self.inside.ids c.self.inside.in_work c.node.inside.id c.node.inside.bound base.raw c.self.invariant.0 base.found number c.restage.ensures.slots) parked log)
+    nodes_equal _ _ _ _ _ _ _ _ _ _ _
+    (aside_open c.self.inside.root c.self.inside.kept.slots c.restage.new.kept.slots c.node.inside.place _ _
+    c.self.inside.queue.nodes c.self.inside.queue.nodes c.self.inside.parked.items c.self.inside.ids
+    c.self.inside.in_work c.node.inside.id c.node.inside.bound base.raw c.self.invariant.0 base.found number
+    c.restage.ensures.slots) parked log
+    ∙ ap (λ (t : Nodes). (let x : Nodes = record t {
+      parked = t.parked ++ shown t
+          (let n : TakenNode = record {
+            number = c.node.inside.id;
+            bound = c.node.inside.bound;
+            place = c.node.inside.place;
+            notes = c.node.inside.notes.items;
+          } in n) ∷ [];
+      taken = bases c.restage.new.kept.slots;
+      log = t.log ++
+          (let e : Entry = record { node = c.node.inside.id; bound = c.node.inside.bound; end = Parked } in e) ∷ [];
+    }
+    in x)) c.self.view_is
+    ∙ ap (λ (n : TakenNode). (let x : Nodes = record c.args.self.now {
+      parked = c.args.self.now.parked ++ shown c.args.self.now n ∷ [];
+      taken = bases c.restage.new.kept.slots;
+      log = c.args.self.now.log ++ (let e : Entry = record { node = n.number; bound = n.bound; end = Parked } in e) ∷
+          [];
+    } in x)) c.node.view_is
 
 pub restage-requires : goal.restage-requires
 restage-requires c =

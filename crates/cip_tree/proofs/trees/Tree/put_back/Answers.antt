@@ -1,5 +1,5 @@
 use Rattle.cip_tree.specs.Nodes.{node_in}
-use Rattle.std.proofs.Common.{◌∷◌, None, get_or, sym, ap, ◌∙◌, subst, refl, arith}
+use Rattle.std.proofs.Common.{◌≡◌, ◌∷◌, None, get_or, sym, ap, ◌∙◌, subst, refl, arith}
 use Rattle.std.specs.List.Sorted.{IsPermutation}
 use Rattle.std.proofs.lemmas.List.Sorted.{length_permutation}
 use Rattle.cip_tree.specs.Nodes.{filled_base, Nodes, TakenNode, base_at}
@@ -39,14 +39,23 @@ returns-clause-taken c =
     let number = base.number ∙ c.requires.same ∙ sym (ap (λ (x : TakenNode). x.number) c.node.view_is) in
     let gone = back_gone c.self.inside.root c.self.inside.kept.slots c.restage.new.kept.slots c.node.inside.place _ _ c.self.inside.queue.nodes c.push.new.self.nodes c.self.inside.parked.items c.self.inside.ids c.self.inside.in_work c.node.inside.id c.node.inside.bound base.raw c.self.invariant.0 base.found number c.restage.ensures.slots c.push.ensures.nodes in
     let others = back_others c.self.inside.root c.self.inside.kept.slots c.restage.new.kept.slots c.node.inside.place _ _ c.self.inside.queue.nodes c.push.new.self.nodes c.self.inside.parked.items c.self.inside.ids c.self.inside.in_work c.node.inside.id c.node.inside.bound base.raw c.self.invariant.0 base.found number c.restage.ensures.slots c.push.ensures.nodes in
-    rw (← c.self.view_is, ← c.node.view_is) (record { gone = ap (filled_base c.self.inside.root.choices) gone; others = λ k d. ap (filled_base c.self.inside.root.choices) (others k d) })
+    let place : c.node.inside.place ≡ c.args.node.place = ap (λ (x : TakenNode). x.place) c.node.view_is in
+    record {
+      gone = subst (λ k. filled_base c.self.inside.root.choices (get_or (bases c.restage.new.kept.slots) k None) ≡ None)
+          place (ap (filled_base c.self.inside.root.choices) gone);
+      others = λ k d. ap (filled_base c.self.inside.root.choices) (others k (λ e. d (e ∙ place)))
+          ∙ ap (λ (t : Nodes). base_at t k) c.self.view_is;
+    }
 
 pub returns-clause-rest : goal.returns-clause-rest
 returns-clause-rest c =
     let base = unfilled c.self.inside.root.choices (get_or (bases c.self.inside.kept.slots) c.node.inside.place None) c.requires.base (ap (λ (t : Nodes). base_at t c.node.inside.place) c.self.view_is ∙ ap (λ (x : TakenNode). base_at c.args.self.now x.place) c.node.view_is ∙ c.requires.found) in
     let number = base.number ∙ c.requires.same ∙ sym (ap (λ (x : TakenNode). x.number) c.node.view_is) in
     let parked = back_parked c.self.inside.root c.self.inside.kept.slots c.restage.new.kept.slots c.node.inside.place _ _ c.self.inside.queue.nodes c.push.new.self.nodes c.self.inside.parked.items c.self.inside.ids c.self.inside.in_work c.node.inside.id c.node.inside.bound base.raw c.self.invariant.0 base.found number c.restage.ensures.slots c.push.ensures.nodes in
-    rw (← c.self.view_is) (nodes_equal _ _ _ _ _ _ _ _ _ _ _ refl parked refl)
+    let now = nodes_at c.self.inside.root c.restage.new.kept.slots c.push.new.self.nodes in
+    nodes_equal _ _ _ _ _ _ _ _ _ _ _ refl parked refl
+    ∙ ap (λ (t : Nodes). (let x : Nodes = record t { open_ = now; taken = bases c.restage.new.kept.slots } in x))
+    c.self.view_is
 
 pub restage-requires : goal.restage-requires
 restage-requires c =

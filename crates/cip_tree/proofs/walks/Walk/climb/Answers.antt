@@ -2,6 +2,7 @@ use Rattle.std.proofs.lemmas.Grind.{common_steps}
 use Rattle.std.proofs.Common.{◌∙◌, sym, subst, MatchOption, arith}
 use Rattle.cip_tree.specs.Walks.{EndsThere, IsParent, Climbs}
 use Rattle.cip_tree.proofs.Walking.{climbs_more, parent_kept, parent_lower}
+use Rattle.std.proofs.lemmas.Result.{IfOk-from_err}
 use Rattle.cip_tree.proofs.walks.Walk.climb.Goals as goal
 
 pub returns-in_err-parent-clause-walked : goal.returns-in_err-parent-clause-walked
@@ -50,3 +51,11 @@ returns-in_err-parent-clause-domain c = grind (arith, common_steps)
 
 pub parent_past-requires-clause-slot : goal.parent_past-requires-clause-slot
 parent_past-requires-clause-slot c = grind (arith, common_steps)
+
+pub returns-in_err-push-clause-ends : goal.returns-in_err-push-clause-ends
+returns-in_err-push-clause-ends c = IfOk-from_err c.from_residual-in_err-push.result _
+    c.from_residual-in_err-push.ensures.0
+
+pub returns-in_err-push-clause-climbs : goal.returns-in_err-push-clause-climbs
+returns-in_err-push-clause-climbs c = IfOk-from_err c.from_residual-in_err-push.result _
+    c.from_residual-in_err-push.ensures.0

@@ -10,7 +10,8 @@ use Rattle.cip_tree.specs.Slots.{above}
 use Rattle.cip_tree.specs.Walks.{Way, IsWalked, IsEntered, Arrives}
 use Rattle.cip_tree.specs.Origins.{after}
 use Rattle.cip_tree.proofs.Filled.{after_earlier, after_notes, after_plain}
-use Rattle.cip_tree.proofs.Walking.{walked_marks}
+use Rattle.cip_tree.proofs.Walking.{held_longer, walked_marks}
+use Rattle.std.proofs.lemmas.Result.{IfOk-from_err}
 use Rattle.cip_tree.proofs.walks.Walk.enter.Goals as goal
 
 pub returns-in_err-places-clause-walked : goal.returns-in_err-places-clause-walked
@@ -60,7 +61,15 @@ returns-clause-entered c = λ ids slot w f.
     subst (λ r. IfOk c.narrow_by.result (IsEntered (region_of c.narrow_by.new.domain) r)) (ap (λ r. narrowed r (noted c.args.notes.now)) now ∙ sym (after_notes root c.args.notes.now changes)) (c.narrow_by.ensures.narrowed plain)
 
 pub invariant_of-self : goal.invariant_of-self
-invariant_of-self c = grind (arith, common_steps)
+invariant_of-self c = (c.self.invariant.0, held_longer _ _ _ c.self.invariant.1 c.narrow_by.ensures.marks)
 
 pub climb-requires-clause-slot : goal.climb-requires-clause-slot
 climb-requires-clause-slot c = grind (arith, common_steps)
+
+pub returns-in_err-descend-clause-entered : goal.returns-in_err-descend-clause-entered
+returns-in_err-descend-clause-entered c = λ ids slot w f.
+    IfOk-from_err c.from_residual-in_err-descend.result _ c.from_residual-in_err-descend.ensures.0
+
+pub returns-in_err-places-clause-entered : goal.returns-in_err-places-clause-entered
+returns-in_err-places-clause-entered c = λ ids slot w f.
+    IfOk-from_err c.from_residual.result _ c.from_residual.ensures.0

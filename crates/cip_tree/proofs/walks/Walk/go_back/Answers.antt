@@ -28,3 +28,9 @@ returns-in-Some c = λ root slots ids place w e.
 
 pub returns-in_default : goal.returns-in_default
 returns-in_default c = grind (arith, common_steps)
+
+pub undo_to-requires : goal.undo_to-requires
+undo_to-requires c =
+    let last : last_stop c.self.inside.stops.items ≡ Some c.in-Some.stop = ap (λ (w : Way). last_stop w.stops)
+    c.self.view_is ∙ sym c.last.ensures ∙ c.in-Some.is in
+    record { held = held_at_last c.self.inside.domain c.self.inside.stops.items c.in-Some.stop c.self.invariant.1 last }

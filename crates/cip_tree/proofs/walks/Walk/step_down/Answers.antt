@@ -1,13 +1,11 @@
-use Rattle.std.proofs.Common.{◌≡◌, ◌∙◌, ◌∷◌, true, false, length, ap, refl, sym, subst, arith}
-use Rattle.std.specs.Prelude.{◌≤◌}
-use Rattle.std.proofs.lemmas.List.Elements.{All-push}
+use Rattle.std.proofs.Common.{◌≡◌, ◌∙◌, ◌∷◌, true, false, ap, refl, sym, subst, arith}
 use Rattle.cip_domain.specs.Domain.{region_of}
 use Rattle.cip_domain.specs.Narrowing.{ArePlainPast}
 use Rattle.cip_tree.specs.Origins.{filled}
 use Rattle.cip_tree.specs.Notes.{noted}
 use Rattle.cip_tree.specs.declared.walks.Stop.{Stop}
-use Rattle.cip_tree.specs.Walks.{Way, StandsAt, AreNarrowed}
-use Rattle.cip_tree.proofs.Walking.{rising_longer, descent_failed, descent_empty, descent_taken, mark_here}
+use Rattle.cip_tree.specs.Walks.{Way, AreRising, AreHeld, StandsAt, AreNarrowed}
+use Rattle.cip_tree.proofs.Walking.{held_longer, way_longer, descent_failed, descent_empty, descent_taken, mark_here}
 use Rattle.cip_tree.proofs.walks.Walk.step_down.Goals as goal
 
 pub returns-in_default : goal.returns-in_default
@@ -67,20 +65,16 @@ invariant_of-self-then-not-branch c = (
 )
 
 pub invariant_of-self-in_err-push : goal.invariant_of-self-in_err-push
-invariant_of-self-in_err-push c = rw (c.in_err-push.ensures.items) (
-  c.self.invariant.0,
-  λ k d l. omega
-      (arith, c.self.invariant.1 k d l, c.narrow_more.ensures.marks.grows),
-)
+invariant_of-self-in_err-push c =
+    subst (λ l. AreRising l × AreHeld c.narrow_more.new.domain l) (sym c.in_err-push.ensures.items) (
+      c.self.invariant.0,
+      held_longer c.self.inside.domain c.narrow_more.new.domain c.self.inside.stops.items
+          c.self.invariant.1 c.narrow_more.ensures.marks,
+    )
 
 pub invariant_of-self-2 : goal.invariant_of-self-2
 invariant_of-self-2 c =
     let last : Stop = record { number = c.in-Some.below.number; mark = c.mark-mark.result } in
-    let stops = c.self.inside.stops.items in
-    rw (c.in_ok-push.ensures.items) (
-      rising_longer stops last c.self.invariant.0
-          (λ k d l. omega (arith, c.self.invariant.1 k d l, c.narrow_more.ensures.marks.grows, c.mark-mark.ensures)),
-      All-push (λ (stop : Stop). stop.mark ≤ length c.narrow_more.new.domain.before) stops last
-          (λ k d l. omega (arith, c.self.invariant.1 k d l, c.narrow_more.ensures.marks.grows)) (omega
-          (arith, c.mark-mark.ensures)),
-    )
+    subst (λ l. AreRising l × AreHeld c.narrow_more.new.domain l) (sym c.in_ok-push.ensures.items)
+    (way_longer c.self.inside.domain c.narrow_more.new.domain c.self.inside.stops.items last c.self.invariant.0
+    c.self.invariant.1 c.narrow_more.ensures.marks c.mark-mark.ensures)
