@@ -1,5 +1,5 @@
 use Rattle.std.proofs.lemmas.Grind.{common_steps}
-use Rattle.std.proofs.Common.{ap, subst, sym, arith}
+use Rattle.std.proofs.Common.{◌<◌, ap, subst, sym, arith}
 use Rattle.cip_problem.specs.Log.{Split}
 use Rattle.cip_calls.specs.CoreStates.{CoreState}
 use Rattle.cip_calls.specs.Steps.{HasLeft}
