@@ -56,16 +56,3 @@ module _ (program : Program) (place column : ℕ) (form : Form) (row : Row) (ter
   }
 
 pub ruleset finding = (source_implied)
-
--- ---- the step
-
-pub still_substitute : (program changed : Program) (place column : ℕ) (form : Form) (sides : Sides) → IsSubstitute program column form → changed ≡ with_sides program place sides → IsSubstitute changed column form
-still_substitute program changed place column form sides s k = subst (λ p. IsSubstitute p column form) (sym k) (record {
-  inside = subst (λ n. column < n) (sym (columns_same program.bounds place sides)) s.inside;
-  source = subst (λ n. form.source < n) (sym (columns_same program.bounds place sides)) s.source;
-  apart = s.apart;
-  plain = s.plain;
-  source_plain = s.source_plain;
-})
-
-pub ruleset taking = (exact_self, taken_by, still_substitute)

@@ -9,10 +9,11 @@ use crate::drafts::Draft;
 use crate::fixed_columns::less;
 use crate::forms::ColumnForm;
 use crate::replacing::replaced;
-use crate::rules::{Outcome, is_far};
+use crate::rules::{ColumnSides, Outcome};
 use crate::single_rows::single_sides;
+use crate::taking::take_stronger;
 use cip_frac::Frac;
-use cip_lin::{Row, Sides, Term};
+use cip_lin::Sides;
 use std::alloc::{AllocError, Global};
 
 /// Puts the form of a column in its place in a row, where another row gives the form: whether it did. Nothing is done
@@ -75,7 +76,6 @@ pub fn move_cost(draft: &mut Draft, place: usize, column: u32, form: &ColumnForm
 /// range.
 #[tactic(auto, using(crate::proofs::SourceSides::finding))]
 fn source_sides(
-    alloc: Global,
     draft: &Draft,
     place: usize,
     column: u32,
@@ -96,14 +96,8 @@ fn source_sides(
     let Some(high) = less(own.high, form.constant) else {
         return None;
     };
-    let term = Term {
-        col: form.source,
-        coef: form.factor,
-    };
-    let row = Row::empty(alloc, low, high);
-    let found = single_sides(&row, term, draft.is_whole(form.source));
-    drop(row);
-    let Some(implied) = found else {
+    let whole = draft.is_whole(form.source);
+    let Some(implied) = single_sides(form.factor, low, high, whole) else {
         return None;
     };
     Some(draft.bounds().sides(form.source).met(implied))
@@ -112,9 +106,8 @@ fn source_sides(
 /// Takes the sides of a form's source by which the column keeps its own, where a row gives the form, and they are
 /// stronger than the source's and, for a whole source, not of a size above 2^100; `NoPoint` where the low side passes
 /// the high one.
-#[tactic(auto, using(crate::proofs::SourceSides::taking))]
+#[tactic(auto, using(crate::proofs::SourceSides::finding))]
 pub fn take_sides(
-    alloc: Global,
     draft: &mut Draft,
     place: usize,
     column: u32,
@@ -126,20 +119,15 @@ pub fn take_sides(
     ensures step { IsExactStep draft.old draft.new }
     ensures end { EndsRightly draft.new result }
     ensures rows { draft.new.rows ≡ draft.old.rows }
-    ensures substitute { IsSubstitute draft.new column form.now }
 {
-    let Some(sides) = source_sides(alloc, draft, place, column, form) else {
+    let Some(sides) = source_sides(draft, place, column, form) else {
         return Outcome::Kept;
     };
-    if sides.cross() {
-        return Outcome::NoPoint;
-    }
-    if draft.is_whole(form.source) && is_far(sides) {
-        return Outcome::Kept;
-    }
-    if draft.bounds().sides(form.source).is_inside(sides) {
-        return Outcome::Kept;
-    }
-    draft.set_sides(form.source, sides);
-    Outcome::Tightened(form.source)
+    take_stronger(
+        draft,
+        ColumnSides {
+            column: form.source,
+            sides,
+        },
+    )
 }

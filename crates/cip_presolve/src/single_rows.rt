@@ -3,7 +3,7 @@ ghost use Rattle.std.specs.Prelude.{◌≡◌, true, IfSome};
 ghost use Rattle.cip_rational.specs.Rational.{zeroℚ};
 ghost use Rattle.cip_search.specs.Aggregate.{quotient_of};
 ghost use Rattle.cip_search.specs.RowSteps.{divided_sides};
-ghost use Rattle.cip_presolve.specs.SingleRows.{HasOneTerm, inward_if, single_sides};
+ghost use Rattle.cip_presolve.specs.SingleRows.{HasOneTerm, inward_if};
 
 use cip_lin::{Frac, Row, Sides, Term};
 
@@ -67,13 +67,18 @@ pub fn one_term(row: &Row) -> Option<Term>
     }
 }
 
-/// The sides that a row of one term leaves its column, rounded inward where that is whole; `None` where a number isn't
-/// in range.
-pub fn single_sides(row: &Row, term: Term, whole: bool) -> Option<Sides>
-    requires { ¬ (term.coefficient ≡ zeroℚ) }
-    ensures { IfSome result (λ sides. sides ≡ single_sides whole row.now term) }
+/// The sides of a value whose product with a number other than 0 lies between two sides, rounded inward where the value
+/// is whole; `None` where a number isn't in range.
+pub fn single_sides(
+    coef: Frac,
+    low: Option<Frac>,
+    high: Option<Frac>,
+    whole: bool,
+) -> Option<Sides>
+    requires { ¬ (coef ≡ zeroℚ) }
+    ensures { IfSome result (λ sides. sides ≡ inward_if whole (divided_sides coef low high)) }
 {
-    let sides = match divided(term.coef, row.low(), row.high()) {
+    let sides = match divided(coef, low, high) {
         Some(sides) => sides,
         None => return None,
     };

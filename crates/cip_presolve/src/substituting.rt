@@ -93,7 +93,7 @@ fn substitute(
     if move_cost(draft, place, found.column, &found.form) {
         work.count_step();
     }
-    match take_sides(alloc, draft, place, found.column, &found.form) {
+    match take_sides(draft, place, found.column, &found.form) {
         Outcome::NoPoint => Ok(RoundEnd::NoPoint {
             place: Place::Row(found.row),
         }),

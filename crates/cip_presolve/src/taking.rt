@@ -8,7 +8,7 @@ use crate::drafts::Draft;
 use crate::rests::{difference, rests, term_at};
 use crate::rules::{ColumnSides, Outcome, is_far};
 use crate::single_rows::single_sides;
-use cip_lin::{Row, Sides};
+use cip_lin::Sides;
 use std::alloc::{AllocError, Global};
 
 /// The whole column of the term of a row at a place, and its sides met with those that the row implies; `None` where it
@@ -37,13 +37,36 @@ fn implied(
     let others = rests(alloc, row, at, draft.bounds(), extent, anew)?;
     let low = difference(row.low(), others.high);
     let high = difference(row.high(), others.low);
-    let Some(implied) = single_sides(&Row::empty(alloc, low, high), term, true) else {
+    let Some(implied) = single_sides(term.coef, low, high, true) else {
         return Ok(None);
     };
     Ok(Some(ColumnSides {
         column: term.col,
         sides: draft.bounds().sides(term.col).met(implied),
     }))
+}
+
+/// Takes sides that a column may take, where they are stronger than its own and, for a whole column, not of a size above
+/// 2^100; `NoPoint` where the low side passes the high one.
+#[tactic(auto, using(crate::proofs::ImpliedSides::taking))]
+pub(crate) fn take_stronger(draft: &mut Draft, found: ColumnSides) -> Outcome
+    requires { IsImplied draft.old found.column found.sides }
+    ensures step { IsExactStep draft.old draft.new }
+    ensures end { EndsRightly draft.new result }
+    ensures rows { draft.new.rows ≡ draft.old.rows }
+    ensures columns { length draft.new.bounds ≡ length draft.old.bounds }
+{
+    if found.sides.cross() {
+        return Outcome::NoPoint;
+    }
+    if draft.is_whole(found.column) && is_far(found.sides) {
+        return Outcome::Kept;
+    }
+    if draft.bounds().sides(found.column).is_inside(found.sides) {
+        return Outcome::Kept;
+    }
+    draft.set_sides(found.column, found.sides);
+    Outcome::Tightened(found.column)
 }
 
 /// Takes the sides that a row implies for the column of its term at a place, where it is whole and they are stronger
@@ -66,18 +89,9 @@ pub fn try_implied(
     ensures rows { draft.new.rows ≡ draft.old.rows }
     ensures columns { length draft.new.bounds ≡ length draft.old.bounds }
 {
-    let Some(found) = implied(alloc, draft, number, at, extent, anew)? else {
-        return Ok(Outcome::Kept);
-    };
-    if found.sides.cross() {
-        return Ok(Outcome::NoPoint);
+    match implied(alloc, draft, number, at, extent, anew) {
+        Ok(Some(found)) => Ok(take_stronger(draft, found)),
+        Ok(None) => Ok(Outcome::Kept),
+        Err(error) => Err(error),
     }
-    if is_far(found.sides) {
-        return Ok(Outcome::Kept);
-    }
-    if draft.bounds().sides(found.column).is_inside(found.sides) {
-        return Ok(Outcome::Kept);
-    }
-    draft.set_sides(found.column, found.sides);
-    Ok(Outcome::Tightened(found.column))
 }

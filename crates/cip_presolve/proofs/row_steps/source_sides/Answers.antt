@@ -1,5 +1,5 @@
 use Rattle.std.proofs.lemmas.Grind.{common_steps}
-use Rattle.std.proofs.Common.{◌≡◌, List, Some, slice_get, sym, ap, ◌∙◌, subst, true≢false, ◌<◌, length, arith}
+use Rattle.std.proofs.Common.{◌≡◌, List, [], Some, slice_get, sym, ap, ◌∙◌, subst, true≢false, ◌<◌, length, arith}
 use Rattle.cip_problem.specs.Program.{Term, Sides, Row}
 use Rattle.cip_problem.specs.Box.{sides_at}
 use Rattle.cip_problem.specs.Choices.{met}
@@ -16,20 +16,21 @@ returns c =
     let source : c.form.inside.source ≡ c.args.form.now.source = ap (λ (f : Form). f.source) c.form.view_is in
     let term : Term = record { column = c.form.inside.source; coefficient = c.form.inside.factor } in
     let own : c.sides-own.result ≡ sides_at c.args.draft.now.bounds c.args.column = c.sides-own.ensures ∙ ap (λ (box : List Sides). sides_at box c.args.column) c.bounds.ensures.bounds in
-    let low : c.empty-row.result.low ≡ side_less (sides_at c.args.draft.now.bounds c.args.column).low c.args.form.now.constant =
-    ap (λ (r : Row). r.low) c.empty-row.ensures ∙ c.in-Some.ensures ∙ ap (λ (s : Sides). side_less s.low c.form.inside.constant) (c.own.view_is ∙ own) ∙ ap (λ q. side_less (sides_at c.args.draft.now.bounds c.args.column).low q) constant in
-    let high : c.empty-row.result.high ≡ side_less (sides_at c.args.draft.now.bounds c.args.column).high c.args.form.now.constant =
-    ap (λ (r : Row). r.high) c.empty-row.ensures ∙ c.in-Some-less.ensures ∙ ap (λ (s : Sides). side_less s.high c.form.inside.constant) (c.own.view_is ∙ own) ∙ ap (λ q. side_less (sides_at c.args.draft.now.bounds c.args.column).high q) constant in
-    let whole : slice_get c.args.draft.now.integral c.args.form.now.source ≡ Some c.is_whole.result = subst (λ n. slice_get c.args.draft.now.integral n ≡ Some c.is_whole.result) source c.is_whole.ensures in
+    let row : Row = record { terms = []; low = c.in-Some.low; high = c.in-Some-less.high } in
+    let low : c.in-Some.low ≡ side_less (sides_at c.args.draft.now.bounds c.args.column).low c.args.form.now.constant =
+    c.in-Some.ensures ∙ ap (λ (s : Sides). side_less s.low c.form.inside.constant) (c.own.view_is ∙ own) ∙ ap (λ q. side_less (sides_at c.args.draft.now.bounds c.args.column).low q) constant in
+    let high : c.in-Some-less.high ≡ side_less (sides_at c.args.draft.now.bounds c.args.column).high c.args.form.now.constant =
+    c.in-Some-less.ensures ∙ ap (λ (s : Sides). side_less s.high c.form.inside.constant) (c.own.view_is ∙ own) ∙ ap (λ q. side_less (sides_at c.args.draft.now.bounds c.args.column).high q) constant in
+    let whole : slice_get c.args.draft.now.integral c.args.form.now.source ≡ Some c.is_whole-whole.result = subst (λ n. slice_get c.args.draft.now.integral n ≡ Some c.is_whole-whole.result) source c.is_whole-whole.ensures in
     let other : c.sides.result ≡ sides_at c.args.draft.now.bounds c.args.form.now.source =
     c.sides.ensures ∙ ap (λ (box : List Sides). sides_at box c.form.inside.source) c.bounds-2.ensures.bounds ∙ ap (λ n. sides_at c.args.draft.now.bounds n) source in
-    let are : c.met.result ≡ met (sides_at c.args.draft.now.bounds c.args.form.now.source) (single_sides c.is_whole.result c.empty-row.result term) =
-    c.met.ensures ∙ ap (λ s. met s c.in-Some-found.implied) other ∙ ap (λ s. met (sides_at c.args.draft.now.bounds c.args.form.now.source) s) c.in-Some-found.ensures in
-    source_implied c.args.draft.now c.args.place c.args.column c.args.form.now c.empty-row.result term c.is_whole.result c.met.result c.requires.there c.requires.gives c.requires.substitute
+    let are : c.met.result ≡ met (sides_at c.args.draft.now.bounds c.args.form.now.source) (single_sides c.is_whole-whole.result row term) =
+    c.met.ensures ∙ ap (λ s. met s c.in-Some-single_sides.implied) other ∙ ap (λ s. met (sides_at c.args.draft.now.bounds c.args.form.now.source) s) c.in-Some-single_sides.ensures in
+    source_implied c.args.draft.now c.args.place c.args.column c.args.form.now row term c.is_whole-whole.result c.met.result c.requires.there c.requires.gives c.requires.substitute
     (λ e. true≢false (sym (c.is_zero.ensures.1 (factor ∙ e)) ∙ c.if-is_zero.false)) low high source factor whole are
 
-pub is_whole-requires : goal.is_whole-requires
-is_whole-requires c =
+pub is_whole-whole-requires : goal.is_whole-whole-requires
+is_whole-whole-requires c =
     subst (λ n. n < length c.args.draft.now.bounds) (sym (ap (λ (f : Form). f.source) c.form.view_is)) c.requires.substitute.source
 
 pub sides-requires : goal.sides-requires
@@ -40,5 +41,5 @@ sides-requires c =
 pub sides-own-requires : goal.sides-own-requires
 sides-own-requires c = grind (arith, common_steps)
 
-pub single_sides-found-requires : goal.single_sides-found-requires
-single_sides-found-requires c = grind (arith, common_steps)
+pub single_sides-requires : goal.single_sides-requires
+single_sides-requires c = grind (arith, common_steps)

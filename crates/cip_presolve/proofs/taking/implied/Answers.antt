@@ -1,9 +1,11 @@
 use Rattle.std.proofs.lemmas.Grind.{common_steps}
-use Rattle.std.proofs.Common.{◌≡◌, true, false, List, Some, IfSome, slice_get, length, ap, sym, ◌∙◌, subst, ◌<◌, arith}
+use Rattle.std.proofs.Common.{◌≡◌, true, false, List, [], refl, Some, IfSome, slice_get, length, ap, sym, ◌∙◌, subst, ◌<◌, arith}
 use Rattle.cip_problem.specs.Program.{Term, Sides}
 use Rattle.cip_problem.specs.Box.{sides_at}
 use Rattle.cip_problem.specs.Choices.{met, choice_at, is_open}
 use Rattle.cip_presolve.specs.Rests.{IsDifference, AreRests}
+use Rattle.cip_search.specs.RowSteps.{divided_sides}
+use Rattle.cip_presolve.specs.SingleRows.{inward_if}
 use Rattle.cip_presolve.specs.Taken.{IsImplied}
 use Rattle.cip_presolve.proofs.ImpliedSides.{implied_all, found_by, term_inside, Implies}
 use Rattle.cip_problem.specs.Activity.{StandsBelow}
@@ -21,15 +23,17 @@ returns c =
     let high_side : c.others.inside.high ≡ c.in_ok-others.others.high = ap (λ (s : Sides). s.high) c.others.view_is in
     let low : IfSome c.difference-low.result (IsDifference c.row-row.result.now.low c.in_ok-others.others.high) = subst (λ o. IfSome c.difference-low.result (IsDifference c.row-row.result.now.low o)) high_side (rw (← c.low.ensures) c.difference-low.ensures) in
     let high : IfSome c.difference-high.result (IsDifference c.row-row.result.now.high c.in_ok-others.others.low) = subst (λ o. IfSome c.difference-high.result (IsDifference c.row-row.result.now.high o)) low_side (rw (← c.high.ensures) c.difference-high.ensures) in
+    let coefficient : c.term.inside.coef ≡ c.term_at-term.result.coefficient = ap (λ (t : Term). t.coefficient) c.term.view_is in
+    let single : IfSome c.single_sides.result (λ sides. sides ≡ inward_if true (divided_sides c.term_at-term.result.coefficient c.difference-low.result c.difference-high.result)) =
+    subst (λ q. IfSome c.single_sides.result (λ sides. sides ≡ inward_if true (divided_sides q c.difference-low.result c.difference-high.result))) coefficient c.single_sides.ensures in
     let each : (box : List Sides) → AreRests box c.row-row.result.now.terms c.args.at c.in_ok-others.others → Implies box c.row-row.result.now c.args.at true c.in-Some.implied =
-    rw c.in-Some.is at (implied_all c.row-row.result.now c.empty.result c.args.at true c.in_ok-others.others c.difference-low.result c.difference-high.result c.term_at-term.result c.single_sides-2.result
-    c.term_at-term.ensures.term c.term_at-term.ensures.nonzero low high c.empty.ensures c.single_sides-2.ensures) in
+    rw c.in-Some.is at (implied_all c.row-row.result.now (record { terms = []; low = c.difference-low.result; high = c.difference-high.result }) c.args.at true c.in_ok-others.others c.difference-low.result c.difference-high.result c.term_at-term.result c.single_sides.result
+    c.term_at-term.ensures.term c.term_at-term.ensures.nonzero low high refl single) in
     let read : Implies c.bounds.result.now c.row-row.result.now c.args.at true c.in-Some.implied = each c.bounds.result.now c.in_ok-others.ensures in
     let implies : Implies c.args.draft.now.bounds c.row-row.result.now c.args.at true c.in-Some.implied = subst (λ (box : List Sides). Implies box c.row-row.result.now c.args.at true c.in-Some.implied) c.bounds.ensures.bounds read in
-    let column_2 : c.term-2.inside.col ≡ c.term_at-term.result.column = ap (λ (t : Term). t.column) c.term-2.view_is in
     let own : c.sides.result ≡ sides_at c.args.draft.now.bounds c.term_at-term.result.column =
-    c.sides.ensures ∙ ap (λ (box : List Sides). sides_at box c.term-2.inside.col) c.bounds-2.ensures.bounds ∙ ap (λ n. sides_at c.args.draft.now.bounds n) column_2 in
-    subst (λ n. IsImplied c.args.draft.now n c.met.result) (sym column_2)
+    c.sides.ensures ∙ ap (λ (box : List Sides). sides_at box c.term.inside.col) c.bounds-2.ensures.bounds ∙ ap (λ n. sides_at c.args.draft.now.bounds n) column in
+    subst (λ n. IsImplied c.args.draft.now n c.met.result) (sym column)
     (found_by c.args.draft.now c.args.number c.args.at c.row-row.result.now c.term_at-term.result c.in-Some.implied c.met.result c.row-row.ensures.row c.term_at-term.ensures.term
     (term_inside (length c.args.draft.now.bounds) c.row-row.result.now.terms c.args.at c.term_at-term.result c.row-row.ensures.stands c.term_at-term.ensures.term)
     plain whole implies (c.met.ensures ∙ ap (λ s. met s c.in-Some.implied) own))
@@ -45,8 +49,8 @@ pub sides-requires : goal.sides-requires
 sides-requires c =
     let inside : c.term_at-term.result.column < length c.args.draft.now.bounds =
     term_inside (length c.args.draft.now.bounds) c.row-row.result.now.terms c.args.at c.term_at-term.result c.row-row.ensures.stands c.term_at-term.ensures.term in
-    let own : c.term-2.inside.col < length c.args.draft.now.bounds = subst (λ n. n < length c.args.draft.now.bounds) (sym (ap (λ (t : Term). t.column) c.term-2.view_is)) inside in
-    subst (λ (box : List Sides). c.term-2.inside.col < length box) (sym c.bounds-2.ensures.bounds) own
+    let own : c.term.inside.col < length c.args.draft.now.bounds = subst (λ n. n < length c.args.draft.now.bounds) (sym (ap (λ (t : Term). t.column) c.term.view_is)) inside in
+    subst (λ (box : List Sides). c.term.inside.col < length box) (sym c.bounds-2.ensures.bounds) own
 
 pub rests-requires-clause-stands : goal.rests-requires-clause-stands
 rests-requires-clause-stands c = subst (λ (box : List Sides). StandsBelow (length box) c.row-row.result.now.terms) (sym c.bounds.ensures.bounds) c.row-row.ensures.stands
@@ -66,6 +70,3 @@ row-row-requires c = grind (arith, common_steps)
 
 pub single_sides-requires : goal.single_sides-requires
 single_sides-requires c = grind (arith, common_steps)
-
-pub same-term : goal.same-term
-same-term c = grind (arith, common_steps)
