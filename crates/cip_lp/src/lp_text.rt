@@ -7,7 +7,10 @@ ghost use Rattle.cip_text.specs.PieceFaults.{has_kind_to, first_fault};
 ghost use Rattle.cip_text.specs.PieceStands.{progress_of, outcome_with};
 ghost use Rattle.cip_text_rules.specs.LpOutcome.{lp_reading};
 ghost use Rattle.cip_text_rules.specs.LpBytes as taken;
-ghost use Rattle.cip_text_rules.specs.LpBytes.{part_read, with_last, byte_taken, text_taken};
+ghost use Rattle.cip_text_rules.specs.LineStream.{Going};
+ghost use Rattle.cip_text_rules.specs.LpBytes.{tokens_read, part_read, with_last, byte_taken, text_taken};
+ghost use Rattle.cip_lp.specs.LpLines.{tokens_left};
+ghost use Rattle.cip_lp.specs.LinesRead as read;
 ghost use Rattle.cip_text_rules.specs.LpParts.{ends_with};
 ghost use Rattle.cip_text_rules.specs.LpTakenTexts.{last_line};
 
@@ -52,14 +55,57 @@ fn is_line_feed(byte: u8) -> bool
     byte == b'\n'
 }
 
-/// The fault of a line that has one of this kind, or none.
-fn fault_on(line: usize, kind: Option<u32>) -> Option<KnownFault>
-    ensures { result ≡ first_fault None line kind }
+/// Reads tokens of the line of a number, and answers their first fault, if there is one; then all that tokens have said
+/// is let go.
+fn read_tokens(
+    alloc: Global,
+    lines: &mut LineReader,
+    tokens: LineTokens<'_>,
+    number: usize,
+) -> Result<Option<KnownFault>, AllocError>
+    ensures read { IfOk result (λ fault. progress_of fault (read.stage_of lines.new)
+        ≡ tokens_read number (Going (read.stage_of lines.old)) (tokens_left tokens.entry)) }
+    ensures kinds { IfOk result (λ fault. has_kind_to 12 fault ≡ true) }
 {
-    match kind {
-        None => None,
-        Some(kind) => Some(KnownFault { line, kind }),
+    match lines.take_tokens(tokens) {
+        Ok(Some(kind)) => {
+            drop(mem::replace(lines, LineReader::new(alloc)));
+            Ok(Some(KnownFault { line: number, kind }))
+        }
+        Ok(None) => Ok(None),
+        Err(error) => Err(error),
     }
+}
+
+/// Whether bytes begin a comment.
+fn in_comment(bytes: &[u8]) -> bool
+    ensures { result ≡ taken.in_comment bytes.now }
+{
+    match bytes {
+        [b'\\', ..] => true,
+        _ => false,
+    }
+}
+
+/// Whether a token has ended behind bytes, where this byte follows.
+fn ends_with(bytes: &[u8], byte: u8) -> bool
+    ensures { result ≡ ends_with bytes.now byte }
+{
+    match bytes.last() {
+        Some(last) => ends_before(*last, byte),
+        None => false,
+    }
+}
+
+/// Keeps the first byte too many, where it is one of the line.
+fn keep_last(rest: &mut Vec<u8>, byte: u8) -> Result<(), AllocError>
+    ensures { OnOk result (rest.new.items ≡ with_last rest.old.items byte) }
+{
+    if is_line_feed(byte) {
+        return Ok(());
+    }
+    rest.push(byte)?;
+    Ok(())
 }
 
 impl LpText {
@@ -67,18 +113,6 @@ impl LpText {
     ghost use Rattle.cip_text_rules.specs.LpOutcome.{HasLpProgram};
     ghost use Rattle.cip_lp.specs.LpReaders.{IsFaultOf};
     ghost use Rattle.cip_lp.specs.LpTexts.{stage_of, bytes_of, shown_of};
-
-    /// Lets go of what the tokens have said, where there is a fault.
-    fn let_go(&mut self)
-        ensures read { progress_of self.new.fault (stage_of self.new) ≡ progress_of self.old.fault (stage_of self.old) }
-        ensures rest { self.new.rest ≡ self.old.rest }
-        ensures ended { self.new.ended ≡ self.old.ended }
-        ensures size { self.new.size ≡ self.old.size }
-    {
-        if self.fault.is_some() {
-            drop(mem::replace(&mut self.lines, LineReader::new(self.alloc)));
-        }
-    }
 
     /// Reads the tokens of the bytes that are kept, and keeps none.
     fn read_rest(&mut self) -> Result<(), AllocError>
@@ -89,38 +123,20 @@ impl LpText {
         ensures size { self.new.size ≡ self.old.size }
     {
         let tokens = LineTokens::of(self.front, self.rest.as_slice());
-        let kind = self.lines.take_tokens(tokens)?;
-        self.fault = fault_on(self.ended + 1, kind);
+        let Ok(fault) = read_tokens(self.alloc, &mut self.lines, tokens, self.ended + 1) else {
+            return Err(AllocError);
+        };
+        self.fault = fault;
         self.rest.clear();
-        self.let_go();
         Ok(())
-    }
-
-    /// Whether the bytes that are kept begin a comment.
-    fn in_comment(&self) -> bool
-        ensures { result ≡ taken.in_comment self.now.rest.items }
-    {
-        match self.rest.as_slice() {
-            [b'\\', ..] => true,
-            _ => false,
-        }
-    }
-
-    /// Whether a token has ended behind the bytes that are kept, where this byte follows.
-    fn ends_with(&self, byte: u8) -> bool
-        ensures { result ≡ ends_with self.now.rest.items byte }
-    {
-        match self.rest.as_slice().last() {
-            Some(last) => ends_before(*last, byte),
-            None => false,
-        }
     }
 
     /// Whether the tokens of the bytes that are kept have ended where this byte follows.
     fn is_cut(&self, byte: u8) -> bool
         ensures { result ≡ taken.is_cut (bytes_of self.now) byte }
     {
-        byte == b'\\' || (self.ends_with(byte) && !(self.front && hangs(self.rest.as_slice())))
+        let rest = self.rest.as_slice();
+        byte == b'\\' || (ends_with(rest, byte) && !(self.front && hangs(rest)))
     }
 
     /// Takes a byte of the line.
@@ -130,35 +146,25 @@ impl LpText {
         requires other { text.is_line_feed byte ≡ false }
         ensures { OnOk result (shown_of self.new ≡ byte_taken (shown_of self.old) byte) }
     {
-        if self.in_comment() {
+        if in_comment(self.rest.as_slice()) {
             self.size += 1;
             return Ok(());
         }
         if self.is_cut(byte) {
-            self.read_rest()?;
+            let Ok(()) = self.read_rest() else {
+                return Err(AllocError);
+            };
             self.front = false;
             self.size += 1;
-            self.rest.push(byte)?;
+            let Ok(()) = self.rest.push(byte) else {
+                return Err(AllocError);
+            };
             return Ok(());
         }
         self.size += 1;
-        self.rest.push(byte)?;
-        Ok(())
-    }
-
-    /// Keeps the first byte too many, where it is one of the line.
-    fn keep_last(&mut self, byte: u8) -> Result<(), AllocError>
-        ensures rest { OnOk result (self.new.rest.items ≡ with_last self.old.rest.items byte) }
-        ensures lines { stage_of self.new ≡ stage_of self.old }
-        ensures ended { self.new.ended ≡ self.old.ended }
-        ensures front { self.new.front ≡ self.old.front }
-        ensures size { self.new.size ≡ self.old.size }
-        ensures fault { self.new.fault ≡ self.old.fault }
-    {
-        if is_line_feed(byte) {
-            return Ok(());
-        }
-        self.rest.push(byte)?;
+        let Ok(()) = self.rest.push(byte) else {
+            return Err(AllocError);
+        };
         Ok(())
     }
 
@@ -168,12 +174,19 @@ impl LpText {
         requires full { longest_text ≤ self.old.size }
         ensures { OnOk result (shown_of self.new ≡ byte_taken (shown_of self.old) byte) }
     {
-        self.keep_last(byte)?;
-        self.read_rest()?;
+        let Ok(()) = keep_last(&mut self.rest, byte) else {
+            return Err(AllocError);
+        };
+        let Ok(()) = self.read_rest() else {
+            return Err(AllocError);
+        };
         if self.fault.is_some() {
             return Ok(());
         }
-        self.fault = fault_on(self.ended + 1, Some(TOO_LONG));
+        self.fault = Some(KnownFault {
+            line: self.ended + 1,
+            kind: TOO_LONG,
+        });
         Ok(())
     }
 
@@ -220,7 +233,10 @@ impl LpText {
         if self.fault.is_some() || self.lines.ended {
             return self.fault;
         }
-        fault_on(last + 1, Some(NO_END))
+        Some(KnownFault {
+            line: last + 1,
+            kind: NO_END,
+        })
     }
 
     /// The fault of the text that ends here, if it has one.

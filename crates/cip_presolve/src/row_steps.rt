@@ -75,12 +75,7 @@ pub fn move_cost(draft: &mut Draft, place: usize, column: u32, form: &ColumnForm
 /// The sides of a form's source, met with those by which the column keeps its own; `None` where a number isn't in
 /// range.
 #[tactic(auto, using(crate::proofs::SourceSides::finding))]
-fn source_sides(
-    draft: &Draft,
-    place: usize,
-    column: u32,
-    form: &ColumnForm,
-) -> Option<Sides>
+fn source_sides(draft: &Draft, place: usize, column: u32, form: &ColumnForm) -> Option<Sides>
     requires there { place < length draft.now.rows }
     requires gives { RowGives draft.now place column form.now }
     requires substitute { IsSubstitute draft.now column form.now }
@@ -107,12 +102,7 @@ fn source_sides(
 /// stronger than the source's and, for a whole source, not of a size above 2^100; `NoPoint` where the low side passes
 /// the high one.
 #[tactic(auto, using(crate::proofs::SourceSides::finding))]
-pub fn take_sides(
-    draft: &mut Draft,
-    place: usize,
-    column: u32,
-    form: &ColumnForm,
-) -> Outcome
+pub fn take_sides(draft: &mut Draft, place: usize, column: u32, form: &ColumnForm) -> Outcome
     requires there { place < length draft.old.rows }
     requires gives { RowGives draft.old place column form.now }
     requires substitute { IsSubstitute draft.old column form.now }

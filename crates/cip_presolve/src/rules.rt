@@ -93,12 +93,8 @@ impl Draft {
         if self.is_semi(term.col) {
             return None;
         }
-        let Some(single) = single_sides(
-            term.coef,
-            row.low(),
-            row.high(),
-            self.is_whole(term.col),
-        ) else {
+        let Some(single) = single_sides(term.coef, row.low(), row.high(), self.is_whole(term.col))
+        else {
             return None;
         };
         Some(ColumnSides {

@@ -69,12 +69,7 @@ pub fn one_term(row: &Row) -> Option<Term>
 
 /// The sides of a value whose product with a number other than 0 lies between two sides, rounded inward where the value
 /// is whole; `None` where a number isn't in range.
-pub fn single_sides(
-    coef: Frac,
-    low: Option<Frac>,
-    high: Option<Frac>,
-    whole: bool,
-) -> Option<Sides>
+pub fn single_sides(coef: Frac, low: Option<Frac>, high: Option<Frac>, whole: bool) -> Option<Sides>
     requires { ¬ (coef ≡ zeroℚ) }
     ensures { IfSome result (λ sides. sides ≡ inward_if whole (divided_sides coef low high)) }
 {

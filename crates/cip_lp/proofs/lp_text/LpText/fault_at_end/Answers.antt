@@ -2,8 +2,8 @@ use Rattle.std.proofs.lemmas.Grind.{common_steps}
 use Rattle.std.proofs.Common.{arith}
 use Rattle.cip_lp.proofs.lp_text.LpText.fault_at_end.Goals as goal
 
-pub overflow_add-last : goal.overflow_add-last
-overflow_add-last c = grind (arith, common_steps)
+pub overflow_add-result : goal.overflow_add-result
+overflow_add-result c = grind (arith, common_steps)
 
 pub returns-clause-fault : goal.returns-clause-fault
 returns-clause-fault c = grind (arith, common_steps)

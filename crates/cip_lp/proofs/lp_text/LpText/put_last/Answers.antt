@@ -3,7 +3,7 @@ use Rattle.std.proofs.Common.{ℕ, ◌+◌, sym, ap, ◌∙◌, arith}
 use Rattle.cip_text.specs.PieceStands.{progress_of}
 use Rattle.cip_text_rules.specs.LineStream.{Going}
 use Rattle.cip_text_rules.specs.LpTokens.{tokens_from}
-use Rattle.cip_text_rules.specs.LpBytes.{tokens_read, part_read, beyond}
+use Rattle.cip_text_rules.specs.LpBytes.{LpBytes, tokens_read, part_read, beyond}
 use Rattle.cip_lp.specs.LpTexts.{stage_of, bytes_of}
 use Rattle.cip_lp.proofs.ByteSteps.{none_is, taken_last}
 use Rattle.cip_lp.proofs.LpAnswers.{beyond_going, beyond_failed}
@@ -11,23 +11,22 @@ use Rattle.cip_lp.proofs.lp_text.LpText.put_last.Goals as goal
 
 pub returns-then-is_some : goal.returns-then-is_some
 returns-then-is_some c =
-    let kept = c.keep_last.new.self in
+    let now = c.args.self.now in
+    let kept : LpBytes = record (bytes_of now) { rest = c.keep_last.new.rest.items } in
     let then = c.read_rest.new.self in
-    let same = c.keep_last.ensures in
-    let line = ap (λ (n : ℕ). n + 1) (c.read_rest.ensures.ended ∙ same.ended) in
-    beyond_failed (stage_of then) (part_read (bytes_of kept)) (bytes_of then) then.fault (then.ended + 1) (sym c.is_some.ensures ∙ c.if-is_some.true) c.in_ok-read_rest.ensures.read
-    ∙ (λ i. beyond (tokens_read (same.ended i + 1) (Going (same.lines i)) (tokens_from (same.front i) (c.in_ok-keep_last.ensures.rest i))) (line i))
+    let line = ap (λ (n : ℕ). n + 1) c.read_rest.ensures.ended in
+    beyond_failed (stage_of then) (part_read kept) (bytes_of then) then.fault (then.ended + 1) (sym c.is_some.ensures ∙ c.if-is_some.true) c.in-Ok-read_rest.ensures.read
+    ∙ (λ i. beyond (tokens_read (now.ended + 1) (Going (stage_of now)) (tokens_from now.front (c.in-Ok.ensures i))) (line i))
     ∙ taken_last c.args.self.now.fault (bytes_of c.args.self.now) c.args.byte c.requires.going c.requires.full
 
 pub returns : goal.returns
 returns c =
-    let kept = c.keep_last.new.self in
+    let now = c.args.self.now in
+    let kept : LpBytes = record (bytes_of now) { rest = c.keep_last.new.rest.items } in
     let then = c.read_rest.new.self in
-    let same = c.keep_last.ensures in
-    let line = ap (λ (n : ℕ). n + 1) (c.read_rest.ensures.ended ∙ same.ended) in
-    ap (λ g. progress_of g (bytes_of then)) c.fault_on-self.ensures
-    ∙ beyond_going (stage_of then) (part_read (bytes_of kept)) (bytes_of then) then.fault (then.ended + 1) (none_is then.fault (sym c.is_some.ensures ∙ c.if-is_some.false)) c.in_ok-read_rest.ensures.read
-    ∙ (λ i. beyond (tokens_read (same.ended i + 1) (Going (same.lines i)) (tokens_from (same.front i) (c.in_ok-keep_last.ensures.rest i))) (line i))
+    let line = ap (λ (n : ℕ). n + 1) c.read_rest.ensures.ended in
+    beyond_going (stage_of then) (part_read kept) (bytes_of then) then.fault (then.ended + 1) (none_is then.fault (sym c.is_some.ensures ∙ c.if-is_some.false)) c.in-Ok-read_rest.ensures.read
+    ∙ (λ i. beyond (tokens_read (now.ended + 1) (Going (stage_of now)) (tokens_from now.front (c.in-Ok.ensures i))) (line i))
     ∙ taken_last c.args.self.now.fault (bytes_of c.args.self.now) c.args.byte c.requires.going c.requires.full
 
 pub invariant_of-self : goal.invariant_of-self
