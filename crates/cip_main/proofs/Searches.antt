@@ -1,6 +1,6 @@
 -- What a search has answered has its figures told.
 use Rattle.std.specs.Prelude.{◌≡◌, ◌⊎◌, ℕ, ◌+◌, ◌<◌, ◌≤◌, Bool, true, false, List, [], ◌∷◌, ◌++◌, Option, None, refl, if◌then◌else◌}
-use Rattle.std.specs.Prelude.{Result, OnOk, IsOk, is_ok, is_err}
+use Rattle.std.specs.Prelude.{Result, OnOk, is_err}
 use Rattle.std.proofs.Common.{sym, ap, ◌∙◌, subst, arith, inl, inr, Ok, Err}
 use Rattle.cip_events.specs.declared.traces.Trace.{Trace}
 use Rattle.cip_io.specs.Sink.{SinkTells}
@@ -82,9 +82,8 @@ pub room_for : {T E : Type 0} (r : Result T E) (n m : ℕ) → is_err r ≡ fals
 room_for (Ok x) n m e h = omega (arith, h)
 room_for (Err x) n m e h = absurd (cc)
 
-pub pushed_there : {A T E : Type 0} (r : Result T E) (old kept new : List A) (x : A) → kept ≡ old → new ≡ (if is_ok r then kept ++ x ∷ [] else kept) → IsOk r → new ≡ old ++ x ∷ []
-pushed_there (Ok u) old kept new x k n ok = n ∙ ap (λ xs. xs ++ x ∷ []) k
-pushed_there (Err e) old kept new x k n ok = absurd (cc)
+pub pushed_there : {A : Type 0} (old kept new : List A) (x : A) → kept ≡ old → new ≡ kept ++ x ∷ [] → new ≡ old ++ x ∷ []
+pushed_there old kept new x k n = n ∙ ap (λ xs. xs ++ x ∷ []) k
 
 -- a search with the kit that it takes up
 pub searched_less : (program : Program) (limits : Limits) (old new : List Log) (log : Log) (stock less stock_after : Stock) (answer : Answer) → less ≡ kit_of limits stock → new ≡ old ++ log ∷ [] → IsSolvedBy program limits.nodes limits.gap limits.presolved (is_alone limits.plain less) (entries_of log) log.marks.items (answer_of answer) → IsKitAfter (is_alone limits.plain less) limits.trace (entries_of log) less stock_after answer.trace → Searched program limits old new stock stock_after answer

@@ -43,6 +43,27 @@ fn run_with<S: Store, K: Sink>(
 /// Five values, each in a box.
 type Boxes<A, B, C, D, E> = (Box<A>, Box<B>, Box<C>, Box<D>, Box<E>);
 
+/// Puts a value in a box behind what is held. `Err` where nothing is held, or memory was refused.
+fn add<H: Drop, T: Drop>(
+    alloc: Global,
+    held: Result<H, AllocError>,
+    value: T,
+) -> Result<(H, Box<T>), AllocError> {
+    match held {
+        Ok(held) => match Box::new(alloc, value) {
+            Ok(boxed) => Ok((held, boxed)),
+            Err(_) => {
+                drop(held);
+                Err(AllocError)
+            }
+        },
+        Err(error) => {
+            drop(value);
+            Err(error)
+        }
+    }
+}
+
 /// Puts five values in boxes. `Err` where memory was refused.
 fn boxes<A: Drop, B: Drop, C: Drop, D: Drop, E: Drop>(
     alloc: Global,
@@ -52,41 +73,11 @@ fn boxes<A: Drop, B: Drop, C: Drop, D: Drop, E: Drop>(
     fourth: D,
     fifth: E,
 ) -> Result<Boxes<A, B, C, D, E>, AllocError> {
-    let Ok(one) = Box::new(alloc, first) else {
-        drop(second);
-        drop(third);
-        drop(fourth);
-        drop(fifth);
-        return Err(AllocError);
-    };
-    let Ok(two) = Box::new(alloc, second) else {
-        drop(one);
-        drop(third);
-        drop(fourth);
-        drop(fifth);
-        return Err(AllocError);
-    };
-    let Ok(three) = Box::new(alloc, third) else {
-        drop(one);
-        drop(two);
-        drop(fourth);
-        drop(fifth);
-        return Err(AllocError);
-    };
-    let Ok(four) = Box::new(alloc, fourth) else {
-        drop(one);
-        drop(two);
-        drop(three);
-        drop(fifth);
-        return Err(AllocError);
-    };
-    let Ok(five) = Box::new(alloc, fifth) else {
-        drop(one);
-        drop(two);
-        drop(three);
-        drop(four);
-        return Err(AllocError);
-    };
+    let one = add(alloc, Ok(()), first);
+    let two = add(alloc, one, second);
+    let three = add(alloc, two, third);
+    let four = add(alloc, three, fourth);
+    let ((((((), one), two), three), four), five) = add(alloc, four, fifth)?;
     Ok((one, two, three, four, five))
 }
 

@@ -66,7 +66,7 @@ fn search(
     };
     let mut log = Log::new(alloc);
     let answer = solve(alloc, program, &options, kit, &mut log);
-    let _ = logs.push(log);
+    logs.push_reserved(log);
     answer
 }
 
@@ -120,7 +120,9 @@ pub fn solve_and_report<K: Sink>(
         (stock_of ⟦<AnyPlugin as Tells>⟧.who kit.new) result }
 {
     let answer = search(alloc, program, limits, kit, logs);
-    tell(program, &answer, out)
+    let status = tell(program, &answer, out);
+    drop(answer);
+    status
 }
 
 /// Solves a program that is drawn, with the usual limits and without a trace, and writes what is told of it and of what
@@ -149,5 +151,8 @@ pub fn solve_drawn<K: Sink>(
         trace: false,
     };
     let answer = search(alloc, program, &limits, kit, logs);
-    tell_drawn(drawn, program, &answer, out)
+    let status = tell_drawn(drawn, program, &answer, out);
+    drop(answer);
+    drop(limits);
+    status
 }

@@ -22,12 +22,13 @@ solve-answer-requires-clause-near g c = near_columns c.args.program.now c.requir
 pub solve-answer-requires-clause-few : goal.solve-answer-requires-clause-few
 solve-answer-requires-clause-few g c = few_less (limits_of c.args.limits.now) _ _ c.in-Ok.ensures.less c.requires.few
 
+pub push_reserved-requires : goal.push_reserved-requires
+push_reserved-requires g c = room_for c.reserve.result _ _ (sym c.is_err.ensures.value ∙ c.if-is_err.false) c.reserve.ensures.ok
+
 pub returns : goal.returns
 returns g c =
-    let room = room_for c.reserve.result _ _ (sym c.is_err.ensures.value ∙ c.if-is_err.false) c.reserve.ensures.ok in
-    let pushed = pushed_there c.push.result _ _ _ c.solve-answer.new.log c.reserve.ensures.items c.push.ensures.items (c.push.ensures.succeeds room) in
     record {
-      searched = searched_less c.args.program.now (limits_of c.args.limits.now) _ _ c.solve-answer.new.log _ _ _ c.solve-answer.result c.in-Ok.ensures.less pushed c.solve-answer.ensures.solved c.solve-answer.ensures.kit;
+      searched = searched_less c.args.program.now (limits_of c.args.limits.now) _ _ c.solve-answer.new.log _ _ _ c.solve-answer.result c.in-Ok.ensures.less (pushed_there _ _ _ c.solve-answer.new.log c.reserve.ensures.items c.push_reserved.ensures.items) c.solve-answer.ensures.solved c.solve-answer.ensures.kit;
     }
 
 pub lessen-requires : goal.lessen-requires
