@@ -88,9 +88,7 @@ fn turn<R: Asks>(
             }
             Ok(said) => Ok(reached_by(&mut work.starts, found, said)),
         },
-        Reached::Empty => Ok(Some(Reached::Empty)),
-        Reached::Leaf => Ok(Some(Reached::Leaf)),
-        Reached::Place(found, split) => Ok(Some(Reached::Place(found, split))),
+        reached => Ok(Some(reached)),
     }
 }
 

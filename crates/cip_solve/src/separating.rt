@@ -105,14 +105,13 @@ fn cut_in_rounds<R: Asks>(
     ensures found { IfOk result (λ came. IsFoundBy came work.new.core node.new found.new) }
 {
     tell_now(alloc, &work.core, plugins, node, None, last_of(found))?;
-    let mut came = cut_once(alloc, work, plugins, node, found)?;
     for _ in 1..MOST_ROUNDS {
-        let Came::Accepted = came else {
-            break;
-        };
-        came = cut_once(alloc, work, plugins, node, found)?;
+        match cut_once(alloc, work, plugins, node, found)? {
+            Came::Accepted => {}
+            came => return Ok(came),
+        }
     }
-    Ok(came)
+    cut_once(alloc, work, plugins, node, found)
 }
 
 /// What rounds leave of a node, behind which its linear program found this.

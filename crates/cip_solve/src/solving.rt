@@ -12,13 +12,14 @@ ghost use Rattle.cip_solve.specs.Logs.{entries_of};
 ghost use Rattle.cip_solve.specs.Solved.{IsSolved, IsSolvedBy};
 ghost use Rattle.cip_solve.specs.SplitsServed.{splits_in, HasServed};
 
+use crate::asking::Asking;
 use crate::finish::search_from;
 use crate::kits::{end, is_bare};
 use crate::logs::Log;
-use crate::outsets::{Outset, begun_with, set_out};
+use crate::outsets::{ask, begun_with};
 use crate::reducing::reduced_for;
 use crate::works::{Alone, Works};
-use cip_calls::Presolved;
+use cip_calls::{Plugins, Presolved, Scratches};
 use cip_endings::{Answer, Ended};
 use cip_frac::Frac;
 use cip_model::Program;
@@ -27,7 +28,7 @@ use cip_plugin::{AnyPlugin, Kit, Tells};
 use std::alloc::Global;
 
 /// What a search may do.
-#[derive(Clone, Copy, PartialEq, Eq)]
+#[derive(Clone, Copy)]
 pub struct Options {
     /// The most nodes that it takes, at least 1.
     pub nodes: u64,
@@ -117,16 +118,26 @@ fn solve_with(
 {
     log.taken.clear();
     log.marks.clear();
-    match set_out(alloc, program, presolved, kit, options.trace) {
-        Err(_) => unsearched(program),
-        Ok(outset) => {
-            let Outset { begun, mut asking } = outset;
-            let answer = search_from(begun, presolved, &mut asking, alloc, options, log);
-            let trace = end(alloc, kit, &mut asking.plugins.roster, options.trace);
-            drop(asking);
-            Answer { trace, ..answer }
-        }
-    }
+    let Ok(scratches) = Scratches::new(alloc, &presolved.reduced) else {
+        return unsearched(program);
+    };
+    let Ok(begun) = begun_with(alloc, program, presolved) else {
+        drop(scratches);
+        return unsearched(program);
+    };
+    let Ok(roster) = ask(alloc, &begun.work.core, kit, options.trace) else {
+        drop(begun);
+        drop(scratches);
+        return unsearched(program);
+    };
+    let mut asking = Asking {
+        plugins: Plugins::new(alloc, scratches, roster),
+        is_refused: false,
+    };
+    let answer = search_from(begun, presolved, &mut asking, alloc, options, log);
+    let trace = end(alloc, kit, &mut asking.plugins.roster, options.trace);
+    drop(asking);
+    Answer { trace, ..answer }
 }
 
 /// Whether nobody is asked in a search: it is to go without plugins, or the kit has none.

@@ -13,48 +13,58 @@ use Rattle.cip_solve.proofs.BegunLaws.{unsearched_by}
 use Rattle.cip_solve.proofs.KitLaws.{room_there, kit_told}
 use Rattle.cip_solve.proofs.solving.solve_with.Goals as goal
 
-pub returns-in-Err-clause-solved : goal.returns-in-Err-clause-solved
-returns-in-Err-clause-solved g c =
+pub returns-in_default-clause-solved : goal.returns-in_default-clause-solved
+returns-in_default-clause-solved g c =
     unsearched_by c.args.program.now c.args.options.now.nodes c.args.options.now.gap c.args.options.now.presolve false _ _ _ (ap tree.entries_of c.clear.ensures.items) c.clear-2.ensures.items
     (c.unsearched.ensures.solved c.args.options.now.nodes c.args.options.now.gap)
 
+pub returns-in_default-begun_with-clause-solved : goal.returns-in_default-begun_with-clause-solved
+returns-in_default-begun_with-clause-solved g c =
+    unsearched_by c.args.program.now c.args.options.now.nodes c.args.options.now.gap c.args.options.now.presolve false _ _ _ (ap tree.entries_of c.clear.ensures.items) c.clear-2.ensures.items
+    (c.unsearched-in_default-begun_with.ensures.solved c.args.options.now.nodes c.args.options.now.gap)
+
+pub returns-in_default-ask-clause-solved : goal.returns-in_default-ask-clause-solved
+returns-in_default-ask-clause-solved g c =
+    unsearched_by c.args.program.now c.args.options.now.nodes c.args.options.now.gap c.args.options.now.presolve false _ _ _ (ap tree.entries_of c.clear.ensures.items) c.clear-2.ensures.items
+    (c.unsearched-in_default-ask.ensures.solved c.args.options.now.nodes c.args.options.now.gap)
+
 pub search_from-answer-requires-clause-root : goal.search_from-answer-requires-clause-root
-search_from-answer-requires-clause-root g c = c.in-Ok.ensures.start.root
+search_from-answer-requires-clause-root g c = c.in-Ok-begun_with.ensures.root
 
 pub search_from-answer-requires-clause-back : goal.search_from-answer-requires-clause-back
-search_from-answer-requires-clause-back g c = c.in-Ok.ensures.start.back
+search_from-answer-requires-clause-back g c = c.in-Ok-begun_with.ensures.back
 
 pub search_from-answer-requires-clause-point : goal.search_from-answer-requires-clause-point
-search_from-answer-requires-clause-point g c = c.in-Ok.ensures.start.point ∙ sym (ap columns c.in-Ok.ensures.start.program_is)
+search_from-answer-requires-clause-point g c = c.in-Ok-begun_with.ensures.point ∙ sym (ap columns c.in-Ok-begun_with.ensures.program_is)
 
 pub search_from-answer-requires-clause-ready : goal.search_from-answer-requires-clause-ready
 search_from-answer-requires-clause-ready g c = (
-  subst (λ (r : Program). HaveRoom c.in-Ok.outset.asking.plugins.scratches (columns r)) (sym c.in-Ok.ensures.start.back.reduced_is) c.in-Ok.ensures.ready.0,
-  c.in-Ok.ensures.ready.1,
+  subst (λ (r : Program). HaveRoom c.new-2.result.scratches (columns r)) (sym c.in-Ok-begun_with.ensures.back.reduced_is) (rw c.new-2.ensures.scratches c.in-Ok.ensures),
+  rw c.new-2.ensures.roster c.in-Ok-ask.ensures.sound,
 )
 
 pub end-trace-requires-clause-room : goal.end-trace-requires-clause-room
-end-trace-requires-clause-room g c = room_there _ _ _ _ _ c.in-Ok.ensures.room c.search_from-answer.ensures.asked.1
+end-trace-requires-clause-room g c = room_there _ _ _ _ _ (rw (sym c.new-2.ensures.roster) at c.in-Ok-ask.ensures.room) c.search_from-answer.ensures.asked.1
 
-pub returns-in-Ok-clause-solved : goal.returns-in-Ok-clause-solved
-returns-in-Ok-clause-solved g c =
+pub returns-clause-solved : goal.returns-clause-solved
+returns-clause-solved g c =
     let log = c.search_from-answer.new.log in
-    let of_program = c.in-Ok.ensures.start.program_is in
+    let of_program = c.in-Ok-begun_with.ensures.program_is in
     subst (λ (p : Program). IsSolvedBy p c.args.options.now.nodes c.args.options.now.gap c.args.options.now.presolve false (entries_of log) log.marks.items (answer_of c.search_from-answer.result))
     of_program (c.search_from-answer.ensures.solved c.args.options.now.presolve false (λ e. subst (λ (p : Program). IsUnchanged p c.args.presolved.now) (sym of_program) (c.requires.same e)) (λ e. absurd (true≢false (sym e))))
 
-pub returns-in-Ok-clause-nodes : goal.returns-in-Ok-clause-nodes
-returns-in-Ok-clause-nodes g c = c.search_from-answer.ensures.nodes
+pub returns-clause-nodes : goal.returns-clause-nodes
+returns-clause-nodes g c = c.search_from-answer.ensures.nodes
 
-pub returns-in-Ok-clause-first : goal.returns-in-Ok-clause-first
-returns-in-Ok-clause-first g c = subst (λ (p : Program). StopsFirst p c.args.options.now.gap (entries_of c.search_from-answer.new.log)) c.in-Ok.ensures.start.program_is c.search_from-answer.ensures.first
+pub returns-clause-first : goal.returns-clause-first
+returns-clause-first g c = subst (λ (p : Program). StopsFirst p c.args.options.now.gap (entries_of c.search_from-answer.new.log)) c.in-Ok-begun_with.ensures.program_is c.search_from-answer.ensures.first
 
-pub returns-in-Ok-clause-kit : goal.returns-in-Ok-clause-kit
-returns-in-Ok-clause-kit g c = kit_told _ _ _ _ _ _ refl (inl (record {
+pub returns-clause-kit : goal.returns-clause-kit
+returns-clause-kit g c = kit_told _ _ _ _ _ _ refl (inl (record {
   between = _;
   begun = _;
   left = _;
-  begins = c.in-Ok.ensures.begun;
+  begins = (rw (sym c.new-2.ensures.roster) at c.in-Ok-ask.ensures.begun);
   served = c.search_from-answer.ensures.asked.1;
   ends = c.end-trace.ensures.ended;
 }))
@@ -62,24 +72,35 @@ returns-in-Ok-clause-kit g c = kit_told _ _ _ _ _ _ refl (inl (record {
 pub end-trace-requires-clause-sound : goal.end-trace-requires-clause-sound
 end-trace-requires-clause-sound g c = c.search_from-answer.ensures.asked.0.1
 
-pub returns-in-Err-clause-first : goal.returns-in-Err-clause-first
-returns-in-Err-clause-first g c =
+pub returns-in_default-clause-first : goal.returns-in_default-clause-first
+returns-in_default-clause-first g c =
     subst (StopsFirst c.args.program.now c.args.options.now.gap) (sym (ap tree.entries_of c.clear.ensures.items)) (c.unsearched.ensures.first c.args.options.now.gap)
 
-pub returns-in-Err-clause-kit : goal.returns-in-Err-clause-kit
-returns-in-Err-clause-kit g c = grind (arith, common_steps)
+pub returns-in_default-begun_with-clause-first : goal.returns-in_default-begun_with-clause-first
+returns-in_default-begun_with-clause-first g c =
+    subst (StopsFirst c.args.program.now c.args.options.now.gap) (sym (ap tree.entries_of c.clear.ensures.items)) (c.unsearched-in_default-begun_with.ensures.first c.args.options.now.gap)
 
-pub returns-in-Err-clause-nodes : goal.returns-in-Err-clause-nodes
-returns-in-Err-clause-nodes g c = c.unsearched.ensures.nodes ∙ sym (ap length (ap tree.entries_of c.clear.ensures.items))
+pub returns-in_default-ask-clause-first : goal.returns-in_default-ask-clause-first
+returns-in_default-ask-clause-first g c =
+    subst (StopsFirst c.args.program.now c.args.options.now.gap) (sym (ap tree.entries_of c.clear.ensures.items)) (c.unsearched-in_default-ask.ensures.first c.args.options.now.gap)
+
+pub returns-in_default-clause-nodes : goal.returns-in_default-clause-nodes
+returns-in_default-clause-nodes g c = c.unsearched.ensures.nodes ∙ sym (ap length (ap tree.entries_of c.clear.ensures.items))
+
+pub returns-in_default-begun_with-clause-nodes : goal.returns-in_default-begun_with-clause-nodes
+returns-in_default-begun_with-clause-nodes g c = c.unsearched-in_default-begun_with.ensures.nodes ∙ sym (ap length (ap tree.entries_of c.clear.ensures.items))
+
+pub returns-in_default-ask-clause-nodes : goal.returns-in_default-ask-clause-nodes
+returns-in_default-ask-clause-nodes g c = c.unsearched-in_default-ask.ensures.nodes ∙ sym (ap length (ap tree.entries_of c.clear.ensures.items))
 
 pub search_from-answer-requires-clause-some : goal.search_from-answer-requires-clause-some
 search_from-answer-requires-clause-some g c = omega arith
 
-pub set_out-requires-clause-back : goal.set_out-requires-clause-back
-set_out-requires-clause-back g c = grind (arith, common_steps)
+pub returns-in_default-clause-kit : goal.returns-in_default-clause-kit
+returns-in_default-clause-kit g c = grind (arith, common_steps)
 
-pub set_out-requires-clause-few : goal.set_out-requires-clause-few
-set_out-requires-clause-few g c = omega arith
+pub returns-in_default-begun_with-clause-kit : goal.returns-in_default-begun_with-clause-kit
+returns-in_default-begun_with-clause-kit g c = grind (arith, common_steps)
 
-pub set_out-requires-clause-near : goal.set_out-requires-clause-near
-set_out-requires-clause-near g c = grind (arith, common_steps)
+pub returns-in_default-ask-clause-kit : goal.returns-in_default-ask-clause-kit
+returns-in_default-ask-clause-kit g c = grind (arith, common_steps)
