@@ -68,7 +68,6 @@ pub fn run<S: Store, K: Sink>(
     match read_task(alloc, words, kit.start.as_slice(), store) {
         Ok(Task::Solve { program, limits }) => {
             let status = solve_and_report(alloc, &program, &limits, kit, out, logs);
-            drop(limits);
             drop(program);
             status
         }

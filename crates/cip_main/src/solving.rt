@@ -120,9 +120,7 @@ pub fn solve_and_report<K: Sink>(
         (stock_of ⟦<AnyPlugin as Tells>⟧.who kit.new) result }
 {
     let answer = search(alloc, program, limits, kit, logs);
-    let status = tell(program, &answer, out);
-    drop(answer);
-    status
+    tell(program, &answer, out)
 }
 
 /// Solves a program that is drawn, with the usual limits and without a trace, and writes what is told of it and of what
@@ -151,8 +149,5 @@ pub fn solve_drawn<K: Sink>(
         trace: false,
     };
     let answer = search(alloc, program, &limits, kit, logs);
-    let status = tell_drawn(drawn, program, &answer, out);
-    drop(answer);
-    drop(limits);
-    status
+    tell_drawn(drawn, program, &answer, out)
 }
