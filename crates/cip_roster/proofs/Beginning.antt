@@ -210,17 +210,9 @@ shelf_places {P = P} who ps before after none is =
     ∙ shelf_shown who ps
 
 -- and how much
-pub shelf_count : {P : Type 0} (who : P → Who) (ps : List P) (before after : List (Option P)) → before ≡ []
-    → after ≡ before ++ map (λ p. Some p) ps → held_count (map (shown who) after) ≡ length ps
-shelf_count who ps before after none is =
-    ap held_count (shelf_places who ps before after none is) ∙ held_shown (map who ps) ∙ length-map ps who
-
--- as the shelf stays
-pub shelf_kept : {P : Type 0} (who : P → Who) (ps : List P) (before after : List (Option P)) (places : List (Option
-    Who))
-    → places ≡ map (shown who) after → before ≡ [] → after ≡ before ++ map (λ p. Some p) ps
-    → held_count places ≡ length ps
-shelf_kept who ps before after places same none is = ap held_count same ∙ shelf_count who ps before after none is
+pub shelf_held : {P : Type 0} (who : P → Who) (ps : List P) (places : List (Option Who))
+    → places ≡ map (λ w. Some w) (map who ps) → held_count places ≡ length ps
+shelf_held who ps places is = ap held_count is ∙ held_shown (map who ps) ∙ length-map ps who
 
 -- a roster has begun
 pub begun_with_all : (start shelf : List Who) (keeps : Bool) (a b c : State) → AreSeated start b.seats

@@ -110,43 +110,51 @@ fn make_room<S: Drop, P: Drop>(
 }
 
 impl Roster {
-    /// A roster without plugins, with room for those of a kit and for their first and last lines.
-    fn empty(alloc: Global, start: usize, shelf: usize, kept: bool) -> Result<Roster, AllocError>
+    /// A roster where no plugin is included, those of a shelf stand on its own, and there is room for so many to come
+    /// and for their first and last lines. Where it is refused, the shelf has its plugins.
+    fn empty(
+        alloc: Global,
+        start: usize,
+        shelf: &mut Vec<AnyPlugin>,
+        kept: bool,
+    ) -> Result<Roster, AllocError>
         requires { start < 2 ^ 32 }
         ensures seats { IfOk result (λ roster. (⟦<Roster as Seated>⟧.state roster).seats ≡ []) }
-        ensures places { IfOk result (λ roster. (⟦<Roster as Seated>⟧.state roster).places ≡ []) }
+        ensures places { IfOk result (λ roster. (⟦<Roster as Seated>⟧.state roster).places
+            ≡ map (λ who. Some who) (map ⟦<AnyPlugin as Tells>⟧.who shelf.old.items)) }
         ensures unnamed { IfOk result (λ roster. (⟦<Roster as Seated>⟧.state roster).names ≡ []) }
         ensures lines { IfOk result (λ roster. (⟦<Roster as Seated>⟧.state roster).lines ≡ []) }
         ensures kept { IfOk result (λ roster. (⟦<Roster as Seated>⟧.state roster).kept ≡ kept) }
         ensures spare { IfOk result (λ roster. start ≤ ⟦<Roster as Seats<AnyPlugin>>⟧.spare roster) }
-        ensures shelf { IfOk result (λ roster. vec_len roster.shelf + shelf ≤ vec_capacity roster.shelf) }
-        ensures bare { IfOk result (λ roster. roster.shelf.items ≡ []) }
         ensures room { IfOk result (λ roster. 6 * start ≤ (⟦<Roster as Seated>⟧.room roster).lines) }
         ensures unranked { IfOk result (λ roster. (⟦<Roster as Seated>⟧.room roster).rankings ≡ no_rankings) }
+        ensures none { OnOk result (shelf.new.items ≡ []) }
+        ensures err { OnErr result (shelf.new.items ≡ shelf.old.items) }
     {
         let mut slots = Vec::new(alloc);
         let mut places = Vec::new(alloc);
         let mut names = Vec::new(alloc);
         let mut lines = Vec::new(alloc);
-        match make_room(
+        let Ok(()) = make_room(
             &mut slots,
             &mut places,
             &mut names,
             &mut lines,
             start,
-            shelf,
-        ) {
-            Ok(()) => Ok(Roster {
-                slots,
-                shelf: places,
-                names,
-                kept,
-                lines,
-                rankings: Rankings::none(),
-                boxes: PhantomData,
-            }),
-            Err(_) => Err(AllocError),
-        }
+            shelf.len(),
+        ) else {
+            return Err(AllocError);
+        };
+        shelve(shelf, &mut places);
+        Ok(Roster {
+            slots,
+            shelf: places,
+            names,
+            kept,
+            lines,
+            rankings: Rankings::none(),
+            boxes: PhantomData,
+        })
     }
 
     /// Moves the plugins of a kit in: those of its start are included, in their order, and set up. All room is taken
@@ -173,14 +181,12 @@ impl Roster {
             × (kit.new.shelf.items ≡ kit.old.shelf.items)) }
     {
         let start = kit.start.len();
-        let shelf = kit.shelf.len();
-        let Ok(()) = kit.spent.reserve(start + shelf) else {
+        let Ok(()) = kit.spent.reserve(start + kit.shelf.len()) else {
             return Err(AllocError);
         };
-        let Ok(mut roster) = Roster::empty(alloc, start, shelf, kept) else {
+        let Ok(mut roster) = Roster::empty(alloc, start, &mut kit.shelf, kept) else {
             return Err(AllocError);
         };
-        shelve(&mut kit.shelf, &mut roster.shelf);
         admit(&mut roster, alloc, &mut kit.start, view);
         Ok(roster)
     }

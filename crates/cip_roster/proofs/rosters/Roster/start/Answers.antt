@@ -1,21 +1,18 @@
 use Rattle.std.proofs.lemmas.Grind.{common_steps}
 use Rattle.std.proofs.Common.{◌∙◌, arith, refl}
-use Rattle.cip_roster.proofs.Beginning.{begun_kept, same_most, same_room, shelf_kept, shelf_places}
+use Rattle.cip_roster.proofs.Beginning.{begun_kept, same_most, same_room, shelf_held}
 use Rattle.cip_roster.proofs.rosters.Roster.start.Goals as goal
 
 pub returns-clause-begun : goal.returns-clause-begun
 returns-clause-begun g c =
-    begun_kept _ _ _ _ _ c.in-Ok-empty.ensures.kept
-    (c.admit.ensures.begun _ (shelf_places _ c.args.kit.now.shelf.items c.in-Ok-empty.roster.shelf.items
-    c.shelve.new.shelf.items c.in-Ok-empty.ensures.bare c.shelve.ensures.moved))
+    begun_kept _ _ _ _ _ c.in-Ok-empty.ensures.kept (c.admit.ensures.begun _ c.in-Ok-empty.ensures.places)
 
 pub returns-clause-plugins : goal.returns-clause-plugins
 returns-clause-plugins g c =
     omega (
       arith,
       c.admit.ensures.seats,
-      shelf_kept _ c.args.kit.now.shelf.items c.in-Ok-empty.roster.shelf.items c.shelve.new.shelf.items _
-          c.admit.ensures.places c.in-Ok-empty.ensures.bare c.shelve.ensures.moved,
+      shelf_held _ c.args.kit.now.shelf.items _ (c.admit.ensures.places ∙ c.in-Ok-empty.ensures.places),
     )
 
 pub admit-requires-clause-spare : goal.admit-requires-clause-spare
@@ -42,7 +39,7 @@ pub returns-clause-sound : goal.returns-clause-sound
 returns-clause-sound g c = c.admit.ensures.sound
 
 pub returns-clause-moved : goal.returns-clause-moved
-returns-clause-moved g c = (c.admit.ensures.none, c.shelve.ensures.none)
+returns-clause-moved g c = (c.admit.ensures.none, c.in-Ok-empty.ensures.none)
 
 pub returns-clause-spent : goal.returns-clause-spent
 returns-clause-spent g c = c.reserve.ensures.items
@@ -87,7 +84,7 @@ pub returns-in_default-empty-clause-spent : goal.returns-in_default-empty-clause
 returns-in_default-empty-clause-spent g c = c.reserve.ensures.items
 
 pub returns-in_default-empty-clause-err : goal.returns-in_default-empty-clause-err
-returns-in_default-empty-clause-err g c = (refl, refl)
+returns-in_default-empty-clause-err g c = (refl, c.in_default-empty.ensures.err)
 
 pub returns-clause-err : goal.returns-clause-err
 returns-clause-err g c = tt
@@ -98,11 +95,13 @@ empty-requires g c = omega arith
 pub overflow_add-start : goal.overflow_add-start
 overflow_add-start g c = omega arith
 
-pub shelve-requires : goal.shelve-requires
-shelve-requires g c = grind (arith, common_steps)
-
 pub admit-requires-clause-numbers : goal.admit-requires-clause-numbers
-admit-requires-clause-numbers g c = grind (arith, common_steps)
+admit-requires-clause-numbers g c =
+    omega (
+      arith,
+      c.requires,
+      shelf_held _ c.args.kit.now.shelf.items _ c.in-Ok-empty.ensures.places,
+    )
 
 pub returns-clause-room : goal.returns-clause-room
 returns-clause-room g c = grind (arith, common_steps)
