@@ -59,6 +59,14 @@ sat_there seat How xs id x y s bs at read is how = record {
   how = how;
 }
 
+-- what a step does at a seat, where other seats were read of it that are the same
+pub sat_behind : {A : Type 0} (seat : A → Seat) (How : Seat → Seat → Type 0) (ws xs : List A) (id : ℕ) (x y : A)
+    (s : Seat) (bs : List Seat) → map seat xs ≡ map seat ws → slice_get (map seat ws) id ≡ Some s → x ≡ get_or xs id x
+    → bs ≡ map seat (set xs id y) → How (seat x) (seat y) → Sat id How (map seat ws) bs
+sat_behind seat How ws xs id x y s bs same at read is how =
+    subst (λ (before : List Seat). Sat id How before bs) same
+    (sat_there seat How xs id x y s bs (ap (λ (seats : List Seat). slice_get seats id) same ∙ at) read is how)
+
 -- how it stands there now
 pub stands_there : {A : Type 0} (seat : A → Seat) (xs : List A) (id : ℕ) (y : A) (s : Seat) (b : State) (stage : Stage)
     → slice_get (map seat xs) id ≡ Some s → b.seats ≡ map seat (set xs id y) → (seat y).standing.stage ≡ stage

@@ -156,10 +156,8 @@ impl Steps for Roster {
         question: Question<'_>,
         view: &View<'_>,
     ) -> Result<Given, AllocError> {
-        let word = word_for(&question);
-        let given = self.slots[id as usize].plugin.ask(alloc, question, view);
-        self.note(id, word);
-        given
+        self.note(id, word_for(&question));
+        self.slots[id as usize].plugin.ask(alloc, question, view)
     }
 
     fn switch(&mut self, id: u32, on: bool) {
