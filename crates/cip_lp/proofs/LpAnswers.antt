@@ -32,10 +32,6 @@ pub after_is : (number : ℕ) (kind : Option ℕ) (stage : Stage LpContext) → 
 after_is number None stage = refl
 after_is number (Some kind) stage = refl
 
-pub failed_same : (f : Option KnownFault) (stage other : Stage LpContext) → is_some f ≡ true → progress_of f stage ≡ progress_of f other
-failed_same None stage other some = absurd (cc)
-failed_same (Some f) stage other some = refl
-
 abbrev pub bytes_with : Stage LpContext → (ended : ℕ) → (front : Bool) → (rest : List ℕ) → (size : ℕ) → LpBytes
 bytes_with stage ended front rest size = record { stage = stage; ended = ended; front = front; rest = rest; size = size }
 

@@ -54,7 +54,7 @@ Implies box row at whole sides =
     → (whole ≡ true → IsWhole (value_at point (column_at row.terms at)))
     → Between sides.low sides.high (value_at point (column_at row.terms at))
 
-pub implied_by : (box : List Sides) (row made : Row) (at : ℕ) (whole : Bool) (above below low high : Option ℚ) (term : Term) (sides : Sides) → slice_get row.terms at ≡ Some term → ¬ (term.coefficient ≡ zeroℚ) → IfSome above (IsRestAbove box row.terms at) → IfSome below (IsRestBelow box row.terms at) → IfSome low (IsDifference row.low above) → IfSome high (IsDifference row.high below) → made.low ≡ low → made.high ≡ high → sides ≡ single_sides whole made term → Implies box row at whole sides
+pub implied_by : (box : List Sides) (row made : Row) (at : ℕ) (whole : Bool) (above below low high : Option ℚ) (term : Term) (sides : Sides) → slice_get row.terms at ≡ Some term → ¬ (term.coefficient ≡ zeroℚ) → IfSome above (IsRestAbove box row.terms at) → IfSome below (IsRestBelow box row.terms at) → IfSome low (IsDifference row.low above) → IfSome high (IsDifference row.high below) → made.low ≡ low → made.high ≡ high → sides ≡ single_sides whole term.coefficient made.low made.high → Implies box row at whole sides
 implied_by box row made at whole above below low high term sides g nonzero ra rb dl dh el eh e x w h whole_if =
     let t : slice_index_or row.terms at no_term ≡ term = term_at_is row.terms at term g in
     let c : column_at row.terms at ≡ term.column = ap (λ (u : Term). u.column) t in
@@ -64,11 +64,11 @@ implied_by box row made at whole above below low high term sides g nonzero ra rb
       below = subst (λ o. IfSome o (λ side. term.coefficient *ℚ value_at x term.column ≤ℚ side)) (sym eh) (subst (λ p. IfSome high (λ side. p ≤ℚ side)) q (high_product box row at below high x rb dh w h));
     } in
     let value : Between (divided_sides term.coefficient made.low made.high).low (divided_sides term.coefficient made.low made.high).high (value_at x term.column) = divided term.coefficient (value_at x term.column) made.low made.high nonzero between in
-    let inward : Between (single_sides whole made term).low (single_sides whole made term).high (value_at x term.column) = inward_onward whole (divided_sides term.coefficient made.low made.high) (value_at x term.column) (λ o. subst (λ n. IsWhole (value_at x n)) c (whole_if o)) value in
+    let inward : Between (single_sides whole term.coefficient made.low made.high).low (single_sides whole term.coefficient made.low made.high).high (value_at x term.column) = inward_onward whole (divided_sides term.coefficient made.low made.high) (value_at x term.column) (λ o. subst (λ n. IsWhole (value_at x n)) c (whole_if o)) value in
     subst (λ n. Between sides.low sides.high (value_at x n)) (sym c) (subst (λ (s : Sides). Between s.low s.high (value_at x term.column)) (sym e) inward)
 
 -- so it is for each box
-pub implied_all : (row made : Row) (at : ℕ) (whole : Bool) (rests : Sides) (low high : Option ℚ) (term : Term) (found : Option Sides) → slice_get row.terms at ≡ Some term → ¬ (term.coefficient ≡ zeroℚ) → IfSome low (IsDifference row.low rests.high) → IfSome high (IsDifference row.high rests.low) → made ≡ record { terms = []; low = low; high = high } → IfSome found (λ sides. sides ≡ single_sides whole made term) → IfSome found (λ sides. (box : List Sides) → AreRests box row.terms at rests → Implies box row at whole sides)
+pub implied_all : (row made : Row) (at : ℕ) (whole : Bool) (rests : Sides) (low high : Option ℚ) (term : Term) (found : Option Sides) → slice_get row.terms at ≡ Some term → ¬ (term.coefficient ≡ zeroℚ) → IfSome low (IsDifference row.low rests.high) → IfSome high (IsDifference row.high rests.low) → made ≡ record { terms = []; low = low; high = high } → IfSome found (λ sides. sides ≡ single_sides whole term.coefficient made.low made.high) → IfSome found (λ sides. (box : List Sides) → AreRests box row.terms at rests → Implies box row at whole sides)
 implied_all row made at whole rests low high term None g nonzero dl dh m e = tt
 implied_all row made at whole rests low high term (Some sides) g nonzero dl dh m e = λ box r.
     implied_by box row made at whole rests.high rests.low low high term sides g nonzero r.above r.below dl dh (ap (λ (r : Row). r.low) m) (ap (λ (r : Row). r.high) m) e

@@ -66,7 +66,7 @@ inward_back false sides v h = h
 one_activity : (term : Term) (x : List ℚ) → activity (term ∷ []) x ≡ term.coefficient *ℚ value_at x term.column
 one_activity term x = +ℚ-zero _
 
-module _ (program : Program) (number : ℕ) (row : Row) (term : Term) (whole : Bool) (sides : Sides) (found : slice_get program.rows number ≡ Some row) (one : HasOneTerm row term) (nonzero : ¬ (term.coefficient ≡ zeroℚ)) (inside : term.column < length program.bounds) (is_whole : slice_get program.integral term.column ≡ Some whole) (are : sides ≡ met (sides_at program.bounds term.column) (single_sides whole row term)) where
+module _ (program : Program) (number : ℕ) (row : Row) (term : Term) (whole : Bool) (sides : Sides) (found : slice_get program.rows number ≡ Some row) (one : HasOneTerm row term) (nonzero : ¬ (term.coefficient ≡ zeroℚ)) (inside : term.column < length program.bounds) (is_whole : slice_get program.integral term.column ≡ Some whole) (are : sides ≡ met (sides_at program.bounds term.column) (single_sides whole term.coefficient row.low row.high)) where
   product_between : (x : List ℚ) → IsSatisfied row x → Between row.low row.high (term.coefficient *ℚ value_at x term.column)
   product_between x h = subst (λ q. Between row.low row.high q) (ap (λ (ts : List Term). activity ts x) one ∙ one_activity term x) h
 
@@ -76,14 +76,14 @@ module _ (program : Program) (number : ℕ) (row : Row) (term : Term) (whole : B
   met_between : (y : List ℚ) → IsFeasible program y → Between sides.low sides.high (value_at y term.column)
   met_between y h =
       subst (λ (s : Sides). Between s.low s.high (value_at y term.column)) (sym are)
-      (between_met (sides_at program.bounds term.column) (single_sides whole row term) (value_at y term.column)
+      (between_met (sides_at program.bounds term.column) (single_sides whole term.coefficient row.low row.high) (value_at y term.column)
       (in_box_at program.bounds y term.column h.within)
       (inward_onward whole (divided_sides term.coefficient row.low row.high) (value_at y term.column) (whole_if y h)
       (divided term.coefficient (value_at y term.column) row.low row.high nonzero (product_between y (satisfied_at program.rows y number row h.rows found)))))
 
   row_back : (x : List ℚ) → Between sides.low sides.high (value_at x term.column) → IsSatisfied row x
   row_back x h =
-      let both = between_both (sides_at program.bounds term.column) (single_sides whole row term) (value_at x term.column) (subst (λ (s : Sides). Between s.low s.high (value_at x term.column)) are h) in
+      let both = between_both (sides_at program.bounds term.column) (single_sides whole term.coefficient row.low row.high) (value_at x term.column) (subst (λ (s : Sides). Between s.low s.high (value_at x term.column)) are h) in
       subst (λ q. Between row.low row.high q) (sym (ap (λ (ts : List Term). activity ts x) one ∙ one_activity term x))
       (multiplied term.coefficient (value_at x term.column) row.low row.high nonzero
       (inward_back whole (divided_sides term.coefficient row.low row.high) (value_at x term.column) both.1))
@@ -91,7 +91,7 @@ module _ (program : Program) (number : ℕ) (row : Row) (term : Term) (whole : B
   single_step : IsExactStep program (with_row (with_sides program term.column sides) number no_row)
   single_step =
       single_taken program number row term.column sides found inside
-      (subst (λ s. sides_inside s (sides_at program.bounds term.column) ≡ true) (sym are) (met_inside (sides_at program.bounds term.column) (single_sides whole row term)))
+      (subst (λ s. sides_inside s (sides_at program.bounds term.column) ≡ true) (sym are) (met_inside (sides_at program.bounds term.column) (single_sides whole term.coefficient row.low row.high)))
       met_between row_back
 
   no_value : is_past sides.low sides.high ≡ true → IsInfeasible program

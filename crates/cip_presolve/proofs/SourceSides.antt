@@ -26,7 +26,7 @@ use Rattle.cip_presolve.proofs.FormsSubstituted.{value_given}
 less_of : (c f v s : ℚ) → v ≡ c +ℚ f *ℚ s → v -ℚ c ≡ f *ℚ s
 less_of c f v s e = linear_same (c ∷ v ∷ (f *ℚ s) ∷ []) (λ t w. omega (arith, t.same_out))
 
-module _ (program : Program) (place column : ℕ) (form : Form) (row : Row) (term : Term) (whole : Bool) (sides : Sides) (there : place < length program.rows) (gives : RowGives program place column form) (s : IsSubstitute program column form) (nonzero : ¬ (form.factor ≡ zeroℚ)) (low : row.low ≡ side_less (sides_at program.bounds column).low form.constant) (high : row.high ≡ side_less (sides_at program.bounds column).high form.constant) (tc : term.column ≡ form.source) (tq : term.coefficient ≡ form.factor) (is_whole : slice_get program.integral form.source ≡ Some whole) (are : sides ≡ met (sides_at program.bounds form.source) (single_sides whole row term)) where
+module _ (program : Program) (place column : ℕ) (form : Form) (row : Row) (term : Term) (whole : Bool) (sides : Sides) (there : place < length program.rows) (gives : RowGives program place column form) (s : IsSubstitute program column form) (nonzero : ¬ (form.factor ≡ zeroℚ)) (low : row.low ≡ side_less (sides_at program.bounds column).low form.constant) (high : row.high ≡ side_less (sides_at program.bounds column).high form.constant) (tc : term.column ≡ form.source) (tq : term.coefficient ≡ form.factor) (is_whole : slice_get program.integral form.source ≡ Some whole) (are : sides ≡ met (sides_at program.bounds form.source) (single_sides whole term.coefficient row.low row.high)) where
   product_between : (y : List ℚ) → IsFeasible program y → Between row.low row.high (term.coefficient *ℚ value_at y form.source)
   product_between y h =
       let b = in_box_at program.bounds y column h.within in
@@ -42,7 +42,7 @@ module _ (program : Program) (place column : ℕ) (form : Form) (row : Row) (ter
   met_between : (y : List ℚ) → IsFeasible program y → Between sides.low sides.high (value_at y form.source)
   met_between y h =
       subst (λ (t : Sides). Between t.low t.high (value_at y form.source)) (sym are)
-      (between_met (sides_at program.bounds form.source) (single_sides whole row term) (value_at y form.source)
+      (between_met (sides_at program.bounds form.source) (single_sides whole term.coefficient row.low row.high) (value_at y form.source)
       (in_box_at program.bounds y form.source h.within)
       (inward_onward whole _ (value_at y form.source) (whole_if y h)
       (divided term.coefficient (value_at y form.source) row.low row.high (λ e. nonzero (sym tq ∙ e)) (product_between y h))))
@@ -51,7 +51,7 @@ module _ (program : Program) (place column : ℕ) (form : Form) (row : Row) (ter
   source_implied = record {
     inside = s.source;
     plain = s.source_plain;
-    step = sides_replaced program form.source sides (subst (λ t. sides_inside t (sides_at program.bounds form.source) ≡ true) (sym are) (met_inside (sides_at program.bounds form.source) (single_sides whole row term))) met_between;
+    step = sides_replaced program form.source sides (subst (λ t. sides_inside t (sides_at program.bounds form.source) ≡ true) (sym are) (met_inside (sides_at program.bounds form.source) (single_sides whole term.coefficient row.low row.high))) met_between;
     none = λ p y h. let b = met_between y h in past_below sides.low sides.high (value_at y form.source) p b.above b.below;
   }
 

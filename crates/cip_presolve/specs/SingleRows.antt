@@ -1,5 +1,6 @@
 -- Rows with one term, and what they say of its column.
-use Rattle.std.specs.Prelude.{◌≡◌, Bool, [], ◌∷◌, if◌then◌else◌}
+use Rattle.std.specs.Prelude.{◌≡◌, Bool, [], ◌∷◌, Option, if◌then◌else◌}
+use Rattle.cip_rational.specs.Rational.{ℚ}
 use Rattle.cip_problem.specs.Program.{Term, Sides, Row}
 use Rattle.cip_search.specs.Cuts.{rounded_sides}
 use Rattle.cip_search.specs.RowSteps.{divided_sides}
@@ -12,6 +13,6 @@ HasOneTerm row term = row.terms ≡ term ∷ []
 abbrev pub inward_if : Bool → Sides → Sides
 inward_if whole sides = if whole then rounded_sides sides else sides
 
--- the sides that a row of one term leaves its column
-abbrev pub single_sides : Bool → Row → Term → Sides
-single_sides whole row term = inward_if whole (divided_sides term.coefficient row.low row.high)
+-- the sides of a value whose product with a number other than 0 lies between two sides
+abbrev pub single_sides : Bool → ℚ → Option ℚ → Option ℚ → Sides
+single_sides whole coefficient low high = inward_if whole (divided_sides coefficient low high)

@@ -3,7 +3,7 @@ ghost use Rattle.std.specs.Prelude.{◌≡◌, true, IfSome};
 ghost use Rattle.cip_rational.specs.Rational.{zeroℚ};
 ghost use Rattle.cip_search.specs.Aggregate.{quotient_of};
 ghost use Rattle.cip_search.specs.RowSteps.{divided_sides};
-ghost use Rattle.cip_presolve.specs.SingleRows.{HasOneTerm, inward_if};
+ghost use Rattle.cip_presolve.specs.SingleRows.{HasOneTerm, inward_if, single_sides};
 
 use cip_lin::{Frac, Row, Sides, Term};
 
@@ -71,7 +71,7 @@ pub fn one_term(row: &Row) -> Option<Term>
 /// is whole; `None` where a number isn't in range.
 pub fn single_sides(coef: Frac, low: Option<Frac>, high: Option<Frac>, whole: bool) -> Option<Sides>
     requires { ¬ (coef ≡ zeroℚ) }
-    ensures { IfSome result (λ sides. sides ≡ inward_if whole (divided_sides coef low high)) }
+    ensures { IfSome result (λ sides. sides ≡ single_sides whole coef low high) }
 {
     let sides = match divided(coef, low, high) {
         Some(sides) => sides,

@@ -24,7 +24,7 @@ returns c =
     let whole : slice_get c.args.draft.now.integral c.args.form.now.source ≡ Some c.is_whole-whole.result = subst (λ n. slice_get c.args.draft.now.integral n ≡ Some c.is_whole-whole.result) source c.is_whole-whole.ensures in
     let other : c.sides.result ≡ sides_at c.args.draft.now.bounds c.args.form.now.source =
     c.sides.ensures ∙ ap (λ (box : List Sides). sides_at box c.form.inside.source) c.bounds-2.ensures.bounds ∙ ap (λ n. sides_at c.args.draft.now.bounds n) source in
-    let are : c.met.result ≡ met (sides_at c.args.draft.now.bounds c.args.form.now.source) (single_sides c.is_whole-whole.result row term) =
+    let are : c.met.result ≡ met (sides_at c.args.draft.now.bounds c.args.form.now.source) (single_sides c.is_whole-whole.result term.coefficient row.low row.high) =
     c.met.ensures ∙ ap (λ s. met s c.in-Some-single_sides.implied) other ∙ ap (λ s. met (sides_at c.args.draft.now.bounds c.args.form.now.source) s) c.in-Some-single_sides.ensures in
     source_implied c.args.draft.now c.args.place c.args.column c.args.form.now row term c.is_whole-whole.result c.met.result c.requires.there c.requires.gives c.requires.substitute
     (λ e. true≢false (sym (c.is_zero.ensures.1 (factor ∙ e)) ∙ c.if-is_zero.false)) low high source factor whole are

@@ -16,11 +16,11 @@ returns c =
     let plain : is_open (choice_at c.args.self.now.choices c.in-Some.term.column) ≡ false = subst (λ n. is_open (choice_at c.args.self.now.choices n) ≡ false) column (sym c.is_semi.ensures ∙ c.if-is_semi.false) in
     let own : c.sides.result ≡ sides_at c.args.self.now.bounds c.in-Some.term.column = c.sides.ensures ∙ ap (λ (box : List Sides). sides_at box c.term.inside.col) c.bounds.ensures.bounds ∙ ap (λ n. sides_at c.args.self.now.bounds n) column in
     let coefficient : c.term.inside.coef ≡ c.in-Some.term.coefficient = ap (λ (t : Term). t.coefficient) c.term.view_is in
-    let single : c.in-Some-single_sides.single ≡ single_sides c.is_whole.result c.row-row.result.now c.in-Some.term =
+    let single : c.in-Some-single_sides.single ≡ single_sides c.is_whole.result c.in-Some.term.coefficient c.row-row.result.now.low c.row-row.result.now.high =
     c.in-Some-single_sides.ensures ∙ ap (λ q. inward_if c.is_whole.result (divided_sides q c.low.result c.high.result)) coefficient
     ∙ ap (λ side. inward_if c.is_whole.result (divided_sides c.in-Some.term.coefficient side c.high.result)) c.low.ensures
     ∙ ap (λ side. inward_if c.is_whole.result (divided_sides c.in-Some.term.coefficient c.row-row.result.now.low side)) c.high.ensures in
-    let are : c.met.result ≡ met (sides_at c.args.self.now.bounds c.in-Some.term.column) (single_sides c.is_whole.result c.row-row.result.now c.in-Some.term) =
+    let are : c.met.result ≡ met (sides_at c.args.self.now.bounds c.in-Some.term.column) (single_sides c.is_whole.result c.in-Some.term.coefficient c.row-row.result.now.low c.row-row.result.now.high) =
     c.met.ensures ∙ ap (λ s. met s c.in-Some-single_sides.single) own ∙ ap (λ s. met (sides_at c.args.self.now.bounds c.in-Some.term.column) s) single in
     subst (λ n. IsSingled c.args.self.now c.args.number n c.met.result) (sym column)
     (singled c.args.self.now c.args.number c.row-row.result.now c.in-Some.term c.is_whole.result c.met.result c.row-row.ensures.row c.in-Some.ensures.0 c.in-Some.ensures.1
